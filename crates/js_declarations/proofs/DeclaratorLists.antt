@@ -37,7 +37,7 @@ use Rattle.js_parsing.proofs.Moving.{same_both, same_itself, standing, stops_beh
 use Rattle.js_parsing.proofs.Nesting.{later_room, nested_room}
 use Rattle.js_parsing.proofs.Paths.{not_here, skips, walked_both, walked_one}
 use Rattle.js_parsing.proofs.Signs.{other_kind, plain_sign}
-use Rattle.js_parsing.proofs.Tight.{read_plain}
+use Rattle.js_parsing.proofs.Escapes.{read_plain}
 use Rattle.js_parsing.proofs.Verdicts.{and_then, either_way}
 use Rattle.js_parsing.proofs.Verdicts.{after as grown_behind}
 
@@ -115,7 +115,7 @@ comma_goes : {text : List ℕ} {f : Flags} (c : Bool) {p q : Parser} → At text
 comma_goes c a k m = skips a Comma k (plain_sign Comma a k refl refl comma_word) refl m
 
 commas_here : {text : List ℕ} {f : Flags} {q : Parser} → At text f q → q.token.kind ≡ Comma → (y : Lexeme) → Lex text q.prev_token_end y → IsTrue (seen (is Comma) y)
-commas_here a k y l = and_from _ _ (subst (λ (v : Kind). same_kind Comma v ≡ true) (sym (kind_here a k refl y l)) refl) (ap not (read_plain y l.1))
+commas_here a k y l = and_from _ _ (subst (λ (v : Kind). same_kind Comma v ≡ true) (sym (kind_here a k refl y l)) refl) (ap not (read_plain y l.1 (kind_here a k refl y l) refl))
 
 no_comma_here : {text : List ℕ} {f : Flags} {q : Parser} → At text f q → (q.token.kind ≡ Comma → ⊥) → (y : Lexeme) → Lex text q.prev_token_end y → IsTrue (seen (is Comma) y) → ⊥
 unfolding apart

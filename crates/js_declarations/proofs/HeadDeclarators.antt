@@ -3,7 +3,7 @@ use Rattle.std.proofs.Common.{ℕ, ◌≡◌, ◌<◌, ◌⊎◌, inl, inr, max,
 use Rattle.std.specs.Prelude.{IsCharBoundary, Result, Ok, Err}
 use Rattle.std.proofs.lemmas.Bool.{false≢true, and_from, and_parts}
 use Rattle.js_base.specs.declared.kind.Kind.{Kind}
-use Rattle.js_base.specs.declared.kind.Kind.TheVariants.{Comma, Eq, In, LBrack, LCurly, Of, Semicolon, Undetermined}
+use Rattle.js_base.specs.declared.kind.Kind.TheVariants.{Comma, Eq, Ident, In, LBrack, LCurly, Of, Semicolon, Undetermined}
 use Rattle.js_base.specs.declared.span.Span.{Span}
 use Rattle.js_base.specs.Kinds.{same_kind, one_of_kinds}
 use Rattle.js_base.proofs.KindLemmas.{kind_of_same}
@@ -45,7 +45,7 @@ use Rattle.js_parsing.proofs.Giving.{fails_escaped}
 use Rattle.js_parsing.proofs.Here.{unsettled}
 use Rattle.js_parsing.proofs.NameKinds.{listed_here, listed_name, name_at, no_name_here}
 use Rattle.js_parsing.proofs.NamedFirsts.{fails_unnamed}
-use Rattle.js_parsing.specs.Lexemes.{name_kinds}
+use Rattle.js_parsing.specs.Lexemes.{escaped_word, name_kinds}
 use Rattle.js_parsing.proofs.MadeNodes.{node_held, two_held, made_lies}
 use Rattle.js_parsing.proofs.Moving.{beside_nodes, same_both, same_with, stops_behind}
 use Rattle.js_parsing.proofs.Paths.{Path, ◌⟶◌, ◌⟶✗◌, by_symbol_as, fails_at, label_here, last_called, noded, noded_by, token, walked_both}
@@ -58,7 +58,7 @@ use Rattle.js_parsing.proofs.Verdicts.{after as grown_behind}
 through_look : {text : List ℕ} {f : Flags} {q : Parser} → At text f q → ThroughHere q true → (y : Lexeme) → Lex text q.prev_token_end y → IsTrue (seen goes_through y)
 through_look {q = q} a h y l = by h
   where
-    with_kind : (k : Kind) → one_of_kinds (In ∷ Of ∷ []) k ≡ true → one_of_kinds unsettled k ≡ false → StandsHere q k true → IsTrue (seen goes_through y)
+    with_kind : (k : Kind) → one_of_kinds (In ∷ Of ∷ []) k ≡ true → one_of_kinds (Ident ∷ unsettled) k ≡ false → StandsHere q k true → IsTrue (seen goes_through y)
     with_kind k m r s = let z = stands_there a s.0 r y l in and_from (one_of_kinds (In ∷ Of ∷ []) y.kind) (not y.escaped) (ap (one_of_kinds (In ∷ Of ∷ [])) z.0 ∙ m) (ap not z.1)
 
     by : ThroughHere q true → IsTrue (seen goes_through y)
@@ -179,9 +179,9 @@ name_as {f = f} {p = p} a h {j = j} {ls = ls} {rest = rest} l (is_such {l = m} {
 -- where none stands, no name is derived
 no_identifier : {text : List ℕ} {f : Flags} {p : Parser} {X : Test} → At text f p → NameHere p false → Fails rule (Lex text) X end (symbol BindingIdentifier f) p.prev_token_end
 unfolding covers apart
-no_identifier {text} {f} {p} {X} a h = by p.token.escaped refl
+no_identifier {text} {f} {p} {X} a h = by (escaped_word p.token.kind p.token.escaped) refl
   where
-    by : (b : Bool) → p.token.escaped ≡ b → Fails rule (Lex text) X end (symbol BindingIdentifier f) p.prev_token_end
+    by : (b : Bool) → escaped_word p.token.kind p.token.escaped ≡ b → Fails rule (Lex text) X end (symbol BindingIdentifier f) p.prev_token_end
     by true e = fails_escaped a e
     by false e = fails_unnamed a f (λ g. symbol BindingIdentifier g) [] refl refl refl refl refl (no_name_here f p (name_at false a h) e) refl
 

@@ -78,7 +78,7 @@ use Rattle.js_expressions.proofs.OnePlace.{calm, one_alone, one_move, one_told}
 use Rattle.js_expressions.proofs.ParenthesizedFronts.{no_arrow_admitted, args_one}
 use Rattle.js_cursor.specs.Tokens.{may_be_read_again}
 use Rattle.js_parsing.proofs.KeptTokens.{before_back, last_back}
-use Rattle.js_parsing.specs.Lexemes.{Lex, name_kinds, other_goals, signs, spot, slashes, Plain, may_name, Walked}
+use Rattle.js_parsing.specs.Lexemes.{Lex, escaped_word, name_kinds, other_goals, signs, spot, slashes, Plain, may_name, Walked}
 use Rattle.js_parsing.specs.Moves.{Moved, MadeHere, LeafTaken, TakesLeaf, plain_label}
 use Rattle.js_parsing.specs.States.{At, Same, Standing, flags_of, IsPlain, whole, sign, nothing as nothing_here, NodesLie, SpansLie}
 use Rattle.js_targets.proofs.ArraysBeforeSigns.{is_cover}
@@ -102,7 +102,7 @@ use Rattle.js_patterns.proofs.Bindings.{bound_path, ended_by, then_any}
 use Rattle.js_parsing.proofs.Paths.{Path, ◌⟼◌, ◌⟶◌, ◌⟶✗◌, fails_at, not_here, token, last_called, noded, by_symbol_as, label_here, read_of, walked_both, walked_from, walked_one, flagged_here, flagged_by}
 use Rattle.js_parsing.proofs.Signs.{none_kept, plain_of}
 use Rattle.js_parsing.proofs.Ahead.{pass_over}
-use Rattle.js_parsing.proofs.Tight.{read_plain}
+use Rattle.js_parsing.proofs.Escapes.{plain_word, read_plain}
 use Rattle.js_parsing.proofs.Verdicts.{grown_first, grown_then, grown_both}
 use Rattle.js_parsing.specs.Classes.{IsEarly}
 use Rattle.js_parsing.proofs.Classes.{kept_early}
@@ -291,7 +291,7 @@ module _ {text : List ℕ} {f : Flags} {p : Parser} (a : At text f p) where
   name_only k = fails_at a (symbol Params f) (LParen ∷ []) refl (name_apart (LParen ∷ []) refl _ k)
 
   -- a name as the parameters
-  name_path : {q : Parser} → may_name f.yield_ f.await_ p.token.kind ≡ true → p.token.escaped ≡ false → Moved text f p q → Path text f (plain full) (head_of f) p nothing q (tree (label_here formal_parameters no_op p q) (tree (label_here formal_parameter no_op p q) (tree (label_here binding_identifier no_op p q) end (hole end)) end))
+  name_path : {q : Parser} → may_name f.yield_ f.await_ p.token.kind ≡ true → escaped_word p.token.kind p.token.escaped ≡ false → Moved text f p q → Path text f (plain full) (head_of f) p nothing q (tree (label_here formal_parameters no_op p q) (tree (label_here formal_parameter no_op p q) (tree (label_here binding_identifier no_op p q) end (hole end)) end))
   name_path k e m = left (name_only (listed_name f.yield_ f.await_ p.token.kind k)) ⟼ noded a (noded a (ended_by (then_any (bound_path a k e m)) reads_empty_slot))
 
   -- parentheses as the parameters
@@ -448,7 +448,7 @@ pub unmoved : {p q : Parser} → q ≡ p → Unmoved p q
 unmoved {p} e = subst (Unmoved p) (sym e) (record { at = λ text f a. a; same = same_itself; kept = refl; place = refl; spot_is = refl; start = refl; kind = refl; keeps = Keeps-refl p.nodes })
 
 -- the node of a name stands before the arrow
-pub name_found : {p q w : Parser} {id : NodeId} → Standing p → ArrowBehind p q true → p.token.escaped ≡ false → Single q w id → NamesHead p w (Some id)
+pub name_found : {p q w : Parser} {id : NodeId} → Standing p → ArrowBehind p q true → escaped_word p.token.kind p.token.escaped ≡ false → Single q w id → NamesHead p w (Some id)
 name_found {p} {q} {w} {id} a b e s = (k, head, b.1)
   where
     z : Single p w id
@@ -502,7 +502,7 @@ parenthesized_head {f = f} {p = p} a k x e z = record {
 }
 
 -- a name
-pub single_head : {text : List ℕ} {f : Flags} {p q v w : Parser} {name parameter id : NodeId} (s : Span) → At text f p → may_name f.yield_ f.await_ p.token.kind ≡ true → p.token.escaped ≡ false → s ≡ p.token.span → LeafTaken node_kind.BindingIdentifier op_made.None text f p q name → MadeHere (plain_label node_kind.FormalParameter op_made.None s) (Some name ∷ None ∷ []) q v parameter → MadeHere (plain_label node_kind.FormalParameters op_made.None s) (Some parameter ∷ []) v w id → Head text f f p w id
+pub single_head : {text : List ℕ} {f : Flags} {p q v w : Parser} {name parameter id : NodeId} (s : Span) → At text f p → may_name f.yield_ f.await_ p.token.kind ≡ true → escaped_word p.token.kind p.token.escaped ≡ false → s ≡ p.token.span → LeafTaken node_kind.BindingIdentifier op_made.None text f p q name → MadeHere (plain_label node_kind.FormalParameter op_made.None s) (Some name ∷ None ∷ []) q v parameter → MadeHere (plain_label node_kind.FormalParameters op_made.None s) (Some parameter ∷ []) v w id → Head text f f p w id
 single_head {text} {f} {p} {q} {v} {w} {name} {parameter} {id} s a k e b t n m =
     let i : p.token.span.end ≡ t.mid.prev_token_end = t.moved.tells.end ∙ t.moved.ends in
     let ks : Keeps p.nodes t.mid.nodes = subst (λ (ns : List Node). Keeps p.nodes ns) (sym t.moved.nodes) (Keeps-refl p.nodes) in
@@ -601,11 +601,11 @@ some_looked p o q id r s e h = subst (λ (z : Parser). ParametersRead z q id) s 
 
 -- neither a name nor a parenthesis
 pub neither : {p : Parser} → NameHere p false → StandsHere p LParen false → NoLineHere p
-neither {p} n m = λ text f a. by text f p.token.escaped refl a
+neither {p} n m = λ text f a. by text f (escaped_word p.token.kind p.token.escaped) refl a
   where
-    by : (text : List ℕ) (f : Flags) (b : Bool) → p.token.escaped ≡ b → At text f p → NoLine text f p.prev_token_end
+    by : (text : List ℕ) (f : Flags) (b : Bool) → escaped_word p.token.kind p.token.escaped ≡ b → At text f p → NoLine text f p.prev_token_end
     by text f true e a = fails_escaped a e
-    by text f false e a = no_line_here a (no_name_here f p (name_at false a n) e) (or_kind LParen [] p.token.kind (λ k. m k e) refl)
+    by text f false e a = no_line_here a (no_name_here f p (name_at false a n) e) (or_kind LParen [] p.token.kind (λ k. m k (plain_word {p.token} k refl e)) refl)
 
 -- ---- where the parser is where it was
 
@@ -621,15 +621,15 @@ unmoved_went_on a u = let b = u.at _ _ a in ((u.same.follows, b.at), b.heads, λ
 
 -- where no YieldExpression begins
 no_yield_here : {text : List ℕ} {f : Flags} {p : Parser} → At text f p → (BeginsYield p → ⊥) → NoYield text f p.prev_token_end
-no_yield_here {text} {f} {p} a n = go p.token.escaped refl
+no_yield_here {text} {f} {p} a n = go (escaped_word p.token.kind p.token.escaped) refl
   where
     by : (b : Bool) → has_flag yield_flag p.ctx ≡ b → p.token.kind ≡ Yield → p.token.escaped ≡ false → f.yield_ ≡ false
     by true i k e = absurd (n (record { kind = k; plain = e; yields = i }))
     by false i k e = sym (ap (λ (g : Flags). g.yield_) a.flags_are) ∙ i
 
-    go : (b : Bool) → p.token.escaped ≡ b → NoYield text f p.prev_token_end
+    go : (b : Bool) → escaped_word p.token.kind p.token.escaped ≡ b → NoYield text f p.prev_token_end
     go true e = fails_escaped a e
-    go false e = no_yield a (λ k. by (has_flag yield_flag p.ctx) refl k e)
+    go false e = no_yield a (λ k. by (has_flag yield_flag p.ctx) refl k (plain_word {p.token} k refl e))
 
 unmoved_yield : {p q : Parser} → Standing p → Unmoved p q → (BeginsYield p → ⊥) → (text : List ℕ) (f : Flags) → At text f q → NoYield text f q.prev_token_end
 unmoved_yield {p} {q} a u n text f b = subst (λ (s : ℕ). NoYield text f s) (sym u.place) (no_yield_here (before_unmoved a u b) n)
@@ -708,7 +708,7 @@ behind g v = grown_on g v
 -- the body: in braces where a brace stands, else an expression
 to_body : {text : List ℕ} {f : Flags} {X : Test} {r : Parser} (m : Bool) → At text f r → (b : Bool) → same_kind LCurly r.token.kind ≡ b → Goes rule (Lex text) X end (body_slots m f) r.prev_token_end (such (body_of b m f) always) r.prev_token_end (λ us. us) (still 0)
 unfolding covers apart
-to_body {r = r} m a true c = left (part_fails {X' = plain full} (fails_look (other (is LCurly)) (λ y l z. braced y (kind_here a (sym (kind_of_same LCurly r.token.kind c)) refl y l) (read_plain y l.1) z)) (record { admits = λ ts us vs j k ls mid rest d d' e. (refl, refl) }))
+to_body {r = r} m a true c = left (part_fails {X' = plain full} (fails_look (other (is LCurly)) (λ y l z. let e = kind_here a (sym (kind_of_same LCurly r.token.kind c)) refl y l in braced y e (read_plain y l.1 e refl) z)) (record { admits = λ ts us vs j k ls mid rest d d' e. (refl, refl) }))
   where
     braced : (y : Lexeme) → y.kind ≡ LCurly → y.escaped ≡ false → IsTrue (seen (other (is LCurly)) y) → ⊥
     braced y k n z = let w : not (same_kind LCurly y.kind && not y.escaped) ≡ false = rw (k, n) refl in false≢true (sym w ∙ z)

@@ -38,7 +38,7 @@ use Rattle.js_cursor.proofs.Later.{follows_on}
 use Rattle.js_parsing.specs.Answers.{Underived}
 use Rattle.js_parsing.specs.Contexts.{arrow_head}
 use Rattle.js_parsing.specs.Heads.{NoHead, OnlyArrow}
-use Rattle.js_parsing.specs.Lexemes.{Lex, name_kinds, other_goals, read_kinds, signs}
+use Rattle.js_parsing.specs.Lexemes.{Lex, escaped_word, is_read, name_kinds, other_goals, read_kinds, signs}
 use Rattle.js_parsing.specs.Moves.{Moved, Moves}
 use Rattle.js_parsing.specs.Stands.{StandsHere}
 use Rattle.js_parsing.specs.States.{At, Standing}
@@ -48,7 +48,7 @@ use Rattle.js_parsing.proofs.Moving.{same_both}
 use Rattle.js_parsing.proofs.NameKinds.{name_apart, name_read, name_whole}
 use Rattle.js_parsing.proofs.Paths.{fails_at, read_of, walked_both, walked_one}
 use Rattle.js_parsing.proofs.Signs.{other_kind, plain_sign}
-use Rattle.js_parsing.proofs.Tight.{read_plain}
+use Rattle.js_parsing.proofs.Escapes.{no_name_where, plain_word, read_as, read_unnamed, read_word_plain}
 use Rattle.js_parsing.proofs.Verdicts.{grown_then}
 use Rattle.js_operands.proofs.Operands.{name_signless}
 use Rattle.js_targets.proofs.ArraysBeforeSigns.{array_part, is_cover}
@@ -84,7 +84,7 @@ one_passed (the_last {x = x} {ls = ls} m) = (x, ls, refl)
 one_passed (and_more {x = x} {ls = ls} m o) = (x, ls, refl)
 
 abbrev a_head_there : Look
-a_head_there k w e = begins_head k w e && (not w && not e)
+a_head_there k w e = begins_head k w e && (not w && not (escaped_word k e))
 
 -- an operand doesn't end before a head on its line
 head_binds : (b : Bool) → covers a_head_there (λ k w e. not (looser 2 b after_expression k w e)) ≡ true
@@ -180,14 +180,14 @@ module _ {text : List ℕ} {f : Flags} {s t : ℕ} (w : (y : Lexeme) → Lex tex
       lexed : Lexes (Lex text) j rest
       lexed = lexed_behind (Lex text) d l
 
-      unescaped : (here rest).escaped ≡ false
-      unescaped = read_plain (here rest) (here_at (Lex text) rest lexed).1
+      is_read_there : IsTrue (is_read (here rest))
+      is_read_there = (here_at (Lex text) rest lexed).1
 
       by : Stood text t ts rest → ⊥
       by (behind_word m i) =
           let y = b (here rest) (here_at (Lex text) rest m) in
-          contrary (seen (looser 2 f.in_ (first_row ts)) (here rest)) (subst (λ (r : Row). not (seen (looser 2 f.in_ r) (here rest)) ≡ true) (sym i) (covered a_head_there (λ k w e. not (looser 2 f.in_ after_expression k w e)) (head_binds f.in_) (here rest).kind (here rest).newline (here rest).escaped (and_from _ _ y.1 (and_from _ _ (ap not y.0) (ap not unescaped))))) a
-      by (at_arrow u) = contrary (seen (looser 2 f.in_ (first_row ts)) (here rest)) (covered an_arrow (λ k w e. not (looser 2 f.in_ (first_row ts) k w e)) (arrow_binds f.in_ (first_row ts) (row_claimed d)) (here rest).kind (here rest).newline (here rest).escaped (and_from _ _ u (ap not unescaped))) a
+          contrary (seen (looser 2 f.in_ (first_row ts)) (here rest)) (subst (λ (r : Row). not (seen (looser 2 f.in_ r) (here rest)) ≡ true) (sym i) (covered a_head_there (λ k w e. not (looser 2 f.in_ after_expression k w e)) (head_binds f.in_) (here rest).kind (here rest).newline (here rest).escaped (and_from _ _ y.1 (and_from _ _ (ap not y.0) (ap not (read_word_plain (here rest) is_read_there)))))) a
+      by (at_arrow u) = contrary (seen (looser 2 f.in_ (first_row ts)) (here rest)) (covered an_arrow (λ k w e. not (looser 2 f.in_ (first_row ts) k w e)) (arrow_binds f.in_ (first_row ts) (row_claimed d)) (here rest).kind (here rest).newline (here rest).escaped (and_from _ _ u (ap not (read_unnamed (here rest) is_read_there (no_name_where (same_kind Arrow) (here rest).kind u refl))))) a
 
   conditional_fails : Fails rule (Lex text) (after (at Assignment f)) end (such (at Conditional f) always) s
   unfolding rule rule_of
@@ -296,7 +296,7 @@ module _ {text : List ℕ} {f : Flags} {q w : Parser} {id : NodeId} (a : At text
   on_its_line b (name_head k e h n) =
       let u = name_whole a k in
       let y = found a u.0 u.1 in
-      y.2.newline ∙ (b y.0 (y.1, read_of y.0 (sym y.2.kind) (sym y.2.escaped ∙ e) (name_read q.token.kind k))).0
+      y.2.newline ∙ (b y.0 (y.1, read_as y.0 y.2 e (name_read q.token.kind k))).0
 
 -- what was told of parameters behind the word
 told_before : {text : List ℕ} {f : Flags} {p q w : Parser} {id : NodeId} → Moved text f p q → ToldHead text f q w id → ToldHead text f p w id
@@ -424,11 +424,11 @@ pub async_on_new_line : {p : Parser} {t : Token} → StandsHere p Async true →
 async_on_new_line k h w = λ text f a. async_late a h k.0 w
 
 pub no_async_word : {p : Parser} → StandsHere p Async false → NoAsyncHere p
-no_async_word {p} n = λ text f a. by p.token.escaped refl a
+no_async_word {p} n = λ text f a. by (escaped_word p.token.kind p.token.escaped) refl a
   where
-    by : {text : List ℕ} {f : Flags} (b : Bool) → p.token.escaped ≡ b → At text f p → NoLed true text f p.prev_token_end
+    by : {text : List ℕ} {f : Flags} (b : Bool) → escaped_word p.token.kind p.token.escaped ≡ b → At text f p → NoLed true text f p.prev_token_end
     by true e a = fails_escaped a e
-    by false e a = no_async_here a (other_kind Async p.token.kind (λ k. n k e))
+    by false e a = no_async_here a (other_kind Async p.token.kind (λ k. n k (plain_word {p.token} k refl e)))
 
 pub begins_so : (p q : Parser) {b r : Bool} → r ≡ b → AsyncHeadBegins p q r → AsyncHeadBegins p q b
 begins_so p q e h = subst (λ (v : Bool). AsyncHeadBegins p q v) e h

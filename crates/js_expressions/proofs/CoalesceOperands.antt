@@ -49,7 +49,8 @@ use Rattle.js_parsing.proofs.Moving.{stops_behind, same_both, same_itself, same_
 use Rattle.js_parsing.proofs.Paths.{skips, not_here, read_of, walked_both, walked_one, walked_to}
 use Rattle.js_parsing.proofs.Phrases.{narrow_operand}
 use Rattle.js_parsing.proofs.Signs.{none_kept}
-use Rattle.js_parsing.proofs.Tight.{narrows, read_plain, plain_lex}
+use Rattle.js_parsing.proofs.Escapes.{read_plain}
+use Rattle.js_parsing.proofs.Tight.{narrows, plain_lex}
 use Rattle.js_parsing.proofs.Verdicts.{verdict_of, either_way, and_then, behind_none, grown_then}
 use Rattle.js_parsing.proofs.Verdicts.{after as grown_behind}
 use Rattle.js_parsing.specs.Classes.{EndsParse}
@@ -116,7 +117,7 @@ begun_lexed (operands o h x) ls i = x.around.passes.lexed ls i
 
 module _ {text : List ℕ} {f : Flags} where
   sign_here : {q : Parser} → At text f q → q.token.kind ≡ Question2 → AllSigns text f q.prev_token_end
-  sign_here a k y l = and_from _ _ (subst (λ (v : Kind). same_kind Question2 v ≡ true) (sym (kind_here a k refl y l)) refl) (ap not (read_plain y l.1))
+  sign_here a k y l = and_from _ _ (subst (λ (v : Kind). same_kind Question2 v ≡ true) (sym (kind_here a k refl y l)) refl) (ap not (read_plain y l.1 (kind_here a k refl y l) refl))
 
   sign_none : {q : Parser} → At text f q → (q.token.kind ≡ Question2 → ⊥) → NoSign text f q.prev_token_end
   unfolding apart
@@ -143,7 +144,7 @@ module _ {text : List ℕ} {f : Flags} where
   }
     where
       no_kind : (y : Lexeme) → Lex text q.prev_token_end y → one_of_kinds (Question2 ∷ []) y.kind ≡ false
-      no_kind y l = other_kind Question2 y.kind (λ e. sign_none s.at n y l (and_from _ _ (subst (λ (v : Kind). same_kind Question2 v ≡ true) (sym e) refl) (ap not (read_plain y l.1))))
+      no_kind y l = other_kind Question2 y.kind (λ e. sign_none s.at n y l (and_from _ _ (subst (λ (v : Kind). same_kind Question2 v ≡ true) (sym e) refl) (ap not (read_plain y l.1 e refl))))
 
   sign_plain : {q : Parser} → At text f q → q.token.kind ≡ Question2 → q.token.escaped ≡ false
   unfolding words

@@ -61,7 +61,8 @@ use Rattle.js_parsing.proofs.Moving.{same_both}
 use Rattle.js_operands.proofs.Operands.{by_path, of_unary}
 use Rattle.js_parsing.proofs.Paths.{Path, ◌⟼◌, ◌⟶◌, ◌⟶✗◌, fails_at, not_here, token, called, last_called, noded_by, label_here, read_of}
 use Rattle.js_parsing.proofs.Phrases.{lift, narrow_operand, unary_part, no_await}
-use Rattle.js_parsing.proofs.Tight.{narrows, read_plain, plain_lex}
+use Rattle.js_parsing.proofs.Escapes.{read_plain}
+use Rattle.js_parsing.proofs.Tight.{narrows, plain_lex}
 use Rattle.js_parsing.proofs.NamedFirsts.{fails_at_await}
 use Rattle.js_parsing.proofs.Verdicts.{verdict_of, either_way}
 use Rattle.js_parsing.proofs.Verdicts.{after as grown_behind}
@@ -150,7 +151,7 @@ module _ {text : List ℕ} {f : Flags} where
   star_none {q} a n y l h = not_here a (Star2 ∷ []) refl (other_kind Star2 q.token.kind n) y l (or_left (same_kind Star2 y.kind) false (and_parts (same_kind Star2 y.kind) (not y.escaped) h).0)
 
   star_here : {q : Parser} → At text f q → q.token.kind ≡ Star2 → (y : Lexeme) → Lex text q.prev_token_end y → IsTrue (seen (is Star2) y)
-  star_here a k y l = and_from _ _ (subst (λ (v : Kind). same_kind Star2 v ≡ true) (sym (kind_here a k refl y l)) refl) (ap not (read_plain y l.1))
+  star_here a k y l = and_from _ _ (subst (λ (v : Kind). same_kind Star2 v ≡ true) (sym (kind_here a k refl y l)) refl) (ap not (read_plain y l.1 (kind_here a k refl y l) refl))
 
 -- ---- an operand alone
 
@@ -163,7 +164,7 @@ power_alone {text} {f} {p} {q} x n =
     (λ y l. narrows 16 15 (Star2 ∷ []) f.in_ r (narrow_operand 16 15 (Star2 ∷ []) refl refl refl refl f.in_ r x.answer.row) y l.1 (no_kind y (plain_lex l)) (x.answer.stops y l))
   where
     no_kind : (y : Lexeme) → Lex text q.prev_token_end y → one_of_kinds (Star2 ∷ []) y.kind ≡ false
-    no_kind y l = other_kind Star2 y.kind (λ e. star_none x.answer.at n y l (and_from _ _ (subst (λ (v : Kind). same_kind Star2 v ≡ true) (sym e) refl) (ap not (read_plain y l.1))))
+    no_kind y l = other_kind Star2 y.kind (λ e. star_none x.answer.at n y l (and_from _ _ (subst (λ (v : Kind). same_kind Star2 v ≡ true) (sym e) refl) (ap not (read_plain y l.1 e refl))))
 
 pub power_none : (text : List ℕ) (f : Flags) (s : ℕ) → Underived text (at Unary f) s → Underived text (at Exponent f) s
 unfolding rule rule_of

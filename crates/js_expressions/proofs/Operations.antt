@@ -3,7 +3,7 @@ use Rattle.std.proofs.Common.{ℕ, zero, suc, ◌≡◌, ◌<◌, ◌≤◌, ◌
 use Rattle.std.proofs.lemmas.Bool.{false≢true, and_parts, or_left, or_right, ltb-true, lt-ltb}
 use Rattle.js_base.specs.declared.diagnostic.Diagnostic.{Diagnostic}
 use Rattle.js_base.specs.declared.kind.Kind.{Kind}
-use Rattle.js_base.specs.declared.kind.Kind.TheVariants.{PrivateIdentifier, Eof, RegExp, Slash, Undetermined}
+use Rattle.js_base.specs.declared.kind.Kind.TheVariants.{Ident, PrivateIdentifier, Eof, RegExp, Slash, Undetermined}
 use Rattle.js_base.specs.Kinds.{one_of_kinds}
 use Rattle.js_grammar.specs.Trees.{Label, Slots, end, tree}
 use Rattle.js_grammar.specs.Grammar.{Lexeme, Lexemes, next, seen, seq, such, nothing}
@@ -36,7 +36,8 @@ use Rattle.js_parsing.specs.Operators.{power_of}
 use Rattle.js_parsing.specs.Answers.{Grown, Verdict, Stretch, Underived, Numbered, Outcome, beside}
 use Rattle.js_parsing.proofs.Here.{told_plain, begins_here, found, plain_token, slash_here}
 use Rattle.js_parsing.proofs.Paths.{skips, read_of, walked_both, walked_one, walked_to, walked_from}
-use Rattle.js_parsing.proofs.Tight.{stops_by_power, power_listed, Level, level_of, read_plain, operator_read, plain_is_none, plain_is_read, plain_lex, plain_so, power_anywhere}
+use Rattle.js_parsing.proofs.Escapes.{no_name_where, read_plain, read_unnamed}
+use Rattle.js_parsing.proofs.Tight.{stops_by_power, power_listed, Level, level_of, operator_read, plain_is_none, plain_is_read, plain_lex, plain_so, power_anywhere}
 use Rattle.js_parsing.proofs.Verdicts.{verdict_of, either_way, and_then, behind_none, grown_then}
 use Rattle.js_parsing.proofs.Verdicts.{after as grown_behind}
 use Rattle.js_parsing.proofs.Moving.{same_both, same_with, beside_nodes}
@@ -68,7 +69,7 @@ pub record Operand (text : List ℕ) (f : Flags) (m : ℕ) (p q : Parser) (id : 
 
 -- no `#` is read
 no_hash : {text : List ℕ} {s : ℕ} (y : Lexeme) → Lex text s y → y.kind ≡ PrivateIdentifier → ⊥
-no_hash y l e = false≢true (subst (λ (k : Kind). one_of_kinds read_kinds k ≡ true) e (and_parts (one_of_kinds read_kinds y.kind) (not y.escaped) l.1).0)
+no_hash y l e = false≢true (subst (λ (k : Kind). one_of_kinds read_kinds k ≡ true) e (and_parts (one_of_kinds read_kinds y.kind) _ l.1).0)
 
 -- the rows of operands
 level_rows : (f : Flags) (q : ℕ) (r : Row) → may_end (level_at f q).name r ≡ of_operand r
@@ -189,9 +190,12 @@ module _ {text : List ℕ} {f : Flags} where
     above : m ≤ it.level
     above = let h = strong.1 in let i = it.is in omega arith
 
+    no_name : same_kind Ident t.token.kind ≡ false
+    no_name = no_name_where (λ (k : Kind). nat_lt 0 (power_of f.in_ k)) t.token.kind (lt-ltb 0 (power_of f.in_ t.token.kind) (let h = strong.1 in omega arith)) refl
+
     -- the operator stands behind the operand
     here : (y : Lexeme) → Plain text q.prev_token_end y → (y.kind ≡ t.token.kind) × (y.escaped ≡ false)
-    here y l = (sym (told_plain o.at o.uncut y (plain_is_none y l.1) (subst (λ (v : ℕ). Lex text v y) (sym o.place) (plain_lex l))).kind, read_plain y (plain_is_read y l.1))
+    here y l = let e : y.kind ≡ t.token.kind = sym (told_plain o.at o.uncut y (plain_is_none y l.1) (subst (λ (v : ℕ). Lex text v y) (sym o.place) (plain_lex l))).kind in (e, read_plain y (plain_is_read y l.1) e no_name)
 
     -- a regular expression may stand in the place of the division sign
     pattern_here : (y : Lexeme) → Lex text q.prev_token_end y → y.kind ≡ RegExp → t.token.kind ≡ Slash
@@ -315,9 +319,12 @@ module _ {text : List ℕ} {f : Flags} where
     weak : (y : Lexeme) → Plain text q.prev_token_end y → power_of f.in_ y.kind < m + 5
     weak y l =
         let z = told_plain o.at o.uncut y (plain_is_none y l.1) (subst (λ (v : ℕ). Lex text v y) (sym o.place) (plain_lex l)) in
-        let e : t.token.escaped ≡ false = z.escaped ∙ read_plain y (plain_is_read y l.1) in
-        let h : power ≡ power_of f.in_ t.token.kind = o.is ∙ ap (λ (b : Bool). cond b 0 (power_of f.in_ t.token.kind)) e in
-        let k : power_of f.in_ t.token.kind ≡ power_of f.in_ y.kind = ap (power_of f.in_) z.kind in omega arith
+        let k : power_of f.in_ t.token.kind ≡ power_of f.in_ y.kind = ap (power_of f.in_) z.kind in
+        go k z.escaped (same_kind Ident y.kind) refl
+      where
+        go : power_of f.in_ t.token.kind ≡ power_of f.in_ y.kind → t.token.escaped ≡ y.escaped → (b : Bool) → same_kind Ident y.kind ≡ b → power_of f.in_ y.kind < m + 5
+        go k e true i = let n : power_of f.in_ y.kind ≡ 0 = ap (power_of f.in_) (sym (kind_of_same Ident y.kind i)) in omega arith
+        go k e false i = let h : power ≡ power_of f.in_ t.token.kind = o.is ∙ ap (λ (b : Bool). cond b 0 (power_of f.in_ t.token.kind)) (e ∙ read_unnamed y (plain_is_read y l.1) i) in omega arith
 
     no_operator : (q' : ℕ) → m ≤ q' → q' ≤ s.cap → (y : Lexeme) → Lex text q.prev_token_end y → OneOf y.kind (operators_at f q') → ⊥
     no_operator q' a b y l i = let h = operator_level f q' i in let o = listed_low f.in_ q' i in let p : Plain text q.prev_token_end y = (l.0, plain_so y l.1 (operator_plain f q' i)) in let k = power_listed f.in_ y p.1 (omega arith) (omega arith) in let w = weak y p in absurd (omega arith)

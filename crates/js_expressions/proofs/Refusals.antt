@@ -38,7 +38,7 @@ use Rattle.js_parsing.proofs.Here.{found, uncut}
 use Rattle.js_parsing.proofs.Moving.{same_itself, same_both}
 use Rattle.js_parsing.proofs.Paths.{read_of, not_here, settles}
 use Rattle.js_targets.proofs.Targets.{passes_itself, of_unary}
-use Rattle.js_parsing.proofs.Tight.{read_plain}
+use Rattle.js_parsing.proofs.Escapes.{no_name_where, read_unnamed}
 use Rattle.js_expressions.proofs.Updates.{of_update, update_plain, a_postfix, postfix_here, line_here}
 use Rattle.js_parsing.specs.Classes.{EndsParse}
 use Rattle.js_cursor.specs.Moves.{GivesUp}
@@ -102,7 +102,7 @@ module _ {text : List ℕ} {f : Flags} {p q : Parser} (a : At text f p) where
       )) start d
     where
       ending : (y : Lexeme) → Lex text r.prev_token_end y → IsTrue (one_of_kinds ending_kinds y.kind || nat_lt 0 (power_of f.in_ y.kind)) → an_end f.in_ y.kind y.newline y.escaped ≡ true
-      ending y l h = and_from _ _ h (ap not (read_plain y l.1))
+      ending y l h = and_from _ _ h (ap not (read_unnamed y l.1 (no_name_where (λ (k : Kind). one_of_kinds ending_kinds k || nat_lt 0 (power_of f.in_ k)) y.kind h refl)))
 
 -- ---- what the tests of the code say
 

@@ -13,7 +13,7 @@ use crate::update::parse_update_expression;
 use js_base::{Kind, map_unary_operator};
 use js_cursor::{ParserImpl, Stop};
 use js_lex::ParserConfig;
-use js_parsing::lexemes::advance;
+use js_parsing::lexemes::{advance, escaped_word_stands};
 use js_parsing::nested::Nested;
 use js_parsing::nodes::make_one;
 use js_tree::{NodeId, NodeKind, Op};
@@ -28,7 +28,7 @@ pub fn parse_unary_expression_or_higher<C: ParserConfig, N: Nested<C>>(
     requires nests { CanNest (N.can nested.now) (room p.old) }
     ensures { Answers (at Unary) p.old p.new result }
 {
-    if p.cur_token().escaped() {
+    if escaped_word_stands(p) {
         return Err(p.set_unexpected());
     }
     if p.cur_kind().is_unary_operator() {

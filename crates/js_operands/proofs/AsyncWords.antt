@@ -27,7 +27,7 @@ use Rattle.js_cursor.specs.declared.stop.Stop.{Stop}
 use Rattle.js_cursor.specs.Parsers.{Parser}
 use Rattle.js_tree.specs.declared.id.NodeId.{NodeId}
 use Rattle.js_parsing.specs.Arguments.{Partway}
-use Rattle.js_parsing.specs.Lexemes.{Lex, name_kinds, other_goals, signs}
+use Rattle.js_parsing.specs.Lexemes.{Lex, escaped_word, name_kinds, other_goals, signs}
 use Rattle.js_parsing.specs.Moves.{Moved}
 use Rattle.js_parsing.specs.Stands.{StandsHere}
 use Rattle.js_parsing.specs.States.{At}
@@ -39,7 +39,7 @@ use Rattle.js_parsing.proofs.NameKinds.{name_apart}
 use Rattle.js_parsing.proofs.Parts.{part_path_fails, part_sign}
 use Rattle.js_parsing.proofs.Paths.{fails_at, read_of}
 use Rattle.js_parsing.proofs.Signs.{other_kind}
-use Rattle.js_parsing.proofs.Tight.{read_plain}
+use Rattle.js_parsing.proofs.Escapes.{plain_word, read_plain}
 use Rattle.js_parsing.proofs.Verdicts.{verdict_of}
 
 -- ---- what stands behind the current lexeme, as a peek tells it
@@ -82,7 +82,7 @@ pub next_on_new_line : {p : Parser} {t : Token} → Peeks p t → t.is_on_new_li
 next_on_new_line h w text f a y l k n = false≢true (sym n ∙ (sym (function_peeked a h y l k).newline ∙ w))
 
 pub next_escaped : {p : Parser} {t : Token} → Peeks p t → t.escaped ≡ true → FunctionNext p false
-next_escaped h e text f a y l k n = false≢true (sym (read_plain y l.1) ∙ (sym (function_peeked a h y l k).escaped ∙ e))
+next_escaped h e text f a y l k n = false≢true (sym (read_plain y l.1 k refl) ∙ (sym (function_peeked a h y l k).escaped ∙ e))
 
 pub next_other : {p : Parser} {t : Token} → Peeks p t → (t.kind ≡ Function → ⊥) → FunctionNext p false
 next_other h o text f a y l k n = o ((function_peeked a h y l k).kind ∙ k)
@@ -147,7 +147,7 @@ module _ {text : List ℕ} {f : Flags} {p : Parser} (a : At text f p) where
           let w = n text f a in
           let t = told a (uncut a (ap (same_kind RAngle) k.0)) (ap (one_of_kinds signs) k.0) y l in
           let i : z ≡ w.0 = one_function w.1 w.2 (subst (λ (u : ℕ). Lex text u z) (sym t.end) m) in
-          false≢true (sym (ap (λ (v : Lexeme). seen (widest Primary) v) i ∙ rw (w.2, w.3, read_plain w.0 w.1.1) refl) ∙ e)
+          false≢true (sym (ap (λ (v : Lexeme). seen (widest Primary) v) i ∙ rw (w.2, w.3, read_plain w.0 w.1.1 w.2 refl) refl) ∙ e)
 
       within : (cs vs : Slots) {i j : ℕ} {ls rest : Lexemes} → Lexes (Lex text) p.prev_token_end ls → Takes rule (rule (at IdentifierReference f)) end cs i ls vs j rest → IsTrue (seen (widest Primary) (here rest)) → ⊥
       within cs vs l (is_node (is_lexeme {x = x} {ls = more} q)) e = there x (here more) l.0 (here_at (Lex text) more l.1) e
@@ -156,7 +156,7 @@ module _ {text : List ℕ} {f : Flags} {p : Parser} (a : At text f p) where
       by ts vs l (is_such d c) e = within _ _ l d e.0
 
   -- no asynchronous function begins here
-  module _ {q : Parser} (s : StandsHere p Async false ⊎ FunctionNext p false) (u : p.token.escaped ≡ false) (m : Moved text f p q) where
+  module _ {q : Parser} (s : StandsHere p Async false ⊎ FunctionNext p false) (u : escaped_word p.token.kind p.token.escaped ≡ false) (m : Moved text f p q) where
     pub no_async : (g : G) → Fails rule (Lex text) (plain full) end ((tok Async ▸ no_newline) ▸ tok Function ▸ g) p.prev_token_end
     unfolding covers apart
     no_async g = by s
@@ -169,11 +169,11 @@ module _ {text : List ℕ} {f : Flags} {p : Parser} (a : At text f p) where
         elsewhere k = part_fails {X' = plain full} (part_fails {X' = plain full} (fails_at a (tok Async) (Async ∷ []) refl k) any_between) any_between
 
         at_async : FunctionNext p false → (b : Bool) → same_kind Async p.token.kind ≡ b → Fails rule (Lex text) (plain full) end ((tok Async ▸ no_newline) ▸ tok Function ▸ g) p.prev_token_end
-        at_async n true k = part_path_fails {ids = []} {js = []} (part_within (part_sign Async a (sym (kind_of_same Async p.token.kind k)) u refl m)) (behind n q.token.is_on_new_line refl)
+        at_async n true k = part_path_fails {ids = []} {js = []} (part_within (part_sign Async a (sym (kind_of_same Async p.token.kind k)) (plain_word {p.token} (sym (kind_of_same Async p.token.kind k)) refl u) refl m)) (behind n q.token.is_on_new_line refl)
         at_async n false k = elsewhere (ap (λ (b : Bool). b || false) k)
 
         by : StandsHere p Async false ⊎ FunctionNext p false → Fails rule (Lex text) (plain full) end ((tok Async ▸ no_newline) ▸ tok Function ▸ g) p.prev_token_end
-        by (inl n) = elsewhere (other_kind Async p.token.kind (λ k. n k u))
+        by (inl n) = elsewhere (other_kind Async p.token.kind (λ k. n k (plain_word {p.token} k refl u)))
         by (inr n) = at_async n (same_kind Async p.token.kind) refl
 
     -- nor is a function expression derived at a name

@@ -36,7 +36,7 @@ use Rattle.js_cursor.specs.declared.stop.Stop.{Stop}
 use Rattle.js_cursor.specs.declared.stop.Stop.TheVariants.{Fatal, NoMemory}
 use Rattle.js_parsing.specs.Answers.{Numbered, Stops, Stretch, Underived, Verdict, unclean}
 use Rattle.js_parsing.specs.Arguments.{Partway}
-use Rattle.js_parsing.specs.Lexemes.{Lex, may_name, name_kinds, spot}
+use Rattle.js_parsing.specs.Lexemes.{Lex, escaped_word, may_name, name_kinds, spot}
 use Rattle.js_parsing.specs.Moves.{LeafTaken, Moved, MadeHere, plain_label}
 use Rattle.js_parsing.specs.Nesting.{room}
 use Rattle.js_parsing.specs.Stands.{NameUnder, StandsHere}
@@ -57,7 +57,7 @@ use Rattle.js_parsing.proofs.Signs.{other_kind, plain_sign, whole_sign}
 use Rattle.js_parsing.proofs.Told.{told_at, told_same}
 use Rattle.js_parsing.proofs.Verdicts.{after as grown_behind, verdict_of}
 use Rattle.js_operands.proofs.Operands.{behind_primary, by_path, one_path, plain_leaf, name_signless, name_signless}
-use Rattle.js_parsing.proofs.Tight.{read_plain}
+use Rattle.js_parsing.proofs.Escapes.{read_plain}
 use Rattle.js_operands.proofs.AsyncWords.{any_between, function_here, no_reference, part_within, same_line}
 
 star_plain : (is_word Star || same_kind PrivateIdentifier Star) ≡ false
@@ -126,9 +126,9 @@ module _ {text : List ℕ} {f : Flags} {r : Parser} (b : At text f r) where
   -- where no name stands
   no_name_part : {X : Test} (g : Flags) → NameUnder g.yield_ g.await_ r false → Fails rule (Lex text) X end (symbol BindingIdentifier g) r.prev_token_end
   unfolding covers apart
-  no_name_part {X} g n = by r.token.escaped refl
+  no_name_part {X} g n = by (escaped_word r.token.kind r.token.escaped) refl
     where
-      by : (c : Bool) → r.token.escaped ≡ c → Fails rule (Lex text) X end (symbol BindingIdentifier g) r.prev_token_end
+      by : (c : Bool) → escaped_word r.token.kind r.token.escaped ≡ c → Fails rule (Lex text) X end (symbol BindingIdentifier g) r.prev_token_end
       by true e = fails_escaped b e
       by false e = fails_unnamed b g (λ g. symbol BindingIdentifier g) [] refl refl refl refl refl (no_name_here g r n e) refl
 
@@ -161,7 +161,7 @@ module _ {text : List ℕ} {f : Flags} {p : Parser} (o : Parser) (a : At text f 
           let m = async_moved (k, v) in
           let y = w.1 text f a in
           let t = function_here m.at y.0 (subst (λ (u : ℕ). Lex text u y.0) (m.tells.end ∙ m.ends) y.1) y.2 in
-          ((t.kind ∙ y.2, t.escaped ∙ read_plain y.0 y.1.1), t.newline ∙ y.3)
+          ((t.kind ∙ y.2, t.escaped ∙ read_plain y.0 y.1.1 y.2 refl), t.newline ∙ y.3)
 
   pub word_at : (b : Bool) → Eats Async p o b → At text f o
   word_at true e = (async_moved e).at

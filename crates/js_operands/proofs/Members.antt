@@ -46,7 +46,7 @@ use Rattle.js_cursor.specs.Moves.{Enters, GivesUp, Leaves, MovesOn, OnlyMemory, 
 use Rattle.js_cursor.specs.declared.stop.Stop.{Stop}
 use Rattle.js_cursor.specs.declared.stop.Stop.TheVariants.{Fatal, NoMemory}
 use Rattle.js_cursor.proofs.Later.{follows_on}
-use Rattle.js_parsing.specs.Lexemes.{Lex, is_read, read_kinds, read_word, name_kinds, other_goals, signs, Plain}
+use Rattle.js_parsing.specs.Lexemes.{Lex, escaped_word, is_read, read_kinds, read_word, name_kinds, other_goals, signs, Plain}
 use Rattle.js_parsing.specs.States.{At, Same, Standing}
 use Rattle.js_parsing.specs.Nesting.{room}
 use Rattle.js_parsing.proofs.Nesting.{nested_room, later_room}
@@ -63,6 +63,7 @@ use Rattle.js_parsing.proofs.Verdicts.{verdict_of, either_way, and_then, behind_
 use Rattle.js_parsing.proofs.Verdicts.{after as grown_behind}
 use Rattle.js_parsing.proofs.Moving.{moves, same_both, beside_nodes, elsewhere, at_depth, stops_behind, stops_in, stops_so, standing, same_with}
 use Rattle.js_parsing.proofs.MadeNodes.{leaf_held, node_held, one_lies, made_lies}
+use Rattle.js_parsing.proofs.Escapes.{read_as}
 use Rattle.js_parsing.proofs.Paths.{reads, Path, ◌⟶✗◌, skips, token, passes_test, read_of, walked_both, walked_one, noded, noding, label_here, fails_at}
 use Rattle.js_operands.proofs.Operands.{by_path, primary_fails, primary_kinds}
 use Rattle.js_parsing.proofs.NameKinds.{no_listed_name}
@@ -164,16 +165,16 @@ no_others : apart any_word (λ k w e. one_of_kinds other_goals k) ≡ true
 unfolding apart
 no_others = refl
 
-pub name_of : (text : List ℕ) (f : Flags) (p q : Parser) → At text f p → read_word p.token.kind ≡ true → p.token.escaped ≡ false → (s : Moved text f p q) → Path text f (after (at IdentifierName f)) (rule (at IdentifierName f)) p nothing q (tree (label_here identifier_name no_op p q) end)
+pub name_of : (text : List ℕ) (f : Flags) (p q : Parser) → At text f p → read_word p.token.kind ≡ true → escaped_word p.token.kind p.token.escaped ≡ false → (s : Moved text f p q) → Path text f (after (at IdentifierName f)) (rule (at IdentifierName f)) p nothing q (tree (label_here identifier_name no_op p q) end)
 unfolding rule rule_of
 name_of text f p q a r n s =
     let z = covered read_words (λ k w e. one_of_kinds read_kinds k && (is_word k && (not (unpassable k) && not (same_kind RAngle k)))) read_are p.token.kind false false r in
     let x = and_parts (one_of_kinds read_kinds p.token.kind) (is_word p.token.kind && (not (unpassable p.token.kind) && not (same_kind RAngle p.token.kind))) z in
     let w = (and_parts (is_word p.token.kind) (not (unpassable p.token.kind) && not (same_kind RAngle p.token.kind)) x.1).0 in
-    let l : IsTrue (is_read s.lexeme) = read_of s.lexeme (sym s.tells.kind) (sym s.tells.escaped ∙ n) x.0 in
+    let l : IsTrue (is_read s.lexeme) = read_as s.lexeme s.tells n x.0 in
     noded a (record { at = s.at; further = s.further; pass = _; walked = walked_one s; verdict = clean s.kept (record { reach = 0; near = omega arith; goes = passes_test a any_word (word_signless p.token.kind r) s l (subst (λ k. is_word k ≡ true) s.tells.kind w) }) })
 
-pub name_taken : (text : List ℕ) (f : Flags) (p q : Parser) (r : Result NodeId Stop) → At text f p → read_word p.token.kind ≡ true → p.token.escaped ≡ false → MatchResult r (λ id. TakesLeaf node.IdentifierName op.None p q id) OnlyMemory → Outcome text f (at IdentifierName f) p q r
+pub name_taken : (text : List ℕ) (f : Flags) (p q : Parser) (r : Result NodeId Stop) → At text f p → read_word p.token.kind ≡ true → escaped_word p.token.kind p.token.escaped ≡ false → MatchResult r (λ id. TakesLeaf node.IdentifierName op.None p q id) OnlyMemory → Outcome text f (at IdentifierName f) p q r
 name_taken text f p q (Ok id) a r n m =
     let t = m text f a in
     let l : plain_label node.IdentifierName op.None p.token.span ≡ label_here identifier_name no_op p t.mid = ap (λ (v : ℕ). record { kind = identifier_name; op = no_op; flags = 0; span = record { from = p.token.span.start; to = v } }) (t.moved.tells.end ∙ t.moved.ends) in

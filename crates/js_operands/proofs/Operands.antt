@@ -36,7 +36,7 @@ use Rattle.js_cursor.specs.Parsers.{Parser}
 use Rattle.js_cursor.specs.Moves.{OnlyMemory}
 use Rattle.js_cursor.specs.declared.stop.Stop.{Stop}
 use Rattle.js_cursor.specs.declared.stop.Stop.TheVariants.{Fatal, NoMemory}
-use Rattle.js_parsing.specs.Lexemes.{Plain, is_read, may_name, name_kinds, read_kinds, signs}
+use Rattle.js_parsing.specs.Lexemes.{Plain, escaped_word, is_read, may_name, name_kinds, read_kinds, signs}
 use Rattle.js_parsing.specs.States.{At, Same, NodesLie}
 use Rattle.js_parsing.specs.Moves.{Moved, MadeHere, LeafTaken, TakesLeaf, plain_label}
 use Rattle.js_parsing.specs.Answers.{Underived, Answer, Numbered, Outcome, beside}
@@ -50,6 +50,7 @@ use Rattle.js_parsing.proofs.NameKinds.{at_name, listed_name, name_apart, name_p
 use Rattle.js_parsing.proofs.NamedFirsts.{fails_unnamed}
 use Rattle.js_parsing.proofs.MadeNodes.{leaf_held, one_held, LabelLies, from_start, one_lies}
 use Rattle.js_parsing.proofs.Tight.{plain_reads}
+use Rattle.js_parsing.proofs.Escapes.{read_as}
 use Rattle.js_parsing.proofs.Paths.{Path, ◌⟼◌, ◌⟶◌, ◌⟶✗◌, at_kind, token, last_token, last_called, passes_test, noded, noded_by, by_symbol_as, label_here, read_of, walked_one}
 use Rattle.js_parsing.specs.Answers.{clean}
 
@@ -189,10 +190,10 @@ unfolding apart
 name_signless k h = name_apart signs refl k h
 
 -- a name
-pub name_leaf : {text : List ℕ} {f : Flags} {X : Test} {p q : Parser} → At text f p → may_name f.yield_ f.await_ p.token.kind ≡ true → p.token.escaped ≡ false → Moved text f p q → Path text f X (lexeme (name_test f)) p nothing q (λ us. us)
-name_leaf {f = f} {p = p} a h n s = one_path (name_test f) a (name_signless p.token.kind (listed_name f.yield_ f.await_ p.token.kind h)) s (plain_leaf p.token.kind refl n (name_read p.token.kind (listed_name f.yield_ f.await_ p.token.kind h)) s) (name_passes f s.lexeme (subst (λ (k : Kind). may_name f.yield_ f.await_ k ≡ true) s.tells.kind h))
+pub name_leaf : {text : List ℕ} {f : Flags} {X : Test} {p q : Parser} → At text f p → may_name f.yield_ f.await_ p.token.kind ≡ true → escaped_word p.token.kind p.token.escaped ≡ false → Moved text f p q → Path text f X (lexeme (name_test f)) p nothing q (λ us. us)
+name_leaf {f = f} {p = p} a h n s = one_path (name_test f) a (name_signless p.token.kind (listed_name f.yield_ f.await_ p.token.kind h)) s (read_as s.lexeme s.tells n (name_read p.token.kind (listed_name f.yield_ f.await_ p.token.kind h))) (name_passes f s.lexeme (subst (λ (k : Kind). may_name f.yield_ f.await_ k ≡ true) s.tells.kind h))
 
-pub name_path : {text : List ℕ} {f : Flags} {p q : Parser} → At text f p → may_name f.yield_ f.await_ p.token.kind ≡ true → p.token.escaped ≡ false → NoFunctionHere p → Moved text f p q → Path text f (after (at Primary f)) (rule (at Primary f)) p nothing q (tree (label_here identifier_reference no_op p q) end)
+pub name_path : {text : List ℕ} {f : Flags} {p q : Parser} → At text f p → may_name f.yield_ f.await_ p.token.kind ≡ true → escaped_word p.token.kind p.token.escaped ≡ false → NoFunctionHere p → Moved text f p q → Path text f (after (at Primary f)) (rule (at Primary f)) p nothing q (tree (label_here identifier_reference no_op p q) end)
 unfolding rule rule_of covers
 name_path {f = f} {p = p} a i n z s =
     let k = listed_name f.yield_ f.await_ p.token.kind i in
@@ -238,7 +239,7 @@ leaf_under text f p q nk o k (Err Fatal) r path a e n m = absurd m
 leaf_under text f p q nk o k (Err NoMemory) r path a e n m = tt
 
 -- a name
-pub name_outcome : {text : List ℕ} {f : Flags} {p : Parser} (q : Parser) (r : Result NodeId Stop) → At text f p → may_name f.yield_ f.await_ p.token.kind ≡ true → p.token.escaped ≡ false → NoFunctionHere p → MatchResult r (λ id. TakesLeaf node.IdentifierReference op.None p q id) OnlyMemory → Outcome text f (at Primary f) p q r
+pub name_outcome : {text : List ℕ} {f : Flags} {p : Parser} (q : Parser) (r : Result NodeId Stop) → At text f p → may_name f.yield_ f.await_ p.token.kind ≡ true → escaped_word p.token.kind p.token.escaped ≡ false → NoFunctionHere p → MatchResult r (λ id. TakesLeaf node.IdentifierReference op.None p q id) OnlyMemory → Outcome text f (at Primary f) p q r
 name_outcome {text} {f} q (Ok id) a h n z m = leaf_made refl (λ q s. name_path a h n z s) (m text f a)
 name_outcome q (Err Fatal) a h n z m = absurd m
 name_outcome q (Err NoMemory) a h n z m = tt

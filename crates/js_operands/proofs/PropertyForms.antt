@@ -6,6 +6,7 @@ use Rattle.js_base.specs.Kinds.{same_kind, one_of_kinds}
 use Rattle.js_base.specs.Texts.{words}
 use Rattle.js_base.specs.declared.kind.Kind.{Kind}
 use Rattle.js_base.specs.declared.kind.Kind.TheVariants.{Async, Colon, Dot3, Get, LBrack, LParen, PrivateIdentifier, Set, Star}
+use Rattle.js_base.specs.declared.token.Token.{Token}
 use Rattle.js_grammar.specs.Lexemes.{is_word}
 use Rattle.js_grammar.specs.Grammar.{Look, nothing}
 use Rattle.js_grammar.specs.Parsing.{still, Goes, Fails}
@@ -25,7 +26,7 @@ use Rattle.js_operands.proofs.Wholes.{part_by}
 use Rattle.js_parsing.specs.declared.nested.MethodForm.{MethodForm}
 use Rattle.js_parsing.specs.declared.nested.MethodForm.TheVariants.{Method, Getter, Setter}
 use Rattle.js_parsing.specs.Arguments.{NoItem, Partway, behind_item}
-use Rattle.js_parsing.specs.Lexemes.{Lex, may_name, name_kinds, read_word}
+use Rattle.js_parsing.specs.Lexemes.{Lex, escaped_word, may_name, name_kinds, read_word}
 use Rattle.js_parsing.specs.Moves.{LeafTaken, MadeHere, Moved, Moves, plain_label}
 use Rattle.js_parsing.specs.Nesting.{room}
 use Rattle.js_base.specs.declared.span.Span.{Span}
@@ -36,6 +37,7 @@ use Rattle.js_operands.proofs.PropertyNames.{literal_kinds, word_outcome}
 use Rattle.js_parsing.specs.States.{At}
 use Rattle.js_parsing.proofs.Moving.{beside_nodes, neither}
 use Rattle.js_parsing.proofs.Parts.{part_from, part_sign, parts}
+use Rattle.js_parsing.proofs.Escapes.{plain_word}
 use Rattle.js_parsing.proofs.Paths.{◌⟶✗◌, token}
 use Rattle.js_operands.proofs.Methods.{no_first}
 use Rattle.js_operands.proofs.Properties.{behind_shorthand, forms, kinds_apart, name_part, no_async_line, no_forms, no_getter, no_method, no_name_begins, no_setter, no_named_shorthand, no_shorthand, no_spread, no_value, only_getters, only_method, only_methods, only_named, only_setters, only_shorthand, only_spread, property_name_kinds, none_of_line, with_star, word_apart}
@@ -123,7 +125,7 @@ module _ {text : List ℕ} {f : Flags} {p : Parser} (a : At text f p) where
 
   -- ---- a word
 
-  module _ {q : Parser} (r : read_word p.token.kind ≡ true) (e : p.token.escaped ≡ false) (m : Moved text f p q) where
+  module _ {q : Parser} (r : read_word p.token.kind ≡ true) (e : escaped_word p.token.kind p.token.escaped ≡ false) (m : Moved text f p q) where
     -- an accessor
     no_shorthand_so : one_of_kinds behind_shorthand q.token.kind ≡ false → Fails rule (Lex text) behind_item end (shorthand f) p.prev_token_end
     no_shorthand_so h = go (may_name f.yield_ f.await_ p.token.kind) refl
@@ -207,6 +209,11 @@ module _ {text : List ℕ} {f : Flags} {p q : Parser} (a : At text f p) (e : p.t
 pub one_form : {w b k j : Kind} (form : MethodForm) → w ≡ k → b ≡ j → form_of w b ≡ Some form → Begins form k × (one_of_kinds ends_name_kinds j ≡ false)
 one_form {w} {b} form e h n = let z = one_begins w b form n in (subst (λ (k : Kind). Begins form k) e z.0, subst (λ (k : Kind). one_of_kinds ends_name_kinds k ≡ false) h z.1)
 
+pub begins_plain : {t : Token} (form : MethodForm) → Begins form t.kind → escaped_word t.kind t.escaped ≡ false → t.escaped ≡ false
+begins_plain Method k n = absurd k
+begins_plain {t} Getter k n = plain_word {t} k refl n
+begins_plain {t} Setter k n = plain_word {t} k refl n
+
 pub no_form : {w b k j : Kind} → w ≡ k → b ≡ j → form_of w b ≡ None → form_of k j ≡ None
 no_form {w} {b} {k} {j} e h n = subst (λ (x : Kind). form_of x j ≡ None) e (subst (λ (x : Kind). form_of w x ≡ None) h n)
 
@@ -219,7 +226,7 @@ pub no_shorthand_here : (y t : Bool) {w b k j : Kind} → w ≡ k → b ≡ j �
 no_shorthand_here y t {w} {b} {k} {j} e h n = subst (λ (x : Kind). (may_name y t x && not (one_of_kinds (Colon ∷ LParen ∷ []) j)) ≡ false) e (subst (λ (x : Kind). (may_name y t w && not (one_of_kinds (Colon ∷ LParen ∷ []) x)) ≡ false) h n)
 
 -- a word that was passed, and its node
-module _ {text : List ℕ} {f : Flags} {p q : Parser} (a : At text f p) (r : read_word p.token.kind ≡ true) (e : p.token.escaped ≡ false) (ms : Moves p q) where
+module _ {text : List ℕ} {f : Flags} {p q : Parser} (a : At text f p) (r : read_word p.token.kind ≡ true) (e : escaped_word p.token.kind p.token.escaped ≡ false) (ms : Moves p q) where
   pub word_name : {u : Parser} {id : NodeId} {s : Span} → s ≡ p.token.span → MadeHere (plain_label node.IdentifierName op_made.None s) [] q u id → NameRead text f false p u id
   unfolding apart
   word_name {u} {id} {s} h n = word_outcome a (λ k d. bracket_is (sym (word_apart (LBrack ∷ []) refl p.token.kind r) ∙ ap (one_of_kinds (LBrack ∷ [])) k)) (word_apart literal_kinds refl p.token.kind r) u (Ok id) (name_taken text f p u (Ok id) a r e (λ t g b. leaf t g b))

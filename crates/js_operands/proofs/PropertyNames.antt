@@ -39,7 +39,7 @@ use Rattle.js_operands.specs.Numbers.{node_of_number, op_of_number}
 use Rattle.js_operands.specs.PropertyNames.{NoName, NoNames, NameRead, NameOutcome}
 use Rattle.js_operands.proofs.Operands.{exponential_test, of_number, one_path, plain_leaf}
 use Rattle.js_parsing.specs.Answers.{Underived, Numbered, Outcome, Stops}
-use Rattle.js_parsing.specs.Lexemes.{Lex, signs}
+use Rattle.js_parsing.specs.Lexemes.{Lex, escaped_word, signs}
 use Rattle.js_parsing.specs.Moves.{IsWholeHere, LeafTaken, Moved, TakesLeaf, plain_label, unpassable}
 use Rattle.js_parsing.specs.Stands.{StandsHere}
 use Rattle.js_parsing.specs.States.{At, Same, NodesLie}
@@ -86,7 +86,7 @@ module _ {text : List ℕ} {f : Flags} {p : Parser} (a : At text f p) where
   no_names_plainly s n true = no_computed s
   no_names_plainly s n false = n
 
-  pub escaped_names : p.token.escaped ≡ true → NoNames text f p.prev_token_end
+  pub escaped_names : escaped_word p.token.kind p.token.escaped ≡ true → NoNames text f p.prev_token_end
   escaped_names e c = fails_escaped a e
 
   -- ---- a word

@@ -37,14 +37,15 @@ use Rattle.js_parsing.specs.declared.nested.MethodForm.TheVariants.{Method, Gett
 use Rattle.js_base.specs.declared.diagnostic.Diagnostic.{Diagnostic}
 use Rattle.js_parsing.specs.Answers.{Answer, Grown, Numbered, Stops, Underived}
 use Rattle.js_parsing.specs.Arguments.{PartTaken, behind_item}
-use Rattle.js_parsing.specs.Lexemes.{Lex, is_read, may_name, name_kinds, read_kinds, read_word}
+use Rattle.js_parsing.specs.Lexemes.{Lex, escaped_word, is_read, may_name, name_kinds, read_kinds, read_word}
 use Rattle.js_parsing.proofs.NameKinds.{listed_name}
 use Rattle.js_parsing.specs.Moves.{Moved, MadeHere, plain_label}
 use Rattle.js_parsing.specs.States.{At, Same, NodesLie}
 use Rattle.js_parsing.proofs.Here.{begins_here, kind_here}
 use Rattle.js_parsing.proofs.MadeNodes.{from_start, leaf_held, node_held, one_lies}
 use Rattle.js_parsing.proofs.Moving.{beside_nodes, same_both, same_with, stops_behind}
-use Rattle.js_parsing.proofs.Paths.{Path, ◌⟼◌, ◌⟶◌, ◌⟶✗◌, by_symbol_as, fails_at, flagged_by, flagged_here, label_here, last_called, noded, one_read, passes_test, read_of, token}
+use Rattle.js_parsing.proofs.Paths.{Path, ◌⟼◌, ◌⟶◌, ◌⟶✗◌, by_symbol_as, fails_at, flagged_by, flagged_here, label_here, last_called, noded, one_read, passes_test, token}
+use Rattle.js_parsing.proofs.Escapes.{plain_word, read_as}
 use Rattle.js_parsing.proofs.Signs.{other_kind, plain_sign}
 use Rattle.js_parsing.proofs.Verdicts.{grown_then, verdict_of}
 use Rattle.js_operands.proofs.Members.{name_of, word_signless, word_signless}
@@ -128,11 +129,11 @@ literals = string ◇ number ◇ never
 abbrev next_kinds : Look
 next_kinds k w e = one_of_kinds (Comma ∷ RParen ∷ RBrack ∷ RCurly ∷ []) k
 
-module _ {text : List ℕ} {f : Flags} {p q : Parser} (a : At text f p) (r : read_word p.token.kind ≡ true) (n : p.token.escaped ≡ false) (m : Moved text f p q) where
+module _ {text : List ℕ} {f : Flags} {p q : Parser} (a : At text f p) (r : read_word p.token.kind ≡ true) (n : escaped_word p.token.kind p.token.escaped ≡ false) (m : Moved text f p q) where
   word_is : IsTrue (is_read m.lexeme) × IsTrue (is_word m.lexeme.kind)
   word_is =
       let z = and_parts (one_of_kinds read_kinds p.token.kind) (is_word p.token.kind) (covered read_words word_kinds words_are p.token.kind false false r) in
-      (read_of m.lexeme (sym m.tells.kind) (sym m.tells.escaped ∙ n) z.0, subst (λ (k : Kind). is_word k ≡ true) m.tells.kind z.1)
+      (read_as m.lexeme m.tells n z.0, subst (λ (k : Kind). is_word k ≡ true) m.tells.kind z.1)
 
   abbrev word_label : Label
   word_label = label_here identifier_name no_op p q
@@ -170,7 +171,7 @@ module _ {text : List ℕ} {f : Flags} {p q : Parser} (a : At text f p) (r : rea
       behind false e = done ▹✗ (done ▹✗ no_first (no_name_begins m.at c (kinds_apart ends_name_kinds property_name_kinds refl q.token.kind e)))
 
       at_async : same_kind Async p.token.kind ≡ true → Fails rule (Lex text) (plain full) end (no_newline ▸ only b (tok Star) ▸ nothing ▸ name c false f ▸ method_left Method true b f) q.prev_token_end → Fails rule (Lex text) (plain full) end (async_line c b f) p.prev_token_end
-      at_async k i = part_path_fails {ids = []} {js = []} (part_within (part_sign Async a (sym (kind_of_same Async p.token.kind k)) n refl m)) i
+      at_async k i = part_path_fails {ids = []} {js = []} (part_within (part_sign Async a (sym (kind_of_same Async p.token.kind k)) (plain_word {p.token} (sym (kind_of_same Async p.token.kind k)) refl n) refl m)) i
 
       go : (x y z : Bool) → same_kind Async p.token.kind ≡ x → one_of_kinds ends_name_kinds q.token.kind ≡ y → q.token.is_on_new_line ≡ z → (if y || z then false else x) ≡ false → Fails rule (Lex text) (plain full) end (async_line c b f) p.prev_token_end
       go false y z k e w h = no_async_line a c (ap (λ (x : Bool). x || false) k) b
@@ -195,7 +196,7 @@ module _ {text : List ℕ} {f : Flags} {p q : Parser} (a : At text f p) (r : rea
   no_getter_behind h c = go (same_kind Get p.token.kind) refl
     where
       go : (b : Bool) → same_kind Get p.token.kind ≡ b → Fails rule (Lex text) behind_item end (getter_of c f) p.prev_token_end
-      go true e = fails_node inside_full (token Get a (sym (kind_of_same Get p.token.kind e)) n refl m ⟶✗ no_first (no_name_begins m.at c (kinds_apart ends_name_kinds property_name_kinds refl q.token.kind h)))
+      go true e = fails_node inside_full (token Get a (sym (kind_of_same Get p.token.kind e)) (plain_word {p.token} (sym (kind_of_same Get p.token.kind e)) refl n) refl m ⟶✗ no_first (no_name_begins m.at c (kinds_apart ends_name_kinds property_name_kinds refl q.token.kind h)))
       go false e = no_getter a c (ap (λ (b : Bool). b || false) e)
 
   no_setter_behind : one_of_kinds ends_name_kinds q.token.kind ≡ true → (c : Bool) → Fails rule (Lex text) behind_item end (setter_of c f) p.prev_token_end
@@ -203,7 +204,7 @@ module _ {text : List ℕ} {f : Flags} {p q : Parser} (a : At text f p) (r : rea
   no_setter_behind h c = go (same_kind Set p.token.kind) refl
     where
       go : (b : Bool) → same_kind Set p.token.kind ≡ b → Fails rule (Lex text) behind_item end (setter_of c f) p.prev_token_end
-      go true e = fails_node inside_full (token Set a (sym (kind_of_same Set p.token.kind e)) n refl m ⟶✗ no_first (no_name_begins m.at c (kinds_apart ends_name_kinds property_name_kinds refl q.token.kind h)))
+      go true e = fails_node inside_full (token Set a (sym (kind_of_same Set p.token.kind e)) (plain_word {p.token} (sym (kind_of_same Set p.token.kind e)) refl n) refl m ⟶✗ no_first (no_name_begins m.at c (kinds_apart ends_name_kinds property_name_kinds refl q.token.kind h)))
       go false e = no_setter a c (ap (λ (b : Bool). b || false) e)
 
   pub no_accessor : form_of p.token.kind q.token.kind ≡ None → (c : Bool) → Fails rule (Lex text) behind_item end (getter_of c f) p.prev_token_end × Fails rule (Lex text) behind_item end (setter_of c f) p.prev_token_end
@@ -258,7 +259,7 @@ module _ {text : List ℕ} {f : Flags} {p q : Parser} (a : At text f p) (r : rea
 pub name_word : (k : Kind) → one_of_kinds name_kinds k ≡ true → read_word k ≡ true
 name_word k h = or_left (one_of_kinds name_kinds k) _ h
 
-module _ {text : List ℕ} {f : Flags} {p q : Parser} (a : At text f p) (i : may_name f.yield_ f.await_ p.token.kind ≡ true) (n : p.token.escaped ≡ false) (m : Moved text f p q) where
+module _ {text : List ℕ} {f : Flags} {p q : Parser} (a : At text f p) (i : may_name f.yield_ f.await_ p.token.kind ≡ true) (n : escaped_word p.token.kind p.token.escaped ≡ false) (m : Moved text f p q) where
   abbrev reference_label : Label
   reference_label = label_here identifier_reference no_op p q
 

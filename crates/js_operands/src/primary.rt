@@ -27,7 +27,7 @@ use js_base::{Kind, Span};
 use js_cursor::{ParserImpl, Stop};
 use js_lex::ParserConfig;
 use js_parsing::context::expression_with_in;
-use js_parsing::lexemes::{advance, name_stands, stands};
+use js_parsing::lexemes::{advance, escaped_word_stands, name_stands, stands};
 use js_parsing::nested::Nested;
 use js_parsing::nodes::{make_leaf, make_one};
 use js_tree::{BigintBase, NodeFlags, NodeId, NodeKind, NumberBase, Op, ParserAstBuilder};
@@ -42,7 +42,7 @@ pub fn parse_primary_expression<C: ParserConfig, N: Nested<C>>(
     requires nests { CanNest (N.can nested.now) (room p.old) }
     ensures { Answers (at Primary) p.old p.new result }
 {
-    if p.cur_token().escaped() {
+    if escaped_word_stands(p) {
         return Err(p.set_unexpected());
     }
     if name_stands(p) {

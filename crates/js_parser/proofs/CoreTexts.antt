@@ -28,15 +28,20 @@ use Rattle.js_lex.specs.declared.output.LexerOutput.{LexerOutput}
 use Rattle.js_lex.specs.Reading.{LexemeBehind}
 use Rattle.js_lex.specs.States.{goal_of}
 use Rattle.js_parsing.specs.Lexemes.{Faultless, is_read, read_kinds}
+use Rattle.js_parsing.proofs.Paths.{read_of}
 use Rattle.js_tree.specs.Nodes.{Node}
 use Rattle.js_parser.specs.Parsed.{options_of, IsAnswer}
 use Rattle.js_parser.specs.Readings.{parameters, read_at, Reading, ReadingBy, IsOnlyReading, HasNoReading, AreRead, from_text_start, behind_a_hashbang}
 use Rattle.js_parser.specs.EarlyErrors.{MeetsEarlyRules}
 use Rattle.js_parser.specs.CoreAnswers.{IsOnlyCoreReading, HasNoCoreReading, IsCoreAnswer}
 
+plainly_so : (b : Bool) → not b ≡ true → b ≡ false
+plainly_so true h = absurd (false≢true h)
+plainly_so false h = refl
+
 -- a core lexeme is read
 read_so : (y : Lexeme) → core_lexeme y ≡ true → is_read y ≡ true
-read_so y h = let k = and_parts (one_of_kinds core_kinds y.kind) (not y.escaped) h in and_from _ _ (every_at (one_of_kinds read_kinds) core_kinds y.kind k.0 refl) k.1
+read_so y h = let k = and_parts (one_of_kinds core_kinds y.kind) (not y.escaped) h in read_of y refl (plainly_so y.escaped k.1) (every_at (one_of_kinds read_kinds) core_kinds y.kind k.0 refl)
 
 all_read : (text : List ℕ) (goal : Goal) (s : ℕ) (ls : Lexemes) → Lexes (Lex (passing_of goal) text) s ls → AllCore ls → Lexes (Faultless goal text) s ls
 all_read text goal s (last x) l c = (l, read_so x c)

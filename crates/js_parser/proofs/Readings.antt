@@ -37,7 +37,7 @@ use Rattle.js_statements.specs.declared.statement_list.StatementList.TheVariants
 use Rattle.js_parsing.proofs.Beginning.{begins, begins_with_hashbang, behind_first, none_noted}
 use Rattle.js_parsing.proofs.Giving.{fails_none}
 use Rattle.js_parsing.proofs.Here.{alike, told, plain_there, kind_here}
-use Rattle.js_parsing.proofs.Paths.{at_kind}
+use Rattle.js_parsing.proofs.Paths.{at_kind, read_of}
 use Rattle.js_parsing.proofs.Unbuilt.{nothing_unbuilt}
 use Rattle.js_statements.proofs.StatementLists.{none_left, text_ends}
 use Rattle.js_parsing.proofs.Verdicts.{grown_some}
@@ -102,7 +102,7 @@ end_here {text} {q = q} a e = go a.plain
     read_end : (y : Lexeme) → StandsBehind all_faults text q.prev_token_end y → y.kind ≡ Eof → IsTrue (is_read y)
     read_end y l k =
         let n : y.escaped ≡ false = l.escaped ∙ ap (λ (v : Kind). is_escaped v l.word) k in
-        and_from _ _ (ap (one_of_kinds read_kinds) k) (ap not n)
+        read_of y k n refl
 
     go : IsPlain text q → (y : Lexeme) × Lex text q.prev_token_end y × (y.kind ≡ Eof)
     go (whole c n x) = let k : x.lexeme.kind ≡ Eof = sym x.tells.kind ∙ e in (x.lexeme, (x.stands.lex, read_end x.lexeme x.stands.lex k), k)

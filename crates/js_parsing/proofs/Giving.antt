@@ -1,6 +1,5 @@
 -- What is said where a parse function gives up, and where nothing is read.
-use Rattle.std.proofs.Common.{ℕ, ◌≡◌, true, List, [], ◌∷◌, sym, ap, subst, ◌∙◌}
-use Rattle.std.proofs.lemmas.Bool.{false≢true}
+use Rattle.std.proofs.Common.{ℕ, ◌≡◌, true, List, [], ◌∷◌, sym, ap, subst}
 use Rattle.js_base.specs.declared.diagnostic.Diagnostic.{Diagnostic}
 use Rattle.js_grammar.specs.Trees.{Slots}
 use Rattle.js_grammar.specs.Grammar.{Lexeme, here}
@@ -14,11 +13,10 @@ use Rattle.js_cursor.specs.declared.stop.Stop.{Stop}
 use Rattle.js_cursor.specs.declared.stop.Stop.TheVariants.{Fatal, NoMemory}
 use Rattle.js_cursor.proofs.Later.{keeps_follows}
 use Rattle.js_parsing.specs.Heads.{NotedHeads}
-use Rattle.js_parsing.specs.Lexemes.{Lex}
+use Rattle.js_parsing.specs.Lexemes.{Lex, escaped_word}
 use Rattle.js_parsing.specs.States.{At, NodesLie}
 use Rattle.js_parsing.specs.Answers.{Grown, Stops, Unbuilt}
-use Rattle.js_parsing.proofs.Here.{escaped_here}
-use Rattle.js_parsing.proofs.Tight.{read_plain}
+use Rattle.js_parsing.proofs.Escapes.{none_escaped}
 use Rattle.js_parsing.proofs.ToEnd.{to_end_stays, unbuilt_to_end}
 use Rattle.js_parsing.specs.Classes.{EndsParse}
 use Rattle.js_parsing.proofs.Classes.{unexpected_ends}
@@ -55,6 +53,6 @@ memory_stops p q NoMemory F m = tt
 pub fails_none : {text : List ℕ} {s : ℕ} {X : Test} {ks : Slots} {g : G} → ((y : Lexeme) → Lex text s y → ⊥) → Fails rule (Lex text) X ks g s
 fails_none {text} n = record { no = λ ts vs k ls rest l d e. n (here ls) (here_at (Lex text) ls l) }
 
--- no lexeme with an escape is read
-pub fails_escaped : {text : List ℕ} {f : Flags} {p : Parser} {X : Test} {ks : Slots} {g : G} → At text f p → p.token.escaped ≡ true → Fails rule (Lex text) X ks g p.prev_token_end
-fails_escaped a e = fails_none (λ y l. false≢true (sym (read_plain y l.1) ∙ (escaped_here a y l ∙ e)))
+-- no word with an escape is read
+pub fails_escaped : {text : List ℕ} {f : Flags} {p : Parser} {X : Test} {ks : Slots} {g : G} → At text f p → escaped_word p.token.kind p.token.escaped ≡ true → Fails rule (Lex text) X ks g p.prev_token_end
+fails_escaped a e = fails_none (none_escaped a e)

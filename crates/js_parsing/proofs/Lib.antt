@@ -5,6 +5,7 @@ pub mod Contexts
 pub mod Dead
 pub mod Deeper
 pub mod Edges
+pub mod Escapes
 pub mod Expected
 pub mod FreeOfIn
 pub mod Giving

@@ -17,7 +17,7 @@ use Rattle.js_grammar.proofs.Looks.{covers, covered, apart, not_both}
 use Rattle.js_grammar.proofs.FirstRules.{pick}
 use Rattle.js_cursor.specs.Moves.{is_last}
 use Rattle.js_cursor.specs.Parsers.{Parser}
-use Rattle.js_parsing.specs.Lexemes.{Lex, is_read, may_name, name_kinds, read_kinds}
+use Rattle.js_parsing.specs.Lexemes.{Lex, escaped_word, is_read, may_name, name_kinds, read_kinds}
 use Rattle.js_parsing.specs.Moves.{IsWholeHere}
 use Rattle.js_parsing.specs.Stands.{NameHere, NameUnder}
 use Rattle.js_parsing.specs.States.{At}
@@ -132,7 +132,7 @@ pub name_so : (p : Parser) {b r : Bool} → r ≡ b → NameHere p r → NameHer
 name_so p e s = subst (λ (c : Bool). NameHere p c) e s
 
 -- none of another kind
-pub no_name_here : (f : Flags) (p : Parser) → NameUnder f.yield_ f.await_ p false → p.token.escaped ≡ false → may_name f.yield_ f.await_ p.token.kind ≡ false
+pub no_name_here : (f : Flags) (p : Parser) → NameUnder f.yield_ f.await_ p false → escaped_word p.token.kind p.token.escaped ≡ false → may_name f.yield_ f.await_ p.token.kind ≡ false
 no_name_here f p n e = go (may_name f.yield_ f.await_ p.token.kind) refl
   where
     go : (b : Bool) → may_name f.yield_ f.await_ p.token.kind ≡ b → may_name f.yield_ f.await_ p.token.kind ≡ false

@@ -2,7 +2,7 @@
 use Rattle.std.proofs.Common.{ℕ, ◌≡◌, ◌<◌, max, List, [], ◌∷◌, ◌⊎◌, inl, inr, Bool, true, false, not, ◌&&◌, ◌||◌, IsTrue, refl, sym, ap, subst, arith, ◌∙◌}
 use Rattle.std.proofs.lemmas.Bool.{false≢true, and_parts, and_from}
 use Rattle.js_base.specs.declared.kind.Kind.{Kind}
-use Rattle.js_base.specs.declared.kind.Kind.TheVariants.{RAngle}
+use Rattle.js_base.specs.declared.kind.Kind.TheVariants.{Ident, RAngle}
 use Rattle.js_base.specs.Kinds.{same_kind, one_of_kinds}
 use Rattle.js_base.proofs.KindLemmas.{kind_of_same}
 use Rattle.js_grammar.specs.Trees.{Slots, end, tree, Label, Op, NodeKind}
@@ -23,7 +23,7 @@ use Rattle.js_grammar.proofs.FirstRules.{by_first, fails_here, picks, pick}
 use Rattle.js_grammar.proofs.FollowLaws.{surely}
 use Rattle.js_lex.specs.Reading.{is_right_angle}
 use Rattle.js_cursor.specs.Parsers.{Parser}
-use Rattle.js_parsing.specs.Lexemes.{Lex, Walked, Spot, spot, nowhere, one_more, read_again, more_faults, is_read, other_goals, read_kinds, signs, signs_of}
+use Rattle.js_parsing.specs.Lexemes.{Lex, Walked, Spot, spot, nowhere, one_more, read_again, more_faults, escaped_word, is_read, other_goals, read_kinds, signs, signs_of}
 use Rattle.js_parsing.specs.States.{At}
 use Rattle.js_parsing.specs.Moves.{Moved}
 use Rattle.js_parsing.specs.Answers.{Verdict, clean, Stretch, Answer}
@@ -55,7 +55,7 @@ walked_one s = walked_to (sym s.spot_is) (one_more nowhere s.is_new s.plain)
 
 -- the lexemes that are read
 abbrev pub reads : Look
-reads k w e = one_of_kinds read_kinds k && not e
+reads k w e = one_of_kinds read_kinds k && not (escaped_word k e)
 
 abbrev pub angles : Look
 angles k w e = is_right_angle k
@@ -72,9 +72,9 @@ settled ks = apart angles (λ k w e. one_of_kinds ks k) && every_kind (λ o. one
 abbrev pub begins_by : G → Look → List Kind → Bool
 begins_by g F ks = covers (λ k w e. starts first g F k w e && reads k w e) (λ k w e. one_of_kinds ks k) && settles ks
 
--- a token of a kind that is read is the whole of a lexeme that is
+-- a token of a kind that is read, without an escape, is the whole of a lexeme that is
 pub read_of : (y : Lexeme) {k : Kind} → y.kind ≡ k → y.escaped ≡ false → one_of_kinds read_kinds k ≡ true → IsTrue (is_read y)
-read_of y e q h = and_from _ _ (subst (λ v. one_of_kinds read_kinds v ≡ true) (sym e) h) (ap not q)
+read_of y e q h = and_from _ _ (subst (λ v. one_of_kinds read_kinds v ≡ true) (sym e) h) (ap (λ (b : Bool). not (b && not (same_kind Ident y.kind))) q)
 
 -- none of these kinds is that of a cut sign
 no_angle : (ks : List Kind) → apart angles (λ k w e. one_of_kinds ks k) ≡ true → (k : Kind) → one_of_kinds ks k ≡ true → same_kind RAngle k ≡ false

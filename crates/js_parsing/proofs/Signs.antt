@@ -2,7 +2,7 @@
 use Rattle.std.proofs.Common.{ℕ, ◌≡◌, ◌≤◌, List, [], ◌∷◌, length, Bool, true, false, ◌&&◌, ◌||◌, IsTrue, refl, sym, ap, subst, arith, ◌∙◌}
 use Rattle.std.proofs.lemmas.Bool.{false≢true}
 use Rattle.js_base.specs.declared.kind.Kind.{Kind}
-use Rattle.js_base.specs.declared.kind.Kind.TheVariants.{Question, Colon, PrivateIdentifier, RAngle, Undetermined}
+use Rattle.js_base.specs.declared.kind.Kind.TheVariants.{Ident, Question, Colon, PrivateIdentifier, RAngle, Undetermined}
 use Rattle.js_base.specs.declared.span.Span.{Span}
 use Rattle.js_base.specs.Kinds.{same_kind, one_of_kinds}
 use Rattle.js_base.specs.Texts.{words}
@@ -17,7 +17,7 @@ use Rattle.js_grammar.specs.Lexed.{Lex as StandsBehind, all_faults}
 use Rattle.js_parsing.specs.Lexemes.{Lex, other_goals}
 use Rattle.js_parsing.specs.States.{At}
 use Rattle.js_parsing.proofs.Here.{found, told_plain, uncut, kind_here, unsettled}
-use Rattle.js_parsing.proofs.Tight.{read_plain}
+use Rattle.js_parsing.proofs.Escapes.{read_listed, read_plain}
 use Rattle.std.proofs.Common.{◌<◌, ◌⊎◌, inl, inr, length-append, cond, nat_lt}
 use Rattle.std.proofs.lemmas.Bool.{or_left, or_right, lt-ltb}
 use Rattle.js_base.specs.declared.kind.Kind.TheVariants.{Eof, Comma, Semicolon, RParen, RBrack}
@@ -133,29 +133,36 @@ abbrev pub NoneIs : List ℕ → ℕ → Kind → Type 0
 NoneIs text s k = (y : Lexeme) → Lex text s y → y.kind ≡ k → ⊥
 
 module _ {text : List ℕ} {f : Flags} {p : Parser} (a : At text f p) where
-  pub stands_there : {k : Kind} → p.token.kind ≡ k → one_of_kinds unsettled k ≡ false → AllAre text p.prev_token_end k
-  stands_there e n y l = (kind_here a e n y l, read_plain y l.1)
+  pub stands_there : {k : Kind} → p.token.kind ≡ k → one_of_kinds (Ident ∷ unsettled) k ≡ false → AllAre text p.prev_token_end k
+  stands_there {k} e n y l = go (same_kind Ident k) refl n
+    where
+      go : (b : Bool) → same_kind Ident k ≡ b → (b || one_of_kinds unsettled k) ≡ false → (y.kind ≡ k) × (y.escaped ≡ false)
+      go true i h = absurd (false≢true (sym h))
+      go false i h = let z = kind_here a e h y l in (z, read_plain y l.1 z i)
 
-  pub stands_not : {k : Kind} → (is_right_angle k || one_of_kinds other_goals k) ≡ false → StandsHere p k false → NoneIs text p.prev_token_end k
+  pub stands_not : {k : Kind} → (is_right_angle k || one_of_kinds (Ident ∷ other_goals) k) ≡ false → StandsHere p k false → NoneIs text p.prev_token_end k
   stands_not {k} n s y l e = go p.cut refl
     where
       apart_both : (a b : Bool) → (a || b) ≡ false → (a ≡ false) × (b ≡ false)
       apart_both true b h = absurd (false≢true (sym h))
       apart_both false b h = (refl, h)
 
-      neither : (is_right_angle k ≡ false) × (one_of_kinds other_goals k ≡ false)
-      neither = apart_both (is_right_angle k) (one_of_kinds other_goals k) n
+      neither : (is_right_angle k ≡ false) × (one_of_kinds (Ident ∷ other_goals) k ≡ false)
+      neither = apart_both (is_right_angle k) (one_of_kinds (Ident ∷ other_goals) k) n
+
+      unnamed : (same_kind Ident k ≡ false) × (one_of_kinds other_goals k ≡ false)
+      unnamed = apart_both (same_kind Ident k) (one_of_kinds other_goals k) neither.1
 
       go : (b : Bool) → p.cut ≡ b → ⊥
       go true c = false≢true (sym neither.0 ∙ subst (λ v. is_right_angle v ≡ true) e (angled a c y l))
-      go false c = s ((told_plain a c y (ap (one_of_kinds other_goals) e ∙ neither.1) l).kind ∙ e) (sym (escaped_here a y l) ∙ read_plain y l.1)
+      go false c = s ((told_plain a c y (ap (one_of_kinds other_goals) e ∙ unnamed.1) l).kind ∙ e) (sym (escaped_here a y l) ∙ read_plain y l.1 e unnamed.0)
 
 -- what stands there is the closing brace, or a part of a template that begins with it
 abbrev pub AllClose : List ℕ → ℕ → Type 0
 AllClose text s = (y : Lexeme) → Lex text s y → (one_of_kinds (RCurly ∷ template_tails) y.kind ≡ true) × (y.escaped ≡ false)
 
 pub closing_there : {text : List ℕ} {f : Flags} {p : Parser} → At text f p → p.token.kind ≡ RCurly → AllClose text p.prev_token_end
-closing_there {text} {p = p} a e y l = (go (one_of_kinds other_goals y.kind) refl, read_plain y l.1)
+closing_there {text} {p = p} a e y l = let z = go (one_of_kinds other_goals y.kind) refl in (z, read_listed (RCurly ∷ template_tails) y l.1 z refl)
   where
     -- no regular expression begins with a brace
     tail : (b c : Bool) → (b || c) ≡ true → one_of_kinds (cond b slashes (cond c (RCurly ∷ []) [])) p.token.kind ≡ true → c ≡ true

@@ -102,14 +102,6 @@ level_of b Slash h = level_by b Slash 9 refl (omega arith) refl (later head)
 level_of b Percent h = level_by b Percent 9 refl (omega arith) refl (later (later head))
 level_of b _ h = absurd (omega arith)
 
--- what is read has no escape
-pub read_plain : (y : Lexeme) → IsTrue (is_read y) → y.escaped ≡ false
-read_plain y h = go y.escaped (and_parts (one_of_kinds read_kinds y.kind) (not y.escaped) h).1
-  where
-    go : (x : Bool) → not x ≡ true → x ≡ false
-    go true q = absurd (false≢true q)
-    go false q = refl
-
 -- what is read by the plain goal is read
 pub plain_is_read : (y : Lexeme) → IsTrue (is_plain y) → IsTrue (is_read y)
 plain_is_read y h = (and_parts (is_read y) (not (one_of_kinds other_goals y.kind)) h).0

@@ -55,9 +55,13 @@ signs_of k = cond (same_kind RegExp k) slashes (cond (one_of_kinds template_tail
 abbrev pub signs : List Kind
 signs = RCurly ∷ slashes
 
--- a lexeme of these kinds, without an escape
+-- Whether a lexeme of this kind has an escape, and is no plain name: a word of the keyword table, of which the rules are others then (ECMA-262, 12.7.2).
+abbrev pub escaped_word : Kind → Bool → Bool
+escaped_word k e = e && not (same_kind Ident k)
+
+-- a lexeme of these kinds, and no such word
 abbrev pub is_read : Lexeme → Bool
-is_read y = one_of_kinds read_kinds y.kind && not y.escaped
+is_read y = one_of_kinds read_kinds y.kind && not (escaped_word y.kind y.escaped)
 
 -- the reserved words among them
 abbrev pub read_reserved : Kind → Bool

@@ -7,13 +7,13 @@ ghost use Rattle.js_parsing.specs.Answers.{StopsUnbuilt};
 ghost use Rattle.js_parsing.specs.States.{Standing};
 ghost use Rattle.js_base.specs.Contexts.{has_flag, in_flag, yield_flag, await_flag};
 ghost use Rattle.js_base.specs.Kinds.{one_of_kinds};
-ghost use Rattle.js_parsing.specs.Lexemes.{may_name, name_kinds, read_kinds, read_mark, read_operator, read_reserved, read_word, unbuilt_kinds};
+ghost use Rattle.js_parsing.specs.Lexemes.{escaped_word, may_name, name_kinds, read_kinds, read_mark, read_operator, read_reserved, read_word, unbuilt_kinds};
 ghost use Rattle.js_parsing.specs.Stands.{EndsOperand, NameHere, NameUnder, ReadsHere, StandsHere};
 ghost use Rattle.js_parsing.specs.Operators.{power_of};
 ghost use Rattle.js_parsing.specs.Moves.{IsCompleted, IsWholeHere, Moves, OperatorHere};
 
 use crate::diagnostics::kept_so_far;
-use js_base::{Kind, Span};
+use js_base::{Kind, Span, Token};
 use js_cursor::{ParserImpl, Stop};
 use js_lex::ParserConfig;
 
@@ -68,6 +68,26 @@ pub fn stands<C: ParserConfig>(p: &ParserImpl<'_, C>, kind: Kind) -> bool
     ensures { StandsHere p.now kind result }
 {
     p.at(kind) && !p.cur_token().escaped()
+}
+
+/// Whether it has an escape, and is no plain name: a word of the keyword table, of which the rules are others then
+/// (ECMA-262, section 12.7.2).
+#[inline(always)]
+pub fn is_escaped_word(token: Token) -> bool
+    ensures { result ≡ escaped_word token.kind token.escaped }
+{
+    match token.kind() {
+        Kind::Ident => false,
+        _ => token.escaped(),
+    }
+}
+
+/// Whether such a word stands here.
+#[inline(always)]
+pub fn escaped_word_stands<C: ParserConfig>(p: &ParserImpl<'_, C>) -> bool
+    ensures { result ≡ escaped_word p.now.token.kind p.now.token.escaped }
+{
+    is_escaped_word(p.cur_token())
 }
 
 /// Whether it is a name, or a word that may be one (ECMA-262, section 13.1).
@@ -127,15 +147,15 @@ pub fn is_name_here<C: ParserConfig>(p: &ParserImpl<'_, C>, kind: Kind) -> bool
     is_name_under(kind, p.ctx.has_yield(), p.ctx.has_await())
 }
 
-/// Whether a name stands here, without an escape, where the parameters Yield and Await are these.
+/// Whether a name stands here, with no escape but in a plain name, where the parameters Yield and Await are these.
 #[inline(always)]
 pub fn name_stands_under<C: ParserConfig>(p: &ParserImpl<'_, C>, yields: bool, awaits: bool) -> bool
     ensures { NameUnder yields awaits p.now result }
 {
-    is_name_under(p.cur_kind(), yields, awaits) && !p.cur_token().escaped()
+    is_name_under(p.cur_kind(), yields, awaits) && !escaped_word_stands(p)
 }
 
-/// Whether a name stands here, without an escape.
+/// Whether a name stands here, with no escape but in a plain name.
 #[inline(always)]
 pub fn name_stands<C: ParserConfig>(p: &ParserImpl<'_, C>) -> bool
     ensures { NameHere p.now result }
@@ -292,8 +312,7 @@ pub fn reads_here<C: ParserConfig>(p: &ParserImpl<'_, C>) -> bool
     requires { Standing p.now }
     ensures { ReadsHere p.now result }
 {
-    let token = p.cur_token();
-    !token.escaped() && is_read_kind(token.kind())
+    !escaped_word_stands(p) && is_read_kind(p.cur_kind())
 }
 
 /// Whether a production that isn't built yet begins with this lexeme: all that begins with the kinds that are read is built.

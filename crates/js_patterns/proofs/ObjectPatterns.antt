@@ -34,13 +34,14 @@ use Rattle.js_operands.proofs.Operands.{plain_leaf, name_signless}
 use Rattle.js_operands.proofs.PropertyNames.{literal_kinds, word_named}
 use Rattle.js_parsing.specs.Answers.{Underived, Answer, Numbered, Stops}
 use Rattle.js_parsing.specs.Arguments.{behind_item, ItemTaken, NoItem}
-use Rattle.js_parsing.specs.Lexemes.{Lex, may_name, name_kinds}
+use Rattle.js_parsing.specs.Lexemes.{Lex, escaped_word, may_name, name_kinds}
 use Rattle.js_parsing.specs.Moves.{Moved, MadeHere, LeafTaken, TakesLeaf, plain_label}
 use Rattle.js_parsing.specs.Stands.{NameHere, StandsHere}
 use Rattle.js_parsing.specs.Nesting.{CanNest, room}
 use Rattle.js_parsing.specs.declared.nested.Goal.{Goal}
 use Rattle.js_parsing.specs.States.{At, Same, NodesLie, Standing}
 use Rattle.js_parsing.proofs.Expected.{not_due, unexpected}
+use Rattle.js_parsing.proofs.Escapes.{read_as}
 use Rattle.js_parsing.proofs.Giving.{fails_escaped}
 use Rattle.js_parsing.proofs.Here.{begins_here, kind_here}
 use Rattle.js_parsing.proofs.NameKinds.{a_name, listed_name, name_apart, name_at, name_read, no_name_here}
@@ -94,13 +95,13 @@ no_end_name : (k : Kind) → one_of_kinds name_kinds k ≡ true → one_of_kinds
 unfolding apart
 no_end_name k h = name_apart (Eof ∷ []) refl k h
 
-module _ {text : List ℕ} {f : Flags} {p q : Parser} (a : At text f p) (k : one_of_kinds name_kinds p.token.kind ≡ true) (e : p.token.escaped ≡ false) (m : Moved text f p q) where
+module _ {text : List ℕ} {f : Flags} {p q : Parser} (a : At text f p) (k : one_of_kinds name_kinds p.token.kind ≡ true) (e : escaped_word p.token.kind p.token.escaped ≡ false) (m : Moved text f p q) where
   abbrev pub key_label : Label
   key_label = label_here identifier_name no_op p q
 
   -- the lexeme that stands here is the one that was passed
   is_it : (y : Lexeme) → Lex text p.prev_token_end y → y ≡ m.lexeme
-  is_it y l = one_read a (name_signless p.token.kind k) l (m.stood, plain_leaf p.token.kind refl e (name_read p.token.kind k) m)
+  is_it y l = one_read a (name_signless p.token.kind k) l (m.stood, read_as m.lexeme m.tells e (name_read p.token.kind k))
 
   named_kind : (y : Lexeme) → Lex text p.prev_token_end y → one_of_kinds name_kinds y.kind ≡ true
   named_kind y l = subst (λ (v : Kind). one_of_kinds name_kinds v ≡ true) (m.tells.kind ∙ sym (ap (λ (z : Lexeme). z.kind) (is_it y l))) k
@@ -276,13 +277,13 @@ module _ {text : List ℕ} {f : Flags} {p : Parser} (a : At text f p) where
   no_shorthand n = fails_node inside_full (behind_ahead {X' = plain full} (λ ts us y e. (refl, refl)) (fails_unnamed a f (λ g. bound_by_name g) [] refl refl refl refl refl n refl))
 
   pub no_shorthand_there : NameHere p false → NoShorthand text f p.prev_token_end
-  no_shorthand_there s = by p.token.escaped refl
+  no_shorthand_there s = by (escaped_word p.token.kind p.token.escaped) refl
     where
-      by : (b : Bool) → p.token.escaped ≡ b → NoShorthand text f p.prev_token_end
+      by : (b : Bool) → escaped_word p.token.kind p.token.escaped ≡ b → NoShorthand text f p.prev_token_end
       by true e = fails_escaped a e
       by false e = no_shorthand (no_name_here f p (name_at false a s) e)
 
-  module _ (k : may_name f.yield_ f.await_ p.token.kind ≡ true) (e : p.token.escaped ≡ false) where
+  module _ (k : may_name f.yield_ f.await_ p.token.kind ≡ true) (e : escaped_word p.token.kind p.token.escaped ≡ false) where
     listed : one_of_kinds name_kinds p.token.kind ≡ true
     listed = listed_name f.yield_ f.await_ p.token.kind k
 
@@ -369,7 +370,7 @@ pub name_place : {text : List ℕ} {f : Flags} {p q : Parser} {key : NodeId} →
 name_place {text} {f} a t = let x = t text f a in x.moved.tells.end ∙ (x.moved.ends ∙ sym (ap (λ (z : Parser). z.prev_token_end) x.made.stays))
 
 -- a colon stands behind it
-pub no_shorthand_named : {text : List ℕ} {f : Flags} {p q : Parser} {key : NodeId} → At text f p → may_name f.yield_ f.await_ p.token.kind ≡ true → p.token.escaped ≡ false → TakesLeaf node_kind.IdentifierName op_made.None p q key → q.token.kind ≡ Colon → NoShorthand text f p.prev_token_end
+pub no_shorthand_named : {text : List ℕ} {f : Flags} {p q : Parser} {key : NodeId} → At text f p → may_name f.yield_ f.await_ p.token.kind ≡ true → escaped_word p.token.kind p.token.escaped ≡ false → TakesLeaf node_kind.IdentifierName op_made.None p q key → q.token.kind ≡ Colon → NoShorthand text f p.prev_token_end
 no_shorthand_named {text} {f} a k e t c = let x = t text f a in no_shorthand_here a k e x.moved (sym (ap (λ (z : Parser). z.token.kind) x.made.stays) ∙ c)
 
 -- a node was made here

@@ -85,7 +85,7 @@ module _ {text : List ℕ} {f : Flags} {X : Test} where
 
 module _ {text : List ℕ} {f : Flags} {p : Parser} (a : At text f p) where
   -- a lexeme that is due doesn't stand here
-  pub no_token : {X : Test} {g : G} (k : Kind) → (is_right_angle k || one_of_kinds other_goals k) ≡ false → StandsHere p k false → Fails rule (Lex text) X end (tok k ▸ g) p.prev_token_end
+  pub no_token : {X : Test} {g : G} (k : Kind) → (is_right_angle k || one_of_kinds (kind.Ident ∷ other_goals) k) ≡ false → StandsHere p k false → Fails rule (Lex text) X end (tok k ▸ g) p.prev_token_end
   no_token k n s = then_fails (fails_lexeme (is k) (λ y l h. stands_not a n s y l (sym (kind_of_same k y.kind (and_parts (same_kind k y.kind) (not y.escaped) h).0))))
 
   -- which was told

@@ -91,7 +91,7 @@ stretch_not {text} {g} {s} {s'} k z n = record { no = λ ts vs j ls rest l d e. 
         let y = z.goes.only ts vs j ls rest l d e in
         n (here rest) (here_at (Lex text) rest (subst (λ (v : Lexemes). Lexes (Lex text) s' v) (ends y.4).2 y.3)) (sym (kind_of_same k (here rest).kind (and_parts (same_kind k (here rest).kind) (not (here rest).escaped) e.0).0))
 
-ending_angle : (e : Ending) → (is_right_angle (end_kind e) || one_of_kinds other_goals (end_kind e)) ≡ false
+ending_angle : (e : Ending) → (is_right_angle (end_kind e) || one_of_kinds (kind.Ident ∷ other_goals) (end_kind e)) ≡ false
 ending_angle ending.Semicolon = refl
 ending_angle ending.In = refl
 ending_angle ending.Of = refl
@@ -171,7 +171,7 @@ module _ {text : List ℕ} {f : Flags} (is_await : Bool) {p : Parser} (a : At te
   name_here : LetIsName text true p.prev_token_end
   name_here = n.2 text f a
 
-  no_declared : {X : Test} {g : G} (w : Kind) → (is_right_angle w || one_of_kinds other_goals w) ≡ false → StandsHere p w false → Fails rule (Lex text) X end (op variable_declaration w (tok w ▸ g)) p.prev_token_end
+  no_declared : {X : Test} {g : G} (w : Kind) → (is_right_angle w || one_of_kinds (kind.Ident ∷ other_goals) w) ≡ false → StandsHere p w false → Fails rule (Lex text) X end (op variable_declaration w (tok w ▸ g)) p.prev_token_end
   no_declared w r s = fails_node inside_full (no_token a w r s)
 
   no_let_word : {X : Test} (g : G) → covers (starts first g full) (λ k w e. behind_let true k) ≡ true → Fails rule (Lex text) X end (op variable_declaration kind.Let (tok kind.Let ▸ g)) p.prev_token_end

@@ -50,7 +50,7 @@ use Rattle.js_parsing.proofs.MadeNodes.{node_held, one_lies}
 use Rattle.js_parsing.proofs.Moving.{same_both, same_itself}
 use Rattle.js_parsing.proofs.Parts.{part_path}
 use Rattle.js_parsing.proofs.Paths.{Path, ◌⟼◌, at_kind, by_symbol_as, flagged_by, flagged_here, walked_to}
-use Rattle.js_parsing.proofs.Tight.{read_plain}
+use Rattle.js_parsing.proofs.Escapes.{read_plain}
 use Rattle.js_parsing.proofs.Told.{told_at, told_same}
 use Rattle.js_parsing.proofs.Verdicts.{after as grown_behind, verdict_of}
 use Rattle.js_statements.proofs.Statements.{by_such_statement, item_left, labels_fail, never_open, no_expression, no_lexical, no_symbol, sub_left}
@@ -63,7 +63,7 @@ module _ {text : List ℕ} {f : Flags} {p : Parser} (a : At text f p) (h : Stand
   on_line z l =
       let w = n text f a in
       let e : z ≡ w.0 = one_function w.1 w.2 l in
-      subst (λ (y : Lexeme). IsTrue (seen function_on_line y)) (sym e) (rw (w.2, w.3, read_plain w.0 w.1.1) refl)
+      subst (λ (y : Lexeme). IsTrue (seen function_on_line y)) (sym e) (rw (w.2, w.3, read_plain w.0 w.1.1 w.2 refl) refl)
 
   -- no colon stands there, so it is no label
   no_label_there : (X : Test) → Fails rule (Lex text) X end (symbol Labeled f) p.prev_token_end

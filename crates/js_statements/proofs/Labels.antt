@@ -48,7 +48,7 @@ use Rattle.js_statements.proofs.Statements.{by_statement, no_function, no_functi
 use Rattle.js_statements.specs.LetStatements.{behind_let, LetIsName}
 use Rattle.js_statements.proofs.WordLookaheads.{AsyncIsName, let_word, not_followed, ◌⇒✗◌}
 use Rattle.js_statements.proofs.Strings.{name_look, name_node, name_expression}
-use Rattle.js_parsing.proofs.Tight.{read_plain}
+use Rattle.js_parsing.proofs.Escapes.{read_as, read_plain}
 use Rattle.js_parsing.proofs.Verdicts.{either_way, verdict_of, grown_then}
 use Rattle.js_parsing.proofs.Verdicts.{after as grown_behind}
 use Rattle.js_operands.proofs.Operands.{name_signless}
@@ -155,7 +155,7 @@ module _ {text : List ℕ} {f : Flags} {p q : Parser} (a : At text f p) (x : Ans
       let w = name_whole a is_listed in
       let z = found a w.0 w.1 in
       let k : may_name f.yield_ f.await_ z.0.kind ≡ true = subst (λ (v : Kind). may_name f.yield_ f.await_ v ≡ true) z.2.kind is_name in
-      (z.0, (z.1, read_of z.0 refl (sym z.2.escaped ∙ i.plain) (name_read z.0.kind (listed_name f.yield_ f.await_ z.0.kind k))), k, sym z.2.end ∙ i.place)
+      (z.0, (z.1, read_as z.0 z.2 i.plain (name_read p.token.kind is_listed)), k, sym z.2.end ∙ i.place)
 
   looks_so : IsTrue (seen (name_look f) name.0)
   looks_so = name_passes f name.0 name.2
@@ -174,7 +174,7 @@ module _ {text : List ℕ} {f : Flags} {p q : Parser} (a : At text f p) (x : Ans
       let y = name.0 in let z = colon.0 in
       let l : Lex text y.to z = subst (λ (e : ℕ). Lex text e z) (sym name.3) colon.1 in
       let cs = label_of name_node (next y (last z)) y.to (last z) in
-      n.no (tree cs end end) end y.to (next y (last z)) (last z) (name.1, l) (name_expression looks_so) (admits (at Expression f) (tree cs end end) z (covered (is Colon) (looser 1 f.in_ after_expression) (colon_ends f.in_) z.kind z.newline z.escaped (and_from _ _ (rw (colon.2) refl) (ap not (read_plain z colon.1.1)))))
+      n.no (tree cs end end) end y.to (next y (last z)) (last z) (name.1, l) (name_expression looks_so) (admits (at Expression f) (tree cs end end) z (covered (is Colon) (looser 1 f.in_ after_expression) (colon_ends f.in_) z.kind z.newline z.escaped (and_from _ _ (rw (colon.2) refl) (ap not (read_plain z colon.1.1 colon.2 refl)))))
 
   -- and nothing else was passed
   only_name : Stretch text (after (at Expression f)) (such (at Expression f) always) p.prev_token_end nothing q.prev_token_end (tree x.label x.slots) x.pass → x.pass (last colon.0) ≡ next name.0 (last colon.0)
@@ -183,7 +183,7 @@ module _ {text : List ℕ} {f : Flags} {p q : Parser} (a : At text f p) (x : Ans
       let y = name.0 in let z = colon.0 in
       let l : Lex text y.to z = subst (λ (e : ℕ). Lex text e z) (sym name.3) colon.1 in
       let cs = label_of name_node (next y (last z)) y.to (last z) in
-      let w = u.goes.only (tree cs end end) end y.to (next y (last z)) (last z) (name.1, l) (name_expression looks_so) (admits (at Expression f) (tree cs end end) z (covered (is Colon) (looser 1 f.in_ after_expression) (colon_ends f.in_) z.kind z.newline z.escaped (and_from _ _ (rw (colon.2) refl) (ap not (read_plain z colon.1.1))))) in
+      let w = u.goes.only (tree cs end end) end y.to (next y (last z)) (last z) (name.1, l) (name_expression looks_so) (admits (at Expression f) (tree cs end end) z (covered (is Colon) (looser 1 f.in_ after_expression) (colon_ends f.in_) z.kind z.newline z.escaped (and_from _ _ (rw (colon.2) refl) (ap not (read_plain z colon.1.1 colon.2 refl))))) in
       ap x.pass (sym (ends w.4).2) ∙ sym w.5
 
   name_passed : (ls : Lexemes) → x.pass ls ≡ next name.0 ls

@@ -47,7 +47,7 @@ use Rattle.js_cursor.specs.Parsers.{Parser}
 use Rattle.js_cursor.specs.Moves.{MayEnd, EndsOr, GivesUp, IsUnexpected, OnlyMemory, ends_statement}
 use Rattle.js_cursor.specs.declared.stop.Stop.{Stop}
 use Rattle.js_cursor.specs.declared.stop.Stop.TheVariants.{Fatal, NoMemory}
-use Rattle.js_parsing.specs.Lexemes.{Lex, may_name, name_kinds, other_goals, read_kinds, signs_of, slashes, template_tails, Plain}
+use Rattle.js_parsing.specs.Lexemes.{Lex, escaped_word, may_name, name_kinds, other_goals, read_kinds, signs_of, slashes, template_tails, Plain}
 use Rattle.js_parsing.specs.States.{At, Same, NodesLie}
 use Rattle.js_parsing.specs.Moves.{IsWholeHere, Moved, MadeHere, LeafTaken, TakesLeaf, plain_label, unpassable}
 use Rattle.js_parsing.specs.Answers.{Underived, Answer, Numbered, Stops, beside}
@@ -61,7 +61,8 @@ use Rattle.js_parsing.proofs.Signs.{closing_there}
 use Rattle.js_parsing.proofs.Dead.{live, lives}
 use Rattle.js_parsing.proofs.MadeNodes.{leaf_held, one_held, one_lies, LabelLies, from_start}
 use Rattle.js_parsing.proofs.Paths.{begins_by, reads, Path, ◌⟼◌, ◌⟶◌, ◌⟶✗◌, at_kind, not_here, fails_at, last_token, noded, noded_by, by_symbol_as, label_here}
-use Rattle.js_parsing.proofs.Tight.{read_plain, plain_so}
+use Rattle.js_parsing.proofs.Escapes.{read_plain, read_word_plain, token_read, unescaped_word}
+use Rattle.js_parsing.proofs.Tight.{plain_so}
 use Rattle.js_statements.proofs.Strings.{name_look, name_node, name_expression}
 use Rattle.js_parsing.proofs.Giving.{gives_up, gives_up_here}
 use Rattle.js_parsing.proofs.Classes.{here_ends}
@@ -81,7 +82,7 @@ a ⟝ b = record { at = a.at; further = a.further; pass = a.pass; walked = a.wal
 
 -- what goes on with no expression on a new line, and is no semicolon and no link: before it one may be left out
 abbrev on_a_line : Row → Look
-on_a_line r k w e = not e && ((looser 1 true r k w e || beside k w e) && (w && (not (one_of_kinds link_kinds k) && not (same_kind Semicolon k))))
+on_a_line r k w e = not (escaped_word k e) && ((looser 1 true r k w e || beside k w e) && (w && (not (one_of_kinds link_kinds k) && not (same_kind Semicolon k))))
 
 line_omits : (r : Row) → covers (on_a_line r) (may_omit (goes_on r)) ≡ true
 unfolding covers
@@ -256,9 +257,9 @@ module _ {text : List ℕ} {f : Flags} {q : Parser} (a : At text f q) where
       let e : y.kind ≡ RegExp = sym (kind_of_same RegExp y.kind i) in
       let z = sign_there l.0 h in
       let a_slash : one_of_kinds slashes z.lexeme.kind ≡ true = subst (λ (k : Kind). one_of_kinds (signs_of k) z.lexeme.kind ≡ true) e z.is in
-      let n : z.lexeme.escaped ≡ false = z.escaped ∙ read_plain y l.1 in
+      let n : z.lexeme.escaped ≡ false = z.escaped ∙ read_plain y l.1 e refl in
       let k = and_parts (one_of_kinds read_kinds z.lexeme.kind) _ (covered (λ k w e. one_of_kinds slashes k) slash_is slash_read z.lexeme.kind false false a_slash) in
-      let p : Plain text q.prev_token_end z.lexeme = (z.stands.lex, and_from _ _ (and_from _ _ k.0 (ap not n)) k.1) in
+      let p : Plain text q.prev_token_end z.lexeme = (z.stands.lex, and_from _ _ (and_from _ _ k.0 (ap not (unescaped_word z.lexeme.kind z.lexeme.escaped n))) k.1) in
       let o = covered (λ k w e. slash_on_line k w e && S r k w e) (pattern_omits r) (c r) z.lexeme.kind z.lexeme.newline z.lexeme.escaped (and_from _ _ (and_from _ _ a_slash (and_from _ _ (ap not n) (z.newline ∙ (newline_here a y l ∙ w)))) (s z.lexeme p)) in
       subst (λ (j : Kind). may_omit (goes_on r) j y.newline y.escaped ≡ true) (sym e) (subst (λ (b : Bool). may_omit (goes_on r) RegExp b y.escaped ≡ true) z.newline (subst (λ (b : Bool). may_omit (goes_on r) RegExp z.lexeme.newline b ≡ true) z.escaped o))
 
@@ -269,7 +270,7 @@ module _ {text : List ℕ} {f : Flags} {q : Parser} (a : At text f q) where
     where
       go : (b : Bool) → one_of_kinds other_goals y.kind ≡ b → IsTrue (seen (may_omit (goes_on r)) y)
       go true e = pattern_omitted stays slash_omits r s w y l e (same_kind RegExp y.kind) refl
-      go false e = covered (on_a_line r) (may_omit (goes_on r)) (line_omits r) y.kind y.newline y.escaped (and_from _ _ (ap not (read_plain y l.1)) (and_from _ _ (s y (l.0, plain_so y l.1 e)) (and_from _ _ (newline_here a y l ∙ w) (and_from _ _ (unlinked_at v y l) (ap not (no_semicolon n y l))))))
+      go false e = covered (on_a_line r) (may_omit (goes_on r)) (line_omits r) y.kind y.newline y.escaped (and_from _ _ (ap not (read_word_plain y l.1)) (and_from _ _ (s y (l.0, plain_so y l.1 e)) (and_from _ _ (newline_here a y l ∙ w) (and_from _ _ (unlinked_at v y l) (ap not (no_semicolon n y l))))))
 
   -- on a new line, where nothing goes on
   pub omits_stopped : (r : Row) → ((y : Lexeme) → Plain text q.prev_token_end y → IsTrue (seen (stops_row r) y)) → (q.token.is_on_new_line ≡ true → one_of_kinds link_kinds q.token.kind ≡ false) → MayEnd q → (q.token.kind ≡ Semicolon → ⊥) → (y : Lexeme) → Lex text q.prev_token_end y → IsTrue (seen (may_omit (goes_on r)) y)
@@ -451,7 +452,7 @@ module _ {text : List ℕ} {f : Flags} {p q : Parser} (a : At text f p) (x : Ans
           go false e = absurd (not_here x.at (Colon ∷ []) refl (rw e refl) z h (or_left (same_kind Colon z.kind) false (and_parts (same_kind Colon z.kind) _ c).0))
 
       label : Lexes (Lex text) q.prev_token_end (next z rest) → y.to ≡ q.prev_token_end → IsLabel p.token q
-      label h e = let k = told a (name_whole a token_kind).0 (name_signless p.token.kind token_kind) y l in record { colon = colon_kind h.0; name = sym (names_at x.at (λ (b : Bool). b) p.token.kind) ∙ subst (λ (v : Kind). may_name f.yield_ f.await_ v ≡ true) (sym k.kind) (test_named f y l.1 t); plain = k.escaped ∙ read_plain y l.1; place = k.end ∙ e }
+      label h e = let k = told a (name_whole a token_kind).0 (name_signless p.token.kind token_kind) y l in record { colon = colon_kind h.0; name = sym (names_at x.at (λ (b : Bool). b) p.token.kind) ∙ subst (λ (v : Kind). may_name f.yield_ f.await_ v ≡ true) (sym k.kind) (test_named f y l.1 t); plain = token_read k l.1; place = k.end ∙ e }
 
   pub no_label : (X : Test) → Fails rule (Lex text) X end (symbol Labeled f) p.prev_token_end
   no_label X = labels_fail (λ y z rest l i t c. two_stand y z rest l i.0 i t c)

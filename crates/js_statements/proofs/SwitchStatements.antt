@@ -43,13 +43,14 @@ use Rattle.js_cursor.specs.declared.stop.Stop.TheVariants.{Fatal, NoMemory}
 use Rattle.js_cursor.proofs.Standing.{mark_here}
 use Rattle.js_parsing.specs.Answers.{Answers, Grown, Numbered, Stops, Underived, unclean}
 use Rattle.js_parsing.specs.Classes.{EndsParse}
-use Rattle.js_parsing.specs.Lexemes.{Lex, spot}
+use Rattle.js_parsing.specs.Lexemes.{Lex, escaped_word, spot}
 use Rattle.js_parsing.specs.Moves.{IsWholeHere, Moved, Moves, MadeHere, plain_label}
 use Rattle.js_parsing.specs.Stands.{StandsHere}
 use Rattle.js_parsing.specs.States.{At, NodesLie, Same, flags_of}
 use Rattle.js_parsing.specs.Statements.{placed, after_statement, NoStatement, Statement}
 use Rattle.js_parsing.specs.Told.{unrelated_at}
 use Rattle.js_patterns.proofs.BehindRests.{mark_later}
+use Rattle.js_parsing.proofs.Escapes.{no_name_where, word_plain}
 use Rattle.js_parsing.proofs.Giving.{fails_escaped, fails_none, gives_up, kept_one}
 use Rattle.js_parsing.proofs.MadeNodes.{made_lies, node_held, one_lies}
 use Rattle.js_parsing.proofs.Moving.{beside_nodes, same_both, same_itself, same_with, stops_behind, stops_so}
@@ -221,13 +222,13 @@ undue_here q h d = false≢true (sym h ∙ due_true q d)
 
 -- where nothing is due, none of these stands without an escape
 not_due : {text : List ℕ} {f : Flags} {q : Parser} {X : Test} {g : G} → At text f q → (ClauseDue q → ⊥) → (one_of_kinds (kind.Case ∷ kind.Default ∷ kind.RCurly ∷ []) q.token.kind ≡ false → Fails rule (Lex text) X end g q.prev_token_end) → Fails rule (Lex text) X end g q.prev_token_end
-not_due {text} {f} {q} {X} {g} a n h = by q.token.escaped refl
+not_due {text} {f} {q} {X} {g} a n h = by (escaped_word q.token.kind q.token.escaped) refl
   where
-    kinds : q.token.escaped ≡ false → (c : Bool) → one_of_kinds (kind.Case ∷ kind.Default ∷ kind.RCurly ∷ []) q.token.kind ≡ c → Fails rule (Lex text) X end g q.prev_token_end
-    kinds e true k = absurd (n (due_at q e k))
+    kinds : escaped_word q.token.kind q.token.escaped ≡ false → (c : Bool) → one_of_kinds (kind.Case ∷ kind.Default ∷ kind.RCurly ∷ []) q.token.kind ≡ c → Fails rule (Lex text) X end g q.prev_token_end
+    kinds e true k = absurd (n (due_at q (word_plain q.token.kind q.token.escaped (no_name_where (one_of_kinds (kind.Case ∷ kind.Default ∷ kind.RCurly ∷ [])) q.token.kind k refl) e) k))
     kinds e false k = h k
 
-    by : (c : Bool) → q.token.escaped ≡ c → Fails rule (Lex text) X end g q.prev_token_end
+    by : (c : Bool) → escaped_word q.token.kind q.token.escaped ≡ c → Fails rule (Lex text) X end g q.prev_token_end
     by true e = fails_escaped a e
     by false e = kinds e (one_of_kinds (kind.Case ∷ kind.Default ∷ kind.RCurly ∷ []) q.token.kind) refl
 

@@ -2,7 +2,7 @@
 use Rattle.std.proofs.Common.{ℕ, suc, ◌≡◌, ◌≤◌, ◌⊎◌, inl, inr, max, List, Bool, true, false, not, ◌&&◌, ◌||◌, IsTrue, refl, sym, ap, subst, arith, ◌∙◌}
 use Rattle.std.proofs.lemmas.Bool.{false≢true, not-true, and_from, and_parts}
 use Rattle.js_base.specs.declared.kind.Kind.{Kind}
-use Rattle.js_base.specs.declared.kind.Kind.TheVariants.{Async, Eof, Function, LBrack, Let, RAngle}
+use Rattle.js_base.specs.declared.kind.Kind.TheVariants.{Async, Eof, Function, Ident, LBrack, Let, RAngle}
 use Rattle.js_base.specs.Kinds.{same_kind, one_of_kinds}
 use Rattle.js_base.proofs.KindLemmas.{kind_of_same}
 use Rattle.js_grammar.specs.Trees.{Slots, end}
@@ -60,7 +60,7 @@ leads_to a l y = record {
 -- A word is told where it stands: no other goal reads another lexeme there, and more stands behind it.
 pub record IsWord (w : Kind) : Type 0 where
   pub settled : one_of_kinds unsettled w ≡ false
-  pub plain : (is_right_angle w || one_of_kinds other_goals w) ≡ false
+  pub plain : (is_right_angle w || one_of_kinds (Ident ∷ other_goals) w) ≡ false
   pub goes_on : same_kind Eof w ≡ false
 
 pub let_word : IsWord Let

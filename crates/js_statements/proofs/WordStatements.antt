@@ -40,7 +40,7 @@ use Rattle.js_cursor.specs.Places.{goal}
 use Rattle.js_cursor.specs.declared.stop.Stop.{Stop}
 use Rattle.js_cursor.specs.declared.stop.Stop.TheVariants.{Fatal, NoMemory}
 use Rattle.js_parsing.specs.Answers.{Grown, Underived, Numbered, Stops, unclean}
-use Rattle.js_parsing.specs.Lexemes.{Lex, Walked, name_kinds, read_kinds, read_word, nowhere, spot}
+use Rattle.js_parsing.specs.Lexemes.{Lex, Walked, escaped_word, name_kinds, read_kinds, read_word, nowhere, spot}
 use Rattle.js_parsing.specs.Stands.{NameHere, StandsHere}
 use Rattle.js_parsing.proofs.NamedFirsts.{fails_unnamed}
 use Rattle.js_parsing.proofs.NameKinds.{listed_here, name_at, a_name, no_name_here}
@@ -190,9 +190,9 @@ module _ {text : List ℕ} {f : Flags} {q : Parser} (a : At text f q) where
   -- no name stands here
   no_name : {X : Test} → NameHere q false → Fails rule (Lex text) X end (no_newline ▸ symbol LabelIdentifier f) q.prev_token_end
   unfolding covers apart
-  no_name {X} n = by q.token.escaped refl
+  no_name {X} n = by (escaped_word q.token.kind q.token.escaped) refl
     where
-      by : (b : Bool) → q.token.escaped ≡ b → Fails rule (Lex text) X end (no_newline ▸ symbol LabelIdentifier f) q.prev_token_end
+      by : (b : Bool) → escaped_word q.token.kind q.token.escaped ≡ b → Fails rule (Lex text) X end (no_newline ▸ symbol LabelIdentifier f) q.prev_token_end
       by true e = fails_escaped a e
       by false e = fails_unnamed a f (λ g. no_newline ▸ symbol LabelIdentifier g) [] refl refl refl refl refl (no_name_here f q (name_at false a n) e) refl
 

@@ -34,7 +34,7 @@ use js_expressions::sequence::parse_sequence_expression;
 use js_lex::ParserConfig;
 use js_operands::function::function_stands;
 use js_operands::primary::parse_leaf;
-use js_parsing::lexemes::{advance, is_name_here};
+use js_parsing::lexemes::{advance, escaped_word_stands, is_escaped_word, is_name_here};
 use js_parsing::nested::Nested;
 use js_parsing::nodes::{make_leaf, make_one, make_two};
 use js_tree::{NodeId, NodeKind, Op};
@@ -90,7 +90,7 @@ fn parse_any_statement<C: ParserConfig, N: Nested<C>>(
     requires no_function { NoFunctionHere p.old }
     ensures { TakesUndeclared p.old p.new result }
 {
-    if p.cur_token().escaped() {
+    if escaped_word_stands(p) {
         return Err(p.set_unexpected());
     }
     match p.cur_kind() {
@@ -174,7 +174,7 @@ fn is_label<C: ParserConfig>(p: &ParserImpl<'_, C>, first: Token) -> bool
 {
     p.at(Kind::Colon)
         && is_name_here(p, first.kind())
-        && !first.escaped()
+        && !is_escaped_word(first)
         && first.end() == p.prev_token_end()
 }
 

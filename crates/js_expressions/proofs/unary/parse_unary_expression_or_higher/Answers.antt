@@ -1,4 +1,5 @@
 use Rattle.std.proofs.Common.{◌≡◌, true, sym, ◌∙◌}
+use Rattle.js_parsing.proofs.Escapes.{no_name_where, plain_here, word_plain}
 use Rattle.js_parsing.proofs.Giving.{gives_up_here, fails_escaped}
 use Rattle.js_operands.proofs.Operands.{unary_listed}
 use Rattle.js_parsing.proofs.Phrases.{unary_result}
@@ -6,8 +7,8 @@ use Rattle.js_expressions.proofs.Awaits.{not_awaiting}
 use Rattle.std.proofs.lemmas.Bool.{false≢true}
 use Rattle.js_expressions.proofs.unary.parse_unary_expression_or_higher.Goals as goal
 
-pub returns-then-escaped : goal.returns-then-escaped
-returns-then-escaped t c = λ text f a. gives_up_here _ _ c.set_unexpected.result a c.set_unexpected.ensures (fails_escaped a (let e : c.args.p.now.token.escaped ≡ true = search in e))
+pub returns-then-escaped_word_stands : goal.returns-then-escaped_word_stands
+returns-then-escaped_word_stands t c = λ text f a. gives_up_here _ _ c.set_unexpected.result a c.set_unexpected.ensures (fails_escaped a (sym c.escaped_word_stands.ensures ∙ c.if-escaped_word_stands.true))
 
 pub parse_unary_expression-requires-clause-operator : goal.parse_unary_expression-requires-clause-operator
 parse_unary_expression-requires-clause-operator t c = unary_listed c.cur_kind.ensures c.is_unary_operator.ensures c.if-is_unary_operator.true
@@ -17,3 +18,9 @@ returns t c = λ text f a. unary_result _ c.parse_update_expression.result a (un
 
 pub parse_await_expression-requires-clause-word : goal.parse_await_expression-requires-clause-word
 parse_await_expression-requires-clause-word t c = c.begins_await.ensures.0 c.if-begins_await.true
+
+pub parse_unary_expression-requires-clause-plain : goal.parse_unary_expression-requires-clause-plain
+parse_unary_expression-requires-clause-plain t c = word_plain _ _ (no_name_where (one_of_kinds unary_kinds) c.args.p.now.token.kind (unary_listed c.cur_kind.ensures c.is_unary_operator.ensures c.if-is_unary_operator.true) refl) (sym c.escaped_word_stands.ensures ∙ c.if-escaped_word_stands.false)
+
+pub parse_await_expression-requires-clause-plain : goal.parse_await_expression-requires-clause-plain
+parse_await_expression-requires-clause-plain t c = (plain_here c.args.p.now (c.begins_await.ensures.0 c.if-begins_await.true).0 refl c.escaped_word_stands.ensures c.if-escaped_word_stands.false).1

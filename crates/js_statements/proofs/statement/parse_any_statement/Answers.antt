@@ -1,46 +1,47 @@
-use Rattle.std.proofs.Common.{◌≡◌, ◌∙◌, sym, true, false}
+use Rattle.std.proofs.Common.{refl, ◌≡◌, ◌∙◌, sym, true, false}
+use Rattle.js_parsing.proofs.Escapes.{plain_here}
 use Rattle.js_parsing.proofs.Giving.{gives_up_here, fails_escaped}
 use Rattle.js_statements.proofs.Statements.{no_own_kind}
 use Rattle.js_statements.proofs.statement.parse_any_statement.Goals as goal
 
-pub returns-then-escaped : goal.returns-then-escaped
-returns-then-escaped g c = λ b u text f a. gives_up_here _ _ c.set_unexpected.result a c.set_unexpected.ensures (fails_escaped a (let e : c.args.p.now.token.escaped ≡ true = search in e))
+pub returns-then-escaped_word_stands : goal.returns-then-escaped_word_stands
+returns-then-escaped_word_stands g c = λ b u text f a. gives_up_here _ _ c.set_unexpected.result a c.set_unexpected.ensures (fails_escaped a (sym c.escaped_word_stands.ensures ∙ c.if-escaped_word_stands.true))
 
 pub parse_block_statement-requires-clause-brace : goal.parse_block_statement-requires-clause-brace
 parse_block_statement-requires-clause-brace g c = sym c.cur_kind.ensures ∙ c.in-LCurly.is
 
 pub parse_if_statement-requires-clause-word : goal.parse_if_statement-requires-clause-word
-parse_if_statement-requires-clause-word g c = (sym c.cur_kind.ensures ∙ c.in-If.is, (let e : c.args.p.now.token.escaped ≡ false = search in e))
+parse_if_statement-requires-clause-word g c = plain_here c.args.p.now (sym c.cur_kind.ensures ∙ c.in-If.is) refl c.escaped_word_stands.ensures c.if-escaped_word_stands.false
 
 pub parse_do_while_statement-requires-clause-word : goal.parse_do_while_statement-requires-clause-word
-parse_do_while_statement-requires-clause-word g c = (sym c.cur_kind.ensures ∙ c.in-Do.is, (let e : c.args.p.now.token.escaped ≡ false = search in e))
+parse_do_while_statement-requires-clause-word g c = plain_here c.args.p.now (sym c.cur_kind.ensures ∙ c.in-Do.is) refl c.escaped_word_stands.ensures c.if-escaped_word_stands.false
 
 pub parse_while_statement-requires-clause-word : goal.parse_while_statement-requires-clause-word
-parse_while_statement-requires-clause-word g c = (sym c.cur_kind.ensures ∙ c.in-While.is, (let e : c.args.p.now.token.escaped ≡ false = search in e))
+parse_while_statement-requires-clause-word g c = plain_here c.args.p.now (sym c.cur_kind.ensures ∙ c.in-While.is) refl c.escaped_word_stands.ensures c.if-escaped_word_stands.false
 
 pub parse_with_statement-requires-clause-word : goal.parse_with_statement-requires-clause-word
-parse_with_statement-requires-clause-word g c = (sym c.cur_kind.ensures ∙ c.in-With.is, (let e : c.args.p.now.token.escaped ≡ false = search in e))
+parse_with_statement-requires-clause-word g c = plain_here c.args.p.now (sym c.cur_kind.ensures ∙ c.in-With.is) refl c.escaped_word_stands.ensures c.if-escaped_word_stands.false
 
 pub parse_break_statement-requires-clause-word : goal.parse_break_statement-requires-clause-word
-parse_break_statement-requires-clause-word g c = (sym c.cur_kind.ensures ∙ c.in-Break.is, (let e : c.args.p.now.token.escaped ≡ false = search in e))
+parse_break_statement-requires-clause-word g c = plain_here c.args.p.now (sym c.cur_kind.ensures ∙ c.in-Break.is) refl c.escaped_word_stands.ensures c.if-escaped_word_stands.false
 
 pub parse_continue_statement-requires-clause-word : goal.parse_continue_statement-requires-clause-word
-parse_continue_statement-requires-clause-word g c = (sym c.cur_kind.ensures ∙ c.in-Continue.is, (let e : c.args.p.now.token.escaped ≡ false = search in e))
+parse_continue_statement-requires-clause-word g c = plain_here c.args.p.now (sym c.cur_kind.ensures ∙ c.in-Continue.is) refl c.escaped_word_stands.ensures c.if-escaped_word_stands.false
 
 pub parse_return_statement-requires-clause-word : goal.parse_return_statement-requires-clause-word
-parse_return_statement-requires-clause-word g c = (sym c.cur_kind.ensures ∙ c.in-Return.is, (let e : c.args.p.now.token.escaped ≡ false = search in e))
+parse_return_statement-requires-clause-word g c = plain_here c.args.p.now (sym c.cur_kind.ensures ∙ c.in-Return.is) refl c.escaped_word_stands.ensures c.if-escaped_word_stands.false
 
 pub parse_throw_statement-requires-clause-word : goal.parse_throw_statement-requires-clause-word
-parse_throw_statement-requires-clause-word g c = (sym c.cur_kind.ensures ∙ c.in-Throw.is, (let e : c.args.p.now.token.escaped ≡ false = search in e))
+parse_throw_statement-requires-clause-word g c = plain_here c.args.p.now (sym c.cur_kind.ensures ∙ c.in-Throw.is) refl c.escaped_word_stands.ensures c.if-escaped_word_stands.false
 
 pub parse_debugger_statement-requires-clause-word : goal.parse_debugger_statement-requires-clause-word
-parse_debugger_statement-requires-clause-word g c = (sym c.cur_kind.ensures ∙ c.in-Debugger.is, (let e : c.args.p.now.token.escaped ≡ false = search in e))
+parse_debugger_statement-requires-clause-word g c = plain_here c.args.p.now (sym c.cur_kind.ensures ∙ c.in-Debugger.is) refl c.escaped_word_stands.ensures c.if-escaped_word_stands.false
 
 pub parse_variable_statement-requires-clause-word : goal.parse_variable_statement-requires-clause-word
-parse_variable_statement-requires-clause-word g c = (sym c.cur_kind.ensures ∙ c.in-Var.is, (let e : c.args.p.now.token.escaped ≡ false = search in e))
+parse_variable_statement-requires-clause-word g c = plain_here c.args.p.now (sym c.cur_kind.ensures ∙ c.in-Var.is) refl c.escaped_word_stands.ensures c.if-escaped_word_stands.false
 
 pub parse_expression_or_labeled_statement-requires-clause-other : goal.parse_expression_or_labeled_statement-requires-clause-other
-parse_expression_or_labeled_statement-requires-clause-other g c = no_own_kind _ (λ e. c.in_default.not-LCurly (c.cur_kind.ensures ∙ e)) (λ e. c.in_default.not-Semicolon (c.cur_kind.ensures ∙ e)) (λ e. c.in_default.not-If (c.cur_kind.ensures ∙ e)) (λ e. c.in_default.not-Do (c.cur_kind.ensures ∙ e)) (λ e. c.in_default.not-While (c.cur_kind.ensures ∙ e)) (λ e. c.in_default.not-With (c.cur_kind.ensures ∙ e)) (λ e. c.in_default.not-Break (c.cur_kind.ensures ∙ e)) (λ e. c.in_default.not-Continue (c.cur_kind.ensures ∙ e)) (λ e. c.in_default.not-Return (c.cur_kind.ensures ∙ e)) (λ e. c.requires.no_function.0 e (let e : c.args.p.now.token.escaped ≡ false = search in e)) (λ e. c.in_default.not-Throw (c.cur_kind.ensures ∙ e)) (λ e. c.in_default.not-Switch (c.cur_kind.ensures ∙ e)) (λ e. c.in_default.not-Try (c.cur_kind.ensures ∙ e)) (λ e. c.in_default.not-For (c.cur_kind.ensures ∙ e)) (λ e. c.in_default.not-Debugger (c.cur_kind.ensures ∙ e)) (λ e. c.in_default.not-Var (c.cur_kind.ensures ∙ e)) (λ e. c.requires.other e (let e : c.args.p.now.token.escaped ≡ false = search in e))
+parse_expression_or_labeled_statement-requires-clause-other g c = no_own_kind _ (λ e. c.in_default.not-LCurly (c.cur_kind.ensures ∙ e)) (λ e. c.in_default.not-Semicolon (c.cur_kind.ensures ∙ e)) (λ e. c.in_default.not-If (c.cur_kind.ensures ∙ e)) (λ e. c.in_default.not-Do (c.cur_kind.ensures ∙ e)) (λ e. c.in_default.not-While (c.cur_kind.ensures ∙ e)) (λ e. c.in_default.not-With (c.cur_kind.ensures ∙ e)) (λ e. c.in_default.not-Break (c.cur_kind.ensures ∙ e)) (λ e. c.in_default.not-Continue (c.cur_kind.ensures ∙ e)) (λ e. c.in_default.not-Return (c.cur_kind.ensures ∙ e)) (λ e. c.requires.no_function.0 e (plain_here c.args.p.now e refl c.escaped_word_stands.ensures c.if-escaped_word_stands.false).1) (λ e. c.in_default.not-Throw (c.cur_kind.ensures ∙ e)) (λ e. c.in_default.not-Switch (c.cur_kind.ensures ∙ e)) (λ e. c.in_default.not-Try (c.cur_kind.ensures ∙ e)) (λ e. c.in_default.not-For (c.cur_kind.ensures ∙ e)) (λ e. c.in_default.not-Debugger (c.cur_kind.ensures ∙ e)) (λ e. c.in_default.not-Var (c.cur_kind.ensures ∙ e)) (λ e. c.requires.other e (plain_here c.args.p.now e refl c.escaped_word_stands.ensures c.if-escaped_word_stands.false).1)
 
 pub returns-in-If : goal.returns-in-If
 returns-in-If g c = λ b u. c.parse_if_statement.ensures b
@@ -79,19 +80,19 @@ pub returns-in-LCurly : goal.returns-in-LCurly
 returns-in-LCurly g c = λ b u. c.parse_block_statement.ensures b
 
 pub parse_switch_statement-requires-clause-word : goal.parse_switch_statement-requires-clause-word
-parse_switch_statement-requires-clause-word g c = (sym c.cur_kind.ensures ∙ c.in-Switch.is, (let e : c.args.p.now.token.escaped ≡ false = search in e))
+parse_switch_statement-requires-clause-word g c = plain_here c.args.p.now (sym c.cur_kind.ensures ∙ c.in-Switch.is) refl c.escaped_word_stands.ensures c.if-escaped_word_stands.false
 
 pub returns-in-Switch : goal.returns-in-Switch
 returns-in-Switch g c = λ b u. c.parse_switch_statement.ensures b
 
 pub parse_try_statement-requires-clause-word : goal.parse_try_statement-requires-clause-word
-parse_try_statement-requires-clause-word g c = (sym c.cur_kind.ensures ∙ c.in-Try.is, (let e : c.args.p.now.token.escaped ≡ false = search in e))
+parse_try_statement-requires-clause-word g c = plain_here c.args.p.now (sym c.cur_kind.ensures ∙ c.in-Try.is) refl c.escaped_word_stands.ensures c.if-escaped_word_stands.false
 
 pub returns-in-Try : goal.returns-in-Try
 returns-in-Try g c = λ b u. c.parse_try_statement.ensures b
 
 pub parse_for_statement-requires-clause-word : goal.parse_for_statement-requires-clause-word
-parse_for_statement-requires-clause-word g c = (sym c.cur_kind.ensures ∙ c.in-For.is, (let e : c.args.p.now.token.escaped ≡ false = search in e))
+parse_for_statement-requires-clause-word g c = plain_here c.args.p.now (sym c.cur_kind.ensures ∙ c.in-For.is) refl c.escaped_word_stands.ensures c.if-escaped_word_stands.false
 
 pub returns-in-For : goal.returns-in-For
 returns-in-For g c = λ b u. c.parse_for_statement.ensures b
