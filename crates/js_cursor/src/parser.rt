@@ -83,7 +83,9 @@ pub const MAX_DEPTH: u32 = 16_100;
 /// just written in several.
 #[inline(always)]
 fn copy_of(token: &Token, end: usize) -> Token
-    requires { end ≡ token.now.span.end }
+    requires end { end ≡ token.now.span.end }
+    requires ordered { token.now.span.start ≤ end }
+    requires short { end ≤ MAX_LEN }
     ensures { result ≡ token.now }
 {
     Token::new(
