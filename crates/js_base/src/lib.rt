@@ -54,6 +54,3 @@ pub use token::{Token, Tokens};
 
 /// The greatest length of a text in bytes: a place in it fits a `u32`, with room for small sums.
 pub const MAX_LEN: usize = 4_294_967_039;
-
-#[cfg(test)]
-mod tests;

@@ -165,35 +165,3 @@ fn is_paired(units: &[u16]) -> bool
     }
     !after_high
 }
-
-#[cfg(test)]
-mod tests {
-    use super::*;
-
-    fn units_of(alloc: Global, units: &[u16]) -> Result<JsStr, NoMemory> {
-        let mut all = Vec::new(alloc);
-        all.extend_from_slice(units)?;
-        Ok(JsStr { units: all })
-    }
-
-    #[test]
-    fn surrogates(rt: HostRuntime) {
-        let rows: [(&[u16], bool); 5] = [
-            (&[], true),
-            (&[0x61, 0xD83D, 0xDE00], true),
-            (&[0xD83D], false),
-            (&[0xDE00, 0xD83D], false),
-            (&[0xD83D, 0xD83D, 0xDE00], false),
-        ];
-        for (units, well_formed) in rows {
-            match units_of(rt.alloc(), units) {
-                Ok(text) => {
-                    assert_eq!(rt; text.len(), units.len());
-                    assert_eq!(rt; text.unit(0), units.first().copied());
-                    assert_eq!(rt; text.is_well_formed(), well_formed);
-                }
-                Err(_) => assert!(rt; false),
-            }
-        }
-    }
-}

@@ -5,7 +5,7 @@ ghost use Rattle.std.specs.Hash as fed;
 ghost use Rattle.std.specs.Ordering.{nat_cmp};
 ghost use Rattle.js_base.specs.Contexts.{bits_of};
 
-use crate::{
+use js_base::{
     AssignmentOperator, BinaryOperator, Context, Diagnostic, DiagnosticClass, DiagnosticKind,
     Diagnostics, FunctionKind, Kind, LogicalOperator, NoMemory, ParseOptions, Precedence,
     SourceType, Span, Spans, StatementContext, Steps, Text, Token, Tokens, UnaryOperator,
