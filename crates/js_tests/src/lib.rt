@@ -2,7 +2,11 @@
 #![tactic(auto)]
 
 #[cfg(test)]
+mod base;
+#[cfg(test)]
 mod cursor;
+#[cfg(test)]
+mod decoding;
 #[cfg(test)]
 mod record;
 #[cfg(test)]

@@ -63,34 +63,3 @@ pub fn diagnostic_lines(alloc: Global, found: &Diagnostics) -> Result<Vec<u8>, N
     }
     Ok(out)
 }
-
-#[cfg(test)]
-mod tests {
-    use super::*;
-    use js_base::DiagnosticKind;
-    use std::test::Fail;
-
-    #[test]
-    fn prints_diagnostics(rt: HostRuntime) -> Result<(), Fail> {
-        let alloc = rt.alloc();
-        let kind = DiagnosticKind::UnexpectedToken;
-        let span = Span { start: 2, end: 3 };
-        let first = Some(Span { start: 10, end: 20 });
-        let second = Some(Span { start: 0, end: 100 });
-        let mut found = Diagnostics::new(alloc);
-        assert_eq!(rt; diagnostic_lines(alloc, &found)?.len(), 0);
-        for (first, second) in [(None, None), (first, None), (first, second)] {
-            found.push(Diagnostic {
-                kind,
-                span,
-                first,
-                second,
-            })?;
-        }
-        let lines = diagnostic_lines(alloc, &found)?;
-        let wanted =
-            "2..3 unexpected_token\n2..3 unexpected_token 10..20\n2..3 unexpected_token 10..20 0..100\n";
-        assert_eq!(rt; lines.as_slice(), wanted.as_bytes());
-        Ok(())
-    }
-}

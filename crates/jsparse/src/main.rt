@@ -7,14 +7,10 @@ mod failing;
 mod laws;
 mod lines;
 mod room;
-#[cfg(test)]
-mod row_tests;
 mod run;
 mod standard;
 mod status;
 mod steady;
-#[cfg(test)]
-mod tests;
 mod words;
 
 use crate::standard::{StdinSource, StdoutSink};
