@@ -101,16 +101,6 @@ fn surrogates(rt: HostRuntime) {
     }
 }
 
-<<<<<<< HEAD
-/// Whether it is one of the names of the rows.
-fn is_name(raw: &str) -> bool
-    ensures { IsTrue result → IsSome (name_text (chars raw.now)) }
-{
-    matches!(
-        raw,
-        "plain" | "\\u0061b" | "\\u{61}wait" | "x\\u{1D7D8}" | "\u{E9}"
-    )
-=======
 /// Whether it is one of the names without escapes of the rows.
 fn is_plain(raw: &str) -> bool
     ensures { IsTrue result → IsSome (name_text (chars raw.now)) }
@@ -123,16 +113,11 @@ fn is_escaped(raw: &str) -> bool
     ensures { IsTrue result → IsSome (name_text (chars raw.now)) }
 {
     matches!(raw, "\\u0061b" | "\\u{61}wait" | "x\\u{1D7D8}")
->>>>>>> e116c6dc60988c08099fe06e32dfc602bd75058c
 }
 
 /// Whether a name stands for a text.
 fn name_is(alloc: Global, raw: &str, wanted: &str) -> bool {
-<<<<<<< HEAD
-    if !is_name(raw) {
-=======
     if !is_plain(raw) && !is_escaped(raw) {
->>>>>>> e116c6dc60988c08099fe06e32dfc602bd75058c
         return false;
     }
     match decode_name(alloc, raw) {
