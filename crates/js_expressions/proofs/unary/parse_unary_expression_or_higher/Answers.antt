@@ -1,4 +1,6 @@
-use Rattle.std.proofs.Common.{◌≡◌, true, sym, ◌∙◌}
+use Rattle.std.proofs.Common.{◌≡◌, true, false, refl, sym, ◌∙◌}
+use Rattle.js_base.specs.Kinds.{one_of_kinds}
+use Rattle.js_parsing.specs.Operators.{unary_kinds}
 use Rattle.js_parsing.proofs.Escapes.{no_name_where, plain_here, word_plain}
 use Rattle.js_parsing.proofs.Giving.{gives_up_here, fails_escaped}
 use Rattle.js_operands.proofs.Operands.{unary_listed}
