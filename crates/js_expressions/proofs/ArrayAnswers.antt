@@ -15,7 +15,7 @@ use Rattle.js_grammar.specs.Productions.{Flags, at, tok, Assignment, Short, Arra
 use Rattle.js_grammar.specs.Productions.{sym as symbol}
 use Rattle.js_grammar.specs.Table.{rule}
 use Rattle.js_grammar.specs.Follow.{after}
-use Rattle.js_grammar.proofs.Calculus.{Between, Inside, inside_full, ◌▹◌, ◌▹✗◌, left, right, fails_node, then_by, part_fails, weaken_fails_on}
+use Rattle.js_grammar.proofs.Calculus.{Between, Inside, inside_full, ◌▹◌, ◌▹✗◌, right, fails_node, then_by, part_fails, weaken_fails_on}
 use Rattle.js_grammar.proofs.FollowLaws.{fails_by}
 use Rattle.js_tree.specs.declared.id.NodeId.{NodeId}
 use Rattle.js_tree.specs.declared.kind.NodeKind.TheVariants as node

@@ -605,7 +605,7 @@ neither {p} n m = λ text f a. by text f (escaped_word p.token.kind p.token.esca
   where
     by : (text : List ℕ) (f : Flags) (b : Bool) → escaped_word p.token.kind p.token.escaped ≡ b → At text f p → NoLine text f p.prev_token_end
     by text f true e a = fails_escaped a e
-    by text f false e a = no_line_here a (no_name_here f p (name_at false a n) e) (or_kind LParen [] p.token.kind (λ k. m k (plain_word {p.token} k refl e)) refl)
+    by text f false e a = no_line_here a (no_name_here f p (name_at false a n) e) (or_kind LParen [] p.token.kind (λ k. m k (plain_word p.token k refl e)) refl)
 
 -- ---- where the parser is where it was
 
@@ -629,7 +629,7 @@ no_yield_here {text} {f} {p} a n = go (escaped_word p.token.kind p.token.escaped
 
     go : (b : Bool) → escaped_word p.token.kind p.token.escaped ≡ b → NoYield text f p.prev_token_end
     go true e = fails_escaped a e
-    go false e = no_yield a (λ k. by (has_flag yield_flag p.ctx) refl k (plain_word {p.token} k refl e))
+    go false e = no_yield a (λ k. by (has_flag yield_flag p.ctx) refl k (plain_word p.token k refl e))
 
 unmoved_yield : {p q : Parser} → Standing p → Unmoved p q → (BeginsYield p → ⊥) → (text : List ℕ) (f : Flags) → At text f q → NoYield text f q.prev_token_end
 unmoved_yield {p} {q} a u n text f b = subst (λ (s : ℕ). NoYield text f s) (sym u.place) (no_yield_here (before_unmoved a u b) n)

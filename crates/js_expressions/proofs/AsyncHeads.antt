@@ -428,7 +428,7 @@ no_async_word {p} n = λ text f a. by (escaped_word p.token.kind p.token.escaped
   where
     by : {text : List ℕ} {f : Flags} (b : Bool) → escaped_word p.token.kind p.token.escaped ≡ b → At text f p → NoLed true text f p.prev_token_end
     by true e a = fails_escaped a e
-    by false e a = no_async_here a (other_kind Async p.token.kind (λ k. n k (plain_word {p.token} k refl e)))
+    by false e a = no_async_here a (other_kind Async p.token.kind (λ k. n k (plain_word p.token k refl e)))
 
 pub begins_so : (p q : Parser) {b r : Bool} → r ≡ b → AsyncHeadBegins p q r → AsyncHeadBegins p q b
 begins_so p q e h = subst (λ (v : Bool). AsyncHeadBegins p q v) e h

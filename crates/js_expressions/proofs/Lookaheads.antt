@@ -15,7 +15,7 @@ use Rattle.js_grammar.specs.Productions.{G, Flags, at, tok, mk, plus_in, with_pi
 use Rattle.js_grammar.specs.Table.{rule, rule_of}
 use Rattle.js_grammar.specs.FirstSets.{first}
 use Rattle.js_grammar.specs.Follow.{after}
-use Rattle.js_grammar.proofs.Calculus.{◌▹◌, ◌▹✗◌, fails_node, inside_full}
+use Rattle.js_grammar.proofs.Calculus.{◌▹✗◌, fails_node, inside_full}
 use Rattle.js_grammar.proofs.First.{starts}
 use Rattle.js_grammar.proofs.FirstClaims.{firsts}
 use Rattle.js_grammar.proofs.FirstRules.{fails_here}

@@ -169,11 +169,11 @@ module _ {text : List ℕ} {f : Flags} {p : Parser} (a : At text f p) where
         elsewhere k = part_fails {X' = plain full} (part_fails {X' = plain full} (fails_at a (tok Async) (Async ∷ []) refl k) any_between) any_between
 
         at_async : FunctionNext p false → (b : Bool) → same_kind Async p.token.kind ≡ b → Fails rule (Lex text) (plain full) end ((tok Async ▸ no_newline) ▸ tok Function ▸ g) p.prev_token_end
-        at_async n true k = part_path_fails {ids = []} {js = []} (part_within (part_sign Async a (sym (kind_of_same Async p.token.kind k)) (plain_word {p.token} (sym (kind_of_same Async p.token.kind k)) refl u) refl m)) (behind n q.token.is_on_new_line refl)
+        at_async n true k = part_path_fails {ids = []} {js = []} (part_within (part_sign Async a (sym (kind_of_same Async p.token.kind k)) (plain_word p.token (sym (kind_of_same Async p.token.kind k)) refl u) refl m)) (behind n q.token.is_on_new_line refl)
         at_async n false k = elsewhere (ap (λ (b : Bool). b || false) k)
 
         by : StandsHere p Async false ⊎ FunctionNext p false → Fails rule (Lex text) (plain full) end ((tok Async ▸ no_newline) ▸ tok Function ▸ g) p.prev_token_end
-        by (inl n) = elsewhere (other_kind Async p.token.kind (λ k. n k (plain_word {p.token} k refl u)))
+        by (inl n) = elsewhere (other_kind Async p.token.kind (λ k. n k (plain_word p.token k refl u)))
         by (inr n) = at_async n (same_kind Async p.token.kind) refl
 
     -- nor is a function expression derived at a name

@@ -56,8 +56,8 @@ use Rattle.js_parsing.proofs.Paths.{Path, ◌⟼◌, at_kind, fails_at, flagged_
 use Rattle.js_parsing.proofs.Signs.{other_kind, plain_sign, whole_sign}
 use Rattle.js_parsing.proofs.Told.{told_at, told_same}
 use Rattle.js_parsing.proofs.Verdicts.{after as grown_behind, verdict_of}
-use Rattle.js_operands.proofs.Operands.{behind_primary, by_path, one_path, plain_leaf, name_signless, name_signless}
-use Rattle.js_parsing.proofs.Escapes.{read_plain}
+use Rattle.js_operands.proofs.Operands.{behind_primary, by_path, one_path, name_signless, name_signless}
+use Rattle.js_parsing.proofs.Escapes.{read_as, read_plain}
 use Rattle.js_operands.proofs.AsyncWords.{any_between, function_here, no_reference, part_within, same_line}
 
 star_plain : (is_word Star || same_kind PrivateIdentifier Star) ≡ false
@@ -110,7 +110,7 @@ unfolding rule rule_of
 name_numbered {text} {f} {g} {p} {q} {id} a h t =
     let l : plain_label node.BindingIdentifier op.None p.token.span ≡ label_here binding_identifier no_op p t.mid = ap (λ (v : ℕ). record { kind = binding_identifier; op = no_op; flags = 0; span = record { from = p.token.span.start; to = v } }) (t.moved.tells.end ∙ t.moved.ends) in
     let ks : Keeps p.nodes t.mid.nodes = subst (λ (ns : List Node). Keeps p.nodes ns) (sym t.moved.nodes) (Keeps-refl p.nodes) in
-    let y : Path text f (after (at BindingIdentifier g)) (rule (at BindingIdentifier g)) p nothing t.mid (tree (label_here binding_identifier no_op p t.mid) end) = noded a (one_path (name_test g) a (name_signless p.token.kind (listed_name g.yield_ g.await_ p.token.kind h.0)) t.moved (plain_leaf p.token.kind refl h.1 (name_read p.token.kind (listed_name g.yield_ g.await_ p.token.kind h.0)) t.moved) (name_passes g t.moved.lexeme (subst (λ (k : Kind). may_name g.yield_ g.await_ k ≡ true) t.moved.tells.kind h.0))) in
+    let y : Path text f (after (at BindingIdentifier g)) (rule (at BindingIdentifier g)) p nothing t.mid (tree (label_here binding_identifier no_op p t.mid) end) = noded a (one_path (name_test g) a (name_signless p.token.kind (listed_name g.yield_ g.await_ p.token.kind h.0)) t.moved (read_as t.moved.lexeme t.moved.tells h.1 (name_read p.token.kind (listed_name g.yield_ g.await_ p.token.kind h.0))) (name_passes g t.moved.lexeme (subst (λ (k : Kind). may_name g.yield_ g.await_ k ≡ true) t.moved.tells.kind h.0))) in
     by_path (subst (λ (v : Label). Path text f (after (at BindingIdentifier g)) (rule (at BindingIdentifier g)) p nothing t.mid (tree v end)) (sym l) y) t.moved.same t.made.stays (λ y i. refl) refl (leaf_held t.made ks) (Keeps-trans ks (Keeps-made t.made.made)) (ap (λ (v : Label). v.span) l) (one_lies t.made)
 
 abbrev rest_of : Bool → Bool → Flags → G

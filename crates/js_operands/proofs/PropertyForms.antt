@@ -209,10 +209,10 @@ module _ {text : List ℕ} {f : Flags} {p q : Parser} (a : At text f p) (e : p.t
 pub one_form : {w b k j : Kind} (form : MethodForm) → w ≡ k → b ≡ j → form_of w b ≡ Some form → Begins form k × (one_of_kinds ends_name_kinds j ≡ false)
 one_form {w} {b} form e h n = let z = one_begins w b form n in (subst (λ (k : Kind). Begins form k) e z.0, subst (λ (k : Kind). one_of_kinds ends_name_kinds k ≡ false) h z.1)
 
-pub begins_plain : {t : Token} (form : MethodForm) → Begins form t.kind → escaped_word t.kind t.escaped ≡ false → t.escaped ≡ false
-begins_plain Method k n = absurd k
-begins_plain {t} Getter k n = plain_word {t} k refl n
-begins_plain {t} Setter k n = plain_word {t} k refl n
+pub begins_plain : (t : Token) (form : MethodForm) → Begins form t.kind → escaped_word t.kind t.escaped ≡ false → t.escaped ≡ false
+begins_plain t Method k n = absurd k
+begins_plain t Getter k n = plain_word t k refl n
+begins_plain t Setter k n = plain_word t k refl n
 
 pub no_form : {w b k j : Kind} → w ≡ k → b ≡ j → form_of w b ≡ None → form_of k j ≡ None
 no_form {w} {b} {k} {j} e h n = subst (λ (x : Kind). form_of x j ≡ None) e (subst (λ (x : Kind). form_of w x ≡ None) h n)

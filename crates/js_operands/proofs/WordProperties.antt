@@ -171,7 +171,7 @@ module _ {text : List ℕ} {f : Flags} {p q : Parser} (a : At text f p) (r : rea
       behind false e = done ▹✗ (done ▹✗ no_first (no_name_begins m.at c (kinds_apart ends_name_kinds property_name_kinds refl q.token.kind e)))
 
       at_async : same_kind Async p.token.kind ≡ true → Fails rule (Lex text) (plain full) end (no_newline ▸ only b (tok Star) ▸ nothing ▸ name c false f ▸ method_left Method true b f) q.prev_token_end → Fails rule (Lex text) (plain full) end (async_line c b f) p.prev_token_end
-      at_async k i = part_path_fails {ids = []} {js = []} (part_within (part_sign Async a (sym (kind_of_same Async p.token.kind k)) (plain_word {p.token} (sym (kind_of_same Async p.token.kind k)) refl n) refl m)) i
+      at_async k i = part_path_fails {ids = []} {js = []} (part_within (part_sign Async a (sym (kind_of_same Async p.token.kind k)) (plain_word p.token (sym (kind_of_same Async p.token.kind k)) refl n) refl m)) i
 
       go : (x y z : Bool) → same_kind Async p.token.kind ≡ x → one_of_kinds ends_name_kinds q.token.kind ≡ y → q.token.is_on_new_line ≡ z → (if y || z then false else x) ≡ false → Fails rule (Lex text) (plain full) end (async_line c b f) p.prev_token_end
       go false y z k e w h = no_async_line a c (ap (λ (x : Bool). x || false) k) b
@@ -196,7 +196,7 @@ module _ {text : List ℕ} {f : Flags} {p q : Parser} (a : At text f p) (r : rea
   no_getter_behind h c = go (same_kind Get p.token.kind) refl
     where
       go : (b : Bool) → same_kind Get p.token.kind ≡ b → Fails rule (Lex text) behind_item end (getter_of c f) p.prev_token_end
-      go true e = fails_node inside_full (token Get a (sym (kind_of_same Get p.token.kind e)) (plain_word {p.token} (sym (kind_of_same Get p.token.kind e)) refl n) refl m ⟶✗ no_first (no_name_begins m.at c (kinds_apart ends_name_kinds property_name_kinds refl q.token.kind h)))
+      go true e = fails_node inside_full (token Get a (sym (kind_of_same Get p.token.kind e)) (plain_word p.token (sym (kind_of_same Get p.token.kind e)) refl n) refl m ⟶✗ no_first (no_name_begins m.at c (kinds_apart ends_name_kinds property_name_kinds refl q.token.kind h)))
       go false e = no_getter a c (ap (λ (b : Bool). b || false) e)
 
   no_setter_behind : one_of_kinds ends_name_kinds q.token.kind ≡ true → (c : Bool) → Fails rule (Lex text) behind_item end (setter_of c f) p.prev_token_end
@@ -204,7 +204,7 @@ module _ {text : List ℕ} {f : Flags} {p q : Parser} (a : At text f p) (r : rea
   no_setter_behind h c = go (same_kind Set p.token.kind) refl
     where
       go : (b : Bool) → same_kind Set p.token.kind ≡ b → Fails rule (Lex text) behind_item end (setter_of c f) p.prev_token_end
-      go true e = fails_node inside_full (token Set a (sym (kind_of_same Set p.token.kind e)) (plain_word {p.token} (sym (kind_of_same Set p.token.kind e)) refl n) refl m ⟶✗ no_first (no_name_begins m.at c (kinds_apart ends_name_kinds property_name_kinds refl q.token.kind h)))
+      go true e = fails_node inside_full (token Set a (sym (kind_of_same Set p.token.kind e)) (plain_word p.token (sym (kind_of_same Set p.token.kind e)) refl n) refl m ⟶✗ no_first (no_name_begins m.at c (kinds_apart ends_name_kinds property_name_kinds refl q.token.kind h)))
       go false e = no_setter a c (ap (λ (b : Bool). b || false) e)
 
   pub no_accessor : form_of p.token.kind q.token.kind ≡ None → (c : Bool) → Fails rule (Lex text) behind_item end (getter_of c f) p.prev_token_end × Fails rule (Lex text) behind_item end (setter_of c f) p.prev_token_end

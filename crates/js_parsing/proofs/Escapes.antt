@@ -50,12 +50,12 @@ escaped_other k e n = go (same_kind Ident k) refl e
     go false q false = refl
 
 -- a token of a kind, which is no word with an escape
-pub plain_word : {t : Token} {k : Kind} → t.kind ≡ k → same_kind Ident k ≡ false → escaped_word t.kind t.escaped ≡ false → t.escaped ≡ false
-plain_word {t} e n h = word_plain t.kind t.escaped (ap (same_kind Ident) e ∙ n) h
+pub plain_word : (t : Token) {k : Kind} → t.kind ≡ k → same_kind Ident k ≡ false → escaped_word t.kind t.escaped ≡ false → t.escaped ≡ false
+plain_word t e n h = word_plain t.kind t.escaped (ap (same_kind Ident) e ∙ n) h
 
 -- the same, of what stands at a parser's place
 pub plain_here : (p : Parser) {k : Kind} {b : Bool} → p.token.kind ≡ k → same_kind Ident k ≡ false → b ≡ escaped_word p.token.kind p.token.escaped → b ≡ false → (p.token.kind ≡ k) × (p.token.escaped ≡ false)
-plain_here p e n w h = (e, plain_word {p.token} e n (sym w ∙ h))
+plain_here p e n w h = (e, plain_word p.token e n (sym w ∙ h))
 
 pub unescaped_word : (k : Kind) (e : Bool) → e ≡ false → escaped_word k e ≡ false
 unescaped_word k e h = ap (λ (b : Bool). b && not (same_kind Ident k)) h

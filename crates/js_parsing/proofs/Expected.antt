@@ -1,10 +1,10 @@
 -- A lexeme that is due: it was passed; or it doesn't stand here, and that was told.
-use Rattle.std.proofs.Common.{◌≡◌, ◌||◌, List, false, not, refl, sym}
+use Rattle.std.proofs.Common.{◌∷◌, ◌≡◌, ◌||◌, List, false, not, refl, sym}
 use Rattle.std.specs.Prelude.{ℕ, None, Err}
 use Rattle.std.proofs.lemmas.Bool.{and_parts}
 use Rattle.js_base.specs.declared.diagnostic.DiagnosticKind.TheVariants.{ExpectToken}
 use Rattle.js_base.specs.declared.kind.Kind.{Kind}
-use Rattle.js_base.specs.declared.kind.Kind.TheVariants.{RAngle}
+use Rattle.js_base.specs.declared.kind.Kind.TheVariants.{Ident, RAngle}
 use Rattle.js_base.specs.Kinds.{same_kind, one_of_kinds}
 use Rattle.js_base.proofs.KindLemmas.{kind_of_same}
 use Rattle.js_grammar.specs.Trees.{end}
@@ -30,7 +30,7 @@ use Rattle.js_parsing.proofs.Signs.{stands_not, whole_sign}
 
 module _ {text : List ℕ} {f : Flags} {p : Parser} (a : At text f p) where
   -- it doesn't stand here
-  pub not_due : {X : Test} {g : G} (k : Kind) → (is_right_angle k || one_of_kinds other_goals k) ≡ false → StandsHere p k false → Fails rule (Lex text) X end (seq (tok k) g) p.prev_token_end
+  pub not_due : {X : Test} {g : G} (k : Kind) → (is_right_angle k || one_of_kinds (Ident ∷ other_goals) k) ≡ false → StandsHere p k false → Fails rule (Lex text) X end (seq (tok k) g) p.prev_token_end
   not_due k n s = part_fails {X' = plain full} (fails_lexeme (is k) (λ y l h. stands_not a n s y l (sym (kind_of_same k y.kind (and_parts (same_kind k y.kind) (not y.escaped) h).0)))) (record { admits = λ ts us vs j k ls mid rest d d' e. (refl, refl) })
 
   pub unexpected : {F : Type 0} (k : Kind) (q : Parser) (e : Stop) → Expects (IsKind k) ExpectToken None p q (Err e) → (StandsHere p k false → F) → Stops p q e F

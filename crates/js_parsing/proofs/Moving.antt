@@ -5,7 +5,7 @@ use Rattle.js_base.specs.Contexts.{has_flag, in_flag}
 use Rattle.std.proofs.lemmas.Bool.{false≢true}
 use Rattle.js_base.specs.declared.diagnostic.Diagnostic.{Diagnostic}
 use Rattle.js_base.specs.declared.kind.Kind.{Kind}
-use Rattle.js_base.specs.declared.kind.Kind.TheVariants.{LCurly, RAngle, Undetermined}
+use Rattle.js_base.specs.declared.kind.Kind.TheVariants.{RAngle, Undetermined}
 use Rattle.js_base.specs.declared.token.Token.{Token}
 use Rattle.js_base.specs.Kinds.{same_kind, one_of_kinds}
 use Rattle.js_base.proofs.KindLemmas.{kind_of_same}
@@ -31,8 +31,6 @@ use Rattle.js_parsing.specs.Answers.{Grown, Numbered, Stops, Underived}
 use Rattle.js_cursor.proofs.Moving.{lexeme_some}
 use Rattle.js_cursor.proofs.Later.{passed_follows, read_again_follows, follows_itself, follows_on}
 use Rattle.js_cursor.proofs.Changing.{fields_at, fields_set, entered_on}
-use Rattle.js_base.specs.declared.options.ParseOptions.{ParseOptions}
-use Rattle.js_base.specs.declared.source_type.SourceType.{SourceType}
 use Rattle.js_base.specs.declared.context.Context.{Context}
 use Rattle.js_cursor.specs.Notes.{Notes, is_noted}
 use Rattle.js_cursor.specs.Starts.{is_module}

@@ -1,5 +1,5 @@
 -- What holds of the kinds of names, and what stands at a name.
-use Rattle.std.proofs.Common.{ℕ, ◌≡◌, Bool, true, false, not, ◌&&◌, ◌||◌, List, [], ◌∷◌, IsTrue, refl, sym, ap, subst, ◌∙◌}
+use Rattle.std.proofs.Common.{ℕ, ◌≡◌, Bool, true, false, not, ◌&&◌, ◌||◌, List, ◌∷◌, IsTrue, refl, sym, ap, subst, ◌∙◌}
 use Rattle.std.proofs.lemmas.Bool.{false≢true, and_from}
 use Rattle.js_base.specs.declared.kind.Kind.{Kind}
 use Rattle.js_base.specs.declared.kind.Kind.TheVariants.{Yield, Await, RAngle}
@@ -22,7 +22,7 @@ use Rattle.js_parsing.specs.Moves.{IsWholeHere}
 use Rattle.js_parsing.specs.Stands.{NameHere, NameUnder}
 use Rattle.js_parsing.specs.States.{At}
 use Rattle.js_parsing.proofs.Here.{uncut}
-use Rattle.js_parsing.proofs.Paths.{angles, at_kinds, reads}
+use Rattle.js_parsing.proofs.Paths.{at_kinds, reads}
 
 -- the kinds of names
 abbrev pub a_name : Look

@@ -1,11 +1,11 @@
 -- First sets by the parameters Yield and Await: where one is on, its word is no name (ECMA-262, 13.1).
-use Rattle.std.proofs.Common.{ℕ, ◌≡◌, Bool, true, false, not, ◌&&◌, ◌||◌, List, [], ◌∷◌, IsTrue, refl, sym, subst, ◌∙◌}
+use Rattle.std.proofs.Common.{ℕ, ◌≡◌, Bool, true, false, not, ◌&&◌, ◌||◌, List, refl, sym, subst, ◌∙◌}
 use Rattle.std.proofs.lemmas.Bool.{false≢true, and_from}
 use Rattle.js_base.specs.declared.kind.Kind.{Kind}
 use Rattle.js_base.specs.declared.kind.Kind.TheVariants.{Yield, Await}
 use Rattle.js_base.specs.Kinds.{same_kind, one_of_kinds}
 use Rattle.js_grammar.specs.Trees.{end}
-use Rattle.js_grammar.specs.Grammar.{Lexeme, Look, seen}
+use Rattle.js_grammar.specs.Grammar.{Lexeme, Look}
 use Rattle.js_grammar.specs.Parsing.{Test, Fails, full}
 use Rattle.js_grammar.specs.Productions.{G, Flags, Name, Symbol, at, Program, Statement, Labeled, Arrow', Param, DecoratorMember, Conditional, Short, Coalesce, Or, And, BitOr, BitXor, BitAnd, Equality, Relational, Shift, Additive, Multiply, Exponent, Unary, Update, LeftHandSide, New, Member, Call, Chain, Links, Primary, IdentifierReference, BindingIdentifier, LabelIdentifier, SimpleTarget, Target, TargetElement, Binding, BElement}
 use Rattle.js_grammar.specs.Table.{rule, rule_of}

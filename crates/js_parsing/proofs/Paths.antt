@@ -1,5 +1,5 @@
 -- Readings between two states of a parser.
-use Rattle.std.proofs.Common.{ℕ, ◌≡◌, ◌<◌, max, List, [], ◌∷◌, ◌⊎◌, inl, inr, Bool, true, false, not, ◌&&◌, ◌||◌, IsTrue, refl, sym, ap, subst, arith, ◌∙◌}
+use Rattle.std.proofs.Common.{ℕ, ◌≡◌, ◌<◌, max, List, [], ◌∷◌, Bool, true, false, not, ◌&&◌, ◌||◌, IsTrue, refl, sym, ap, subst, arith, ◌∙◌}
 use Rattle.std.proofs.lemmas.Bool.{false≢true, and_parts, and_from}
 use Rattle.js_base.specs.declared.kind.Kind.{Kind}
 use Rattle.js_base.specs.declared.kind.Kind.TheVariants.{Ident, RAngle}

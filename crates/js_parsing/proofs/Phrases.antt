@@ -27,7 +27,7 @@ use Rattle.js_parsing.specs.Lexemes.{Lex, Plain}
 use Rattle.js_parsing.specs.States.{At}
 use Rattle.js_parsing.specs.Answers.{Verdict, Stretch, Underived, Numbered, Outcome, beside}
 use Rattle.js_parsing.proofs.Dead.{live, lives}
-use Rattle.js_parsing.proofs.Paths.{reads, fails_at}
+use Rattle.js_parsing.proofs.Paths.{fails_at}
 use Rattle.js_parsing.proofs.Tight.{narrowing, plain_reads}
 use Rattle.js_parsing.proofs.Signs.{other_kind}
 use Rattle.js_base.proofs.KindLemmas.{kind_of_same}

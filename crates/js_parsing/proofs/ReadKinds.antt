@@ -38,7 +38,7 @@ read_there {text} {p = p} a e r = go a.plain
     go (sign c k x) =
         let w = covered angles plain_read angles_read x.lexeme.kind false false (cut_angle x.lexeme (sym x.tells.kind ∙ k)) in
         let z = and_parts (one_of_kinds read_kinds x.lexeme.kind) _ w in
-        (x.lexeme, (x.stands.lex, read_of x.lexeme refl (sym (cut_escaped x.lexeme) ∙ (sym x.tells.escaped ∙ plain_word {p.token} k refl e)) z.0))
+        (x.lexeme, (x.stands.lex, read_of x.lexeme refl (sym (cut_escaped x.lexeme) ∙ (sym x.tells.escaped ∙ plain_word p.token k refl e)) z.0))
     go (no_lexeme c k n) = absurd (false≢true (sym (ap (one_of_kinds read_kinds) k) ∙ r))
 
 abbrev a_sign : Look

@@ -1,26 +1,25 @@
 -- What begins with a slash or with `}`: the division sign, `/=` and the brace by the plain lexical goal, a regular expression or a part of a template by its own (ECMA-262, 12).
-use Rattle.std.proofs.Common.{ℕ, ◌+◌, ◌≡◌, ◌==◌, ◌⊎◌, inl, inr, Bool, true, false, not, ◌&&◌, ◌||◌, List, [], ◌∷◌, ◌++◌, Option, Some, None, IsTrue, refl, sym, ap, subst, arith, ◌∙◌}
+use Rattle.std.proofs.Common.{ℕ, ◌+◌, ◌≡◌, ◌==◌, ◌⊎◌, inl, inr, Bool, true, false, not, ◌&&◌, ◌||◌, List, [], ◌∷◌, ◌++◌, Option, Some, None, refl, sym, ap, subst, ◌∙◌}
 use Rattle.std.specs.Prelude.{codes, is_some}
 use Rattle.std.proofs.lemmas.Bool.{false≢true, and_from, eqb-true}
 use Rattle.js_base.specs.declared.kind.Kind.{Kind}
 use Rattle.js_base.specs.declared.kind.Kind.TheVariants.{Eof, HashbangComment, RCurly, RegExp, Slash, SlashEq, TemplateMiddle, TemplateTail}
-use Rattle.js_base.specs.Characters.{one_of, is_decimal}
+use Rattle.js_base.specs.Characters.{one_of}
 use Rattle.js_base.specs.Kinds.{same_kind, one_of_kinds}
-use Rattle.js_base.specs.Texts.{text_of, words, punctuators}
+use Rattle.js_base.specs.Texts.{words, punctuators}
 use Rattle.js_base.proofs.KindLemmas.{kind_of_same}
-use Rattle.js_grammar.specs.Characters.{width, begins}
+use Rattle.js_grammar.specs.Characters.{width}
 use Rattle.js_grammar.specs.Grammar.{Lexeme}
-use Rattle.js_grammar.specs.Longest.{longest, none_longer, joined}
+use Rattle.js_grammar.specs.Longest.{joined}
 use Rattle.js_grammar.specs.Trivia.{are_trivia}
 use Rattle.js_grammar.specs.RegularExpressions.{flags, flagged, behind_pattern}
 use Rattle.js_grammar.specs.Templates.{closes_template, part_kind, template_tail_kind}
 use Rattle.js_grammar.proofs.Lexemes.{first_or}
 use Rattle.js_grammar.proofs.Looks.{same_self}
-use Rattle.js_grammar.specs.Lexemes.{LexicalGoal, division, regular_expression, template_tail, hashbang, kind_in, plain_kind, lexemes_in, may_precede, punctuator_kind, is_escaped, units_of}
-use Rattle.js_grammar.specs.Lexed.{Lex as StandsBehind, Stands, IsLexeme, all_faults}
+use Rattle.js_grammar.specs.Lexemes.{LexicalGoal, division, regular_expression, template_tail, hashbang, kind_in, plain_kind, lexemes_in, is_escaped, units_of}
+use Rattle.js_grammar.specs.Lexed.{Lex as StandsBehind, IsLexeme, all_faults}
 use Rattle.js_grammar.proofs.QuickLexemes.{none_goes_on, none_goes_on-is}
 use Rattle.js_lex.specs.Reading.{LexemeBehind}
-use Rattle.js_lex.specs.Punctuators.{punctuator_of}
 use Rattle.js_lex.proofs.KindsOfLexemes.{no_plain, opened, plain_end, pattern_is, tail_is, hashbang_is}
 use Rattle.js_lex.proofs.Punctuators.{kind_some}
 use Rattle.js_parsing.specs.Lexemes.{other_goals, signs_of, slashes, template_tails}

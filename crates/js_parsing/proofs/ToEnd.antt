@@ -1,10 +1,8 @@
 -- Whether lexemes that are the same in every lexical goal lead to the end of the text.
-use Rattle.std.proofs.Common.{ℕ, ◌≡◌, Bool, true, false, ◌||◌, List, [], ◌∷◌, refl, sym, ap, subst, ◌∙◌}
+use Rattle.std.proofs.Common.{ℕ, ◌≡◌, false, List, sym, ap, subst, ◌∙◌}
 use Rattle.std.proofs.lemmas.Bool.{false≢true}
 use Rattle.js_base.specs.declared.kind.Kind.TheVariants.{Eof}
-use Rattle.js_base.specs.declared.kind.Kind.{Kind}
-use Rattle.js_base.specs.Kinds.{same_kind, one_of_kinds}
-use Rattle.js_grammar.specs.Grammar.{Lexeme, Look, last, next}
+use Rattle.js_grammar.specs.Grammar.{Lexeme, last, next}
 use Rattle.js_grammar.specs.Lexed.{Lexes}
 use Rattle.js_grammar.specs.Productions.{Flags}
 use Rattle.js_cursor.specs.Parsers.{Parser}

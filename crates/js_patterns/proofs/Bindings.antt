@@ -123,7 +123,7 @@ module _ {text : List ℕ} {f : Flags} {p : Parser} (a : At text f p) where
     where
       by : (b : Bool) → escaped_word p.token.kind p.token.escaped ≡ b → Underived text (at Binding f) p.prev_token_end
       by true e = fails_escaped a e
-      by false e = fails_by (fails_unnamed a f {X = after (at Binding f)} (λ g. rule (at Binding g)) (LBrack ∷ LCurly ∷ []) refl refl refl refl refl (no_name_here f p (name_at false a n) e) (or_kind LBrack (LCurly ∷ []) p.token.kind (λ k. u k (plain_word {p.token} k refl e)) (or_kind LCurly [] p.token.kind (λ k. v k (plain_word {p.token} k refl e)) refl)))
+      by false e = fails_by (fails_unnamed a f {X = after (at Binding f)} (λ g. rule (at Binding g)) (LBrack ∷ LCurly ∷ []) refl refl refl refl refl (no_name_here f p (name_at false a n) e) (or_kind LBrack (LCurly ∷ []) p.token.kind (λ k. u k (plain_word p.token k refl e)) (or_kind LCurly [] p.token.kind (λ k. v k (plain_word p.token k refl e)) refl)))
 
 pub name_outcome : (text : List ℕ) (f : Flags) (p q : Parser) (r : Result NodeId Stop) → At text f p → NameHere p true → MatchResult r (λ id. TakesLeaf node_kind.BindingIdentifier op_made.None p q id) OnlyMemory → Outcome text f (at Binding f) p q r
 name_outcome text f p q (Ok id) a s m = let h = name_at true a s in name_answers a h.0 h.1 (m text f a)

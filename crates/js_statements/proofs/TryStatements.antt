@@ -304,7 +304,7 @@ module _ {text : List ℕ} {f : Flags} {p : Parser} (a : At text f p) where
     where
       by : (b : Bool) → escaped_word p.token.kind p.token.escaped ≡ b → Fails rule (Lex text) (plain no_clause) end (with_catch f) p.prev_token_end
       by true e = fails_escaped a e
-      by false e = fails_at a {X = plain no_clause} (with_catch f) (kind.Catch ∷ []) refl (other_kind kind.Catch p.token.kind (λ k. n k (plain_word {p.token} k refl e)))
+      by false e = fails_at a {X = plain no_clause} (with_catch f) (kind.Catch ∷ []) refl (other_kind kind.Catch p.token.kind (λ k. n k (plain_word p.token k refl e)))
 
   no_finally_here : {X : Test} → StandsHere p kind.Finally false → Fails rule (Lex text) X end (finally_of f) p.prev_token_end
   no_finally_here n = no_token a kind.Finally refl n

@@ -101,19 +101,23 @@ fn surrogates(rt: HostRuntime) {
     }
 }
 
-/// Whether it is one of the names of the rows.
-fn is_name(raw: &str) -> bool
+/// Whether it is one of the names without escapes of the rows.
+fn is_plain(raw: &str) -> bool
     ensures { IsTrue result → IsSome (name_text (chars raw.now)) }
 {
-    matches!(
-        raw,
-        "plain" | "\\u0061b" | "\\u{61}wait" | "x\\u{1D7D8}" | "\u{E9}"
-    )
+    matches!(raw, "plain" | "\u{E9}")
+}
+
+/// Whether it is one of the names with escapes of the rows.
+fn is_escaped(raw: &str) -> bool
+    ensures { IsTrue result → IsSome (name_text (chars raw.now)) }
+{
+    matches!(raw, "\\u0061b" | "\\u{61}wait" | "x\\u{1D7D8}")
 }
 
 /// Whether a name stands for a text.
 fn name_is(alloc: Global, raw: &str, wanted: &str) -> bool {
-    if !is_name(raw) {
+    if !is_plain(raw) && !is_escaped(raw) {
         return false;
     }
     match decode_name(alloc, raw) {

@@ -1,4 +1,6 @@
-use Rattle.std.proofs.Common.{◌≡◌, true, sym, ◌∙◌}
+use Rattle.std.proofs.Common.{refl, sym, ◌∙◌}
+use Rattle.js_base.specs.Kinds.{one_of_kinds}
+use Rattle.js_parsing.specs.Operators.{unary_kinds}
 use Rattle.js_parsing.proofs.Escapes.{no_name_where, plain_here, word_plain}
 use Rattle.js_parsing.proofs.Giving.{gives_up_here, fails_escaped}
 use Rattle.js_operands.proofs.Operands.{unary_listed}
@@ -23,4 +25,4 @@ pub parse_unary_expression-requires-clause-plain : goal.parse_unary_expression-r
 parse_unary_expression-requires-clause-plain t c = word_plain _ _ (no_name_where (one_of_kinds unary_kinds) c.args.p.now.token.kind (unary_listed c.cur_kind.ensures c.is_unary_operator.ensures c.if-is_unary_operator.true) refl) (sym c.escaped_word_stands.ensures ∙ c.if-escaped_word_stands.false)
 
 pub parse_await_expression-requires-clause-plain : goal.parse_await_expression-requires-clause-plain
-parse_await_expression-requires-clause-plain t c = (plain_here c.args.p.now (c.begins_await.ensures.0 c.if-begins_await.true).0 refl c.escaped_word_stands.ensures c.if-escaped_word_stands.false).1
+parse_await_expression-requires-clause-plain t c = (plain_here c.args.p.now (c.begins_await.ensures.0 c.if-begins_await.true).kind refl c.escaped_word_stands.ensures c.if-escaped_word_stands.false).1

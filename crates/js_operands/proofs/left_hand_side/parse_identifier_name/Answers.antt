@@ -1,4 +1,4 @@
-use Rattle.std.proofs.Common.{◌≡◌, true, false, ap, sym, ◌∙◌}
+use Rattle.std.proofs.Common.{ap, sym, ◌∙◌}
 use Rattle.js_parsing.specs.Lexemes.{read_word}
 use Rattle.js_parsing.proofs.Giving.{gives_up_here, fails_escaped}
 use Rattle.js_operands.proofs.Members.{no_name, word_whole, name_taken}

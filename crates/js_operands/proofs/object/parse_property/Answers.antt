@@ -1,4 +1,4 @@
-use Rattle.std.proofs.Common.{◌≡◌, [], ◌∷◌, true, false, ap, sym, refl, ◌∙◌}
+use Rattle.std.proofs.Common.{[], ◌∷◌, ap, sym, refl, ◌∙◌}
 use Rattle.js_base.specs.declared.kind.Kind.TheVariants.{Dot3, Star}
 use Rattle.js_grammar.specs.Productions.{at, Property}
 use Rattle.js_parsing.specs.Lexemes.{read_word}

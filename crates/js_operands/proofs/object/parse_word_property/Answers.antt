@@ -1,4 +1,4 @@
-use Rattle.std.proofs.Common.{◌≡◌, [], ◌∷◌, Bool, false, not, ◌&&◌, sym, ap, arith, ◌∙◌}
+use Rattle.std.proofs.Common.{◌≡◌, [], ◌∷◌, Bool, false, not, ◌&&◌, refl, sym, ap, arith, ◌∙◌}
 use Rattle.js_base.specs.Kinds.{one_of_kinds}
 use Rattle.js_base.specs.declared.span.Span.{Span}
 use Rattle.js_base.specs.declared.token.Token.{Token}
@@ -36,7 +36,7 @@ returns-in-Some g c = λ text f a.
     let e : c.span-span.result ≡ c.args.p.now.token.span = c.span-span.ensures ∙ ap (λ (t : Token). t.span) c.cur_token-word.ensures in
     let k : c.kind.result ≡ c.args.p.now.token.kind = c.kind.ensures ∙ ap (λ (t : Token). t.kind) c.cur_token-word.ensures in
     let b = one_form c.in-Some.form k c.cur_kind.ensures (sym c.accessor_form.ensures ∙ c.in-Some.is) in
-    item_by text f c.args.p.now (at Property f) _ c.parse_accessor.result (accessor_only a c.requires.word c.requires.plain m c.in-Some.form b) (c.parse_accessor.ensures text f c.args.p.now a (ap (λ (s : Span). s.start) e) b.0 (begins_plain c.in-Some.form b.0 c.requires.plain) m)
+    item_by text f c.args.p.now (at Property f) _ c.parse_accessor.result (accessor_only a c.requires.word c.requires.plain m c.in-Some.form b) (c.parse_accessor.ensures text f c.args.p.now a (ap (λ (s : Span). s.start) e) b.0 (begins_plain c.args.p.now.token c.in-Some.form b.0 c.requires.plain) m)
 
 pub parse_async_method-requires-clause-at : goal.parse_async_method-requires-clause-at
 parse_async_method-requires-clause-at g c = standing (c.in_ok-advance.ensures _ _ c.requires.at).at
@@ -60,7 +60,7 @@ returns-then-begins_async_method g c = λ text f a.
     let e : c.span-span.result ≡ c.args.p.now.token.span = c.span-span.ensures ∙ ap (λ (t : Token). t.span) c.cur_token-word.ensures in
     let i : c.kind-2.result ≡ c.args.p.now.token.kind = c.kind-2.ensures ∙ ap (λ (t : Token). t.kind) c.cur_token-word.ensures in
     let b = async_is c.args.p.now.token.kind c.advance.new.p.token.kind c.advance.new.p.token.is_on_new_line (async_so i c.cur_token.ensures c.begins_async_method.ensures c.if-begins_async_method.true) in
-    item_by text f c.args.p.now (at Property f) _ c.parse_async_method.result (async_only a c.requires.word c.requires.plain m b.0 b.1) (c.parse_async_method.ensures text f c.args.p.now a (ap (λ (s : Span). s.start) e) b.0 (plain_word {c.args.p.now.token} b.0 refl c.requires.plain) b.1 m)
+    item_by text f c.args.p.now (at Property f) _ c.parse_async_method.result (async_only a c.requires.word c.requires.plain m b.0 b.1) (c.parse_async_method.ensures text f c.args.p.now a (ap (λ (s : Span). s.start) e) b.0 (plain_word c.args.p.now.token b.0 refl c.requires.plain) b.1 m)
 
 pub parse_shorthand-requires-clause-at : goal.parse_shorthand-requires-clause-at
 parse_shorthand-requires-clause-at g c = standing (c.in_ok-advance.ensures _ _ c.requires.at).at

@@ -1,4 +1,4 @@
-use Rattle.std.proofs.Common.{◌∙◌, ◌≡◌, sym, ap, refl, inl, inr, true, false}
+use Rattle.std.proofs.Common.{◌∙◌, sym, ap, refl, inl, inr, false}
 use Rattle.js_base.specs.KindSets.{number_kinds}
 use Rattle.js_base.specs.Kinds.{one_of_kinds}
 use Rattle.js_base.specs.declared.kind.Kind.TheVariants.{This, Null, True, False, Str}

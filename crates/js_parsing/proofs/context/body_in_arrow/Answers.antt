@@ -1,6 +1,5 @@
 use Rattle.std.proofs.Common.{ap, arith, refl}
 use Rattle.std.proofs.lemmas.Result.{err_from_is_err_and}
-use Rattle.js_base.specs.Contexts.{has_flag, in_flag}
 use Rattle.js_grammar.specs.Productions.{Flags, at, Body}
 use Rattle.js_parsing.specs.Contexts.{braced_body}
 use Rattle.js_parsing.specs.Nesting.{room}

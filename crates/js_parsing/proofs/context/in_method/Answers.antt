@@ -1,5 +1,5 @@
-use Rattle.std.proofs.Common.{◌≡◌, ◌&&◌, Bool, ap₂, sym, ◌∙◌}
-use Rattle.js_base.specs.Contexts.{in_flag, yield_flag, await_flag, await_expression_flag, return_flag, new_target_flag}
+use Rattle.std.proofs.Common.{◌&&◌, Bool, ap₂, ◌∙◌}
+use Rattle.js_base.specs.Contexts.{in_flag, yield_flag, await_flag, await_expression_flag, return_flag}
 use Rattle.js_parsing.proofs.context.in_method.Goals as goal
 
 pub returns : goal.returns

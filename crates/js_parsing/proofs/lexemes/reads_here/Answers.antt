@@ -1,4 +1,4 @@
-use Rattle.std.proofs.Common.{◌≡◌, Bool, true, false, not, sym, ap, subst, ◌∙◌}
+use Rattle.std.proofs.Common.{Bool, not, sym, ap, subst, ◌∙◌}
 use Rattle.js_base.specs.Kinds.{one_of_kinds}
 use Rattle.js_parsing.specs.Lexemes.{read_kinds}
 use Rattle.js_parsing.specs.Stands.{ReadsHere}
