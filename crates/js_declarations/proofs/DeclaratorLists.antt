@@ -136,7 +136,7 @@ pub record Underway (text : List ℕ) (f : Flags) (c : Bool) (p q : Parser) (ids
   pub prefix : Slots
   pub pass : Lexemes → Lexemes
   pub walked : Walked text (spot p) (spot q) pass
-  pub verdict : Verdict p.errors q.errors (Onward text f c p q prefix pass) (NoneOf text (list_of c f) p.prev_token_end)
+  pub verdict : Verdict (f.wide ≡ true) p.errors q.errors (Onward text f c p q prefix pass) (NoneOf text (list_of c f) p.prev_token_end)
   pub holds : HoldsAll q.nodes (length p.nodes) (length q.nodes) ids prefix
   pub keeps : Keeps p.nodes q.nodes
 
@@ -184,8 +184,8 @@ module _ {text : List ℕ} {f : Flags} {c : Bool} {p q v : Parser} {ids : List (
       keeps = subst (λ (ns : List Node). Keeps p.nodes ns) (sym m.nodes) (Keeps-trans s.keeps x.keeps);
     }
       where
-        kept_by : {C B : Type 0} → Verdict q.errors v.errors C B → Verdict q.errors r.errors C B
-        kept_by {C} {B} d = subst (λ (ds : List Diagnostic). Verdict q.errors ds C B) (sym m.kept) d
+        kept_by : {C B : Type 0} → Verdict (f.wide ≡ true) q.errors v.errors C B → Verdict (f.wide ≡ true) q.errors r.errors C B
+        kept_by {C} {B} d = subst (λ (ds : List Diagnostic). Verdict (f.wide ≡ true) q.errors ds C B) (sym m.kept) d
 
 -- the loop, whatever the text and the parameters are
 pub record DeclaratorLoop (c : Bool) (ids : List (Option NodeId)) (p q : Parser) : Type 0 where

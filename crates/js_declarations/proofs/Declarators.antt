@@ -293,7 +293,7 @@ module _ {text : List ℕ} {f : Flags} {p q : Parser} (a : At text f p) (x : Ans
 
 -- a node of a declarator was made
 declared : {text : List ℕ} {f : Flags} {c : Bool} {p w : Parser} (q : Parser) {l : Label} {cs : Slots} {id : NodeId} {pass : Lexemes → Lexemes} → At text f q → Same p q → p.token.span.start < q.prev_token_end → Walked text (spot p) (spot q) pass
-    → Verdict p.errors q.errors (One text (declarator c f) p.prev_token_end q.prev_token_end l cs pass) (NoOne text (declarator c f) p.prev_token_end) → apart (is Comma) (ends_row (row_of l cs)) ≡ true
+    → Verdict (f.wide ≡ true) p.errors q.errors (One text (declarator c f) p.prev_token_end q.prev_token_end l cs pass) (NoOne text (declarator c f) p.prev_token_end) → apart (is Comma) (ends_row (row_of l cs)) ≡ true
     → (f.in_ ≡ true → (q.token.kind ≡ Comma → ⊥) → (y : Lexeme) → Plain text q.prev_token_end y → IsTrue (seen (stops_row (row_of l cs)) y)) → w ≡ record q { nodes = w.nodes } → Holds w.nodes (length p.nodes) (length w.nodes) id.0 l cs → Keeps p.nodes w.nodes
     → (IsCharBoundary p.text p.token.span.start → NodesLie q.text q.nodes → NodesLie q.text w.nodes) → Declarator text f c p w id
 declared {text} {f} {c} {p} {w} q {l} {cs} {id} {pass} at same further walked verdict comma stops m h k i = go w.nodes m h k i
@@ -377,7 +377,7 @@ module _ {text : List ℕ} {f : Flags} {p q : Parser} {binding : NodeId} (a : At
         go o (inl (t, e, u)) z =
             let z' : MadeHere (label_here variable_declarator no_op p q) (Some binding ∷ None ∷ []) q w id = subst (λ (v : Parser). MadeHere (label_here variable_declarator no_op p q) (Some binding ∷ None ∷ []) v w id) u z in
             declared q x.answer.at x.answer.same x.answer.further x.answer.walked
-            (subst (λ (c' : Bool). Verdict p.errors q.errors (One text (declarator c' f) p.prev_token_end q.prev_token_end (label_here variable_declarator no_op p q) (tree x.answer.label x.answer.slots (hole end)) x.answer.pass) (NoOne text (declarator c' f) p.prev_token_end)) (sym e)
+            (subst (λ (c' : Bool). Verdict (f.wide ≡ true) p.errors q.errors (One text (declarator c' f) p.prev_token_end q.prev_token_end (label_here variable_declarator no_op p q) (tree x.answer.label x.answer.slots (hole end)) x.answer.pass) (NoOne text (declarator c' f) p.prev_token_end)) (sym e)
             (verdict_of x.answer.verdict (λ u. one_bare a x.answer n (subst (λ (b : Bool). NameHere p b) t h) u) (λ u. unbound false u)))
             comma_behind_name (λ in_ no y l. name_ends x.answer.at n no y l) z'.stays (name_held refl z') (Keeps-trans x.keeps (Keeps-made z'.made)) (made_lies x.answer.same x.answer.at.at (let i = x.answer.further in omega arith) z' refl)
         go o (inr (t, u)) z =

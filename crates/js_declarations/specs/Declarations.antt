@@ -75,7 +75,7 @@ pub record Declarator (text : List ℕ) (f : Flags) (c : Bool) (p q : Parser) (i
   pub slots : Slots
   pub pass : Lexemes → Lexemes
   pub walked : Walked text (spot p) (spot q) pass
-  pub verdict : Verdict p.errors q.errors (One text (declarator c f) p.prev_token_end q.prev_token_end label slots pass) (NoOne text (declarator c f) p.prev_token_end)
+  pub verdict : Verdict (f.wide ≡ true) p.errors q.errors (One text (declarator c f) p.prev_token_end q.prev_token_end label slots pass) (NoOne text (declarator c f) p.prev_token_end)
   -- with a comma behind it the declaration goes on; without one, and where `in` is an operator, nothing goes on with it
   pub comma : apart (is Comma) (ends_row (row_of label slots)) ≡ true
   pub stops : f.in_ ≡ true → (q.token.kind ≡ Comma → ⊥) → (y : Lexeme) → Plain text q.prev_token_end y → IsTrue (seen (stops_row (row_of label slots)) y)
@@ -139,7 +139,7 @@ pub record Declarators (text : List ℕ) (f : Flags) (c : Bool) (p q : Parser) (
   pub slots : Slots
   pub pass : Lexemes → Lexemes
   pub walked : Walked text (spot p) (spot q) pass
-  pub verdict : Verdict p.errors q.errors (AllOf text (list_of c f) p.prev_token_end q.prev_token_end slots pass) (NoneOf text (list_of c f) p.prev_token_end)
+  pub verdict : Verdict (f.wide ≡ true) p.errors q.errors (AllOf text (list_of c f) p.prev_token_end q.prev_token_end slots pass) (NoneOf text (list_of c f) p.prev_token_end)
   pub stops : f.in_ ≡ true → (y : Lexeme) → Plain text q.prev_token_end y → IsTrue (seen (stops_row (edge after_word after_word slots)) y)
   pub holds : HoldsAll q.nodes (length p.nodes) (length q.nodes) ids slots
   pub keeps : Keeps p.nodes q.nodes

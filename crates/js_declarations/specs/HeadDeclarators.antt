@@ -52,7 +52,7 @@ pub record BoundThrough (text : List ℕ) (f : Flags) (c : Bool) (p q : Parser) 
   pub slots : Slots
   pub pass : Lexemes → Lexemes
   pub walked : Walked text (spot p) (spot q) pass
-  pub verdict : Verdict p.errors q.errors (Stretch text (plain full) (bound_alone f) p.prev_token_end nothing q.prev_token_end (tree label slots) pass) (Fails rule (Lex text) (plain full) no_slots (bound_alone f) p.prev_token_end)
+  pub verdict : Verdict (f.wide ≡ true) p.errors q.errors (Stretch text (plain full) (bound_alone f) p.prev_token_end nothing q.prev_token_end (tree label slots) pass) (Fails rule (Lex text) (plain full) no_slots (bound_alone f) p.prev_token_end)
   pub no_list : Fails rule (Lex text) (plain (is Semicolon)) no_slots (list_of c f) p.prev_token_end
   pub no_value : Fails rule (Lex text) (plain (is In)) no_slots (named_value f) p.prev_token_end
   pub holds : Holds q.nodes (length p.nodes) (length q.nodes) id.0 label slots
@@ -64,7 +64,7 @@ pub record ValueTaken (text : List ℕ) (f : Flags) (p q : Parser) (id : NodeId)
   pub slots : Slots
   pub pass : Lexemes → Lexemes
   pub walked : Walked text (spot p) (spot q) pass
-  pub verdict : Verdict p.errors q.errors (Stretch text (plain (is In)) (named_value f) p.prev_token_end nothing q.prev_token_end (tree label slots) pass) (Fails rule (Lex text) (plain (is In)) no_slots (named_value f) p.prev_token_end)
+  pub verdict : Verdict (f.wide ≡ true) p.errors q.errors (Stretch text (plain (is In)) (named_value f) p.prev_token_end nothing q.prev_token_end (tree label slots) pass) (Fails rule (Lex text) (plain (is In)) no_slots (named_value f) p.prev_token_end)
   pub holds : Holds q.nodes (length p.nodes) (length q.nodes) id.0 label slots
 
 -- so it was, or none is derived, by the form that was read
@@ -102,7 +102,7 @@ pub record HeadList (text : List ℕ) (f : Flags) (c : Bool) (p q : Parser) (ids
   pub slots : Slots
   pub pass : Lexemes → Lexemes
   pub walked : Walked text (spot p) (spot q) pass
-  pub verdict : Verdict p.errors q.errors (AllOf text (list_of c f) p.prev_token_end q.prev_token_end slots pass) (NoneOf text (list_of c f) p.prev_token_end)
+  pub verdict : Verdict (f.wide ≡ true) p.errors q.errors (AllOf text (list_of c f) p.prev_token_end q.prev_token_end slots pass) (NoneOf text (list_of c f) p.prev_token_end)
   pub holds : HoldsAll q.nodes (length p.nodes) (length q.nodes) ids slots
   pub keeps : Keeps p.nodes q.nodes
 

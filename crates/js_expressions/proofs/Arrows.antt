@@ -65,10 +65,10 @@ use Rattle.js_cursor.specs.Parsers.{Parser}
 use Rattle.js_cursor.specs.Places.{IsAt}
 use Rattle.js_cursor.proofs.Changing.{came_back, back_follows}
 use Rattle.js_cursor.proofs.Later.{keeps_follows}
-use Rattle.js_parsing.specs.Answers.{Underived, Answer, Answers, beside, Numbered, Outcome, Refuses, Stretch, Stops, Grown, Verdict, clean, unclean}
+use Rattle.js_parsing.specs.Answers.{Underived, Answer, Answers, beside, Numbered, Outcome, Refuses, Stretch, Stops, Grown, Verdict, clean, unclean, wider}
 use Rattle.js_cursor.specs.Notes.{Notes}
 use Rattle.js_parsing.specs.Contexts.{arrow_body, braced_body, arrow_head}
-use Rattle.js_expressions.specs.Arrows.{ArrowBehind, AsyncPassed, BeforeArrow, led_head, told_led, ChecksLine, FindsAnyHead, FindsHead, Head, HeadRead, read_clean, read_unclean, IsHeadBefore, IsHeadHere, IsRefusedHead, Leads, LooksForHead, NamesHead, NoArrowHere, NoLed, NoLine, NoLineHere, NoParametersHere, OnlyLed, ParametersRead, PlainHead, a_head, told_head, Single, ToldHead, Unmoved, WentOn, arrow_label, body_of, head_of, late_arrow, lead_of, line_of}
+use Rattle.js_expressions.specs.Arrows.{ArrowBehind, AsyncPassed, BeforeArrow, led_head, told_led, ChecksLine, FindsAnyHead, FindsHead, Head, HeadRead, read_clean, read_unclean, IsHeadBefore, IsHeadHere, Leads, LooksForHead, NamesHead, NoArrowHere, NoLed, NoLine, NoLineHere, NoParametersHere, OnlyLed, ParametersRead, PlainHead, a_head, told_head, Single, ToldHead, Unmoved, WentOn, arrow_label, body_of, head_of, late_arrow, lead_of, line_of}
 use Rattle.js_expressions.specs.declared.arrow.ArrowHead.{ArrowHead}
 use Rattle.js_parsing.specs.Heads.{NoHead, OnlyArrow}
 use Rattle.js_expressions.specs.Rests.{OnlyOperandHere}
@@ -81,7 +81,7 @@ use Rattle.js_parsing.proofs.KeptTokens.{before_back, last_back}
 use Rattle.js_parsing.specs.Lexemes.{Lex, escaped_word, name_kinds, other_goals, signs, spot, slashes, Plain, may_name, Walked}
 use Rattle.js_parsing.specs.Moves.{Moved, MadeHere, LeafTaken, TakesLeaf, plain_label}
 use Rattle.js_parsing.specs.States.{At, Same, Standing, flags_of, IsPlain, whole, sign, nothing as nothing_here, NodesLie, SpansLie}
-use Rattle.js_targets.proofs.ArraysBeforeSigns.{is_cover, not_wide}
+use Rattle.js_targets.proofs.ArraysBeforeSigns.{is_cover}
 use Rattle.js_targets.proofs.Assigned.{arrow_passes, no_yield, only_arrow}
 use Rattle.js_targets.specs.Others.{NoYield}
 use Rattle.js_parsing.proofs.NamedFirsts.{fails_unnamed}
@@ -375,7 +375,7 @@ head_of_path {text} {f} {p} {q} w {l} {cs} {id} r e s n h k i = go w.nodes n h k
       at = beside_nodes ns r.at;
       same = same_with ns s (subst (λ (z : Parser). Keeps p.nodes z.nodes) n k) (λ b z. subst (λ (v : Parser). NodesLie q.text v.nodes) n (i b z));
       further = r.further;
-      kept = e;
+      quiet = inl e;
       label = l;
       slots = cs;
       pass = r.pass;
@@ -486,12 +486,20 @@ name_finds p q (Some id) a n h = named_head a n h
 name_finds p q None a n h = h
 
 -- parameters in parentheses
-pub parenthesized_head : {text : List ℕ} {f : Flags} {p q : Parser} {id : NodeId} → At text f p → p.token.kind ≡ LParen → Numbered text f (at Params f) p q id → length q.errors ≡ length p.errors → Head text f f p q id
-parenthesized_head {p = p} {q = q} a k x e = head_of_path q (parameters_path a k x.answer) (by x.answer.verdict) x.answer.same refl x.holds x.keeps (λ b z. z)
-  where
-    by : {C B : Type 0} → Verdict p.errors q.errors C B → q.errors ≡ p.errors
-    by (clean i c) = i
-    by (unclean g n) = absurd (longer g (sym e))
+pub parenthesized_head : {text : List ℕ} {f : Flags} {p q : Parser} {id : NodeId} → At text f p → p.token.kind ≡ LParen → (x : Numbered text f (at Params f) p q id) → Quiet f p q → Stretch text (after (at Params f)) (such (at Params f) always) p.prev_token_end nothing q.prev_token_end (tree x.answer.label x.answer.slots) x.answer.pass → Head text f f p q id
+parenthesized_head {f = f} {p = p} a k x e z = record {
+  at = x.answer.at;
+  same = x.answer.same;
+  further = x.answer.further;
+  quiet = e;
+  label = x.answer.label;
+  slots = x.answer.slots;
+  pass = x.answer.pass;
+  walked = x.answer.walked;
+  read = record { reach = max 0 z.reach; near = let i = z.near in omega arith; goes = right (no_name f k) ▹ weaken_on z.goes (record { admits = λ ts vs k ls rest d e. (refl, refl) }) };
+  holds = x.holds;
+  keeps = x.keeps;
+}
 
 -- a name
 pub single_head : {text : List ℕ} {f : Flags} {p q v w : Parser} {name parameter id : NodeId} (s : Span) → At text f p → may_name f.yield_ f.await_ p.token.kind ≡ true → escaped_word p.token.kind p.token.escaped ≡ false → s ≡ p.token.span → LeafTaken node_kind.BindingIdentifier op_made.None text f p q name → MadeHere (plain_label node_kind.FormalParameter op_made.None s) (Some name ∷ None ∷ []) q v parameter → MadeHere (plain_label node_kind.FormalParameters op_made.None s) (Some parameter ∷ []) v w id → Head text f f p w id
@@ -527,7 +535,7 @@ closed_arrow {text} {f} {s} h = record { no = λ ts vs j ls rest m d e. go ts vs
 
 -- neither a head nor an operand begins here
 pub unassigned : {text : List ℕ} {f : Flags} {p : Parser} → At text f p → p.token.kind ≡ LParen → NoHead text f p.prev_token_end → Underived text (at Short f) p.prev_token_end → Underived text (at Assignment f) p.prev_token_end
-unassigned {f = f} a k n s = fails_by (only_arrow f (not_wide a) (is_cover a) (no_yield_paren a k) (conditional_none f s) s ▹✗ weaken_fails_on (no_head_no_arrow a k n) (same_read (at Assignment f) (at Arrow' f) arrow_passes refl))
+unassigned {f = f} a k n s = fails_by (only_arrow f (is_cover a) (no_yield_paren a k) (conditional_none f s) s ▹✗ weaken_fails_on (no_head_no_arrow a k n) (same_read (at Assignment f) (at Arrow' f) arrow_passes refl))
 
 -- parameters of which something was told
 told_parameters : {text : List ℕ} {f : Flags} {p q : Parser} {id : NodeId} → Numbered text f (at Params f) p q id → Grown p.errors q.errors → ToldHead text f p q id
@@ -547,8 +555,9 @@ told_parameters x g = record {
 -- parameters where no operand begins
 pub certain_head : {text : List ℕ} {f : Flags} {p q : Parser} {id : NodeId} → At text f p → p.token.kind ≡ LParen → Underived text (at Short f) p.prev_token_end → Numbered text f (at Params f) p q id → PlainHead text f p q id
 certain_head a k s x = elim x.answer.verdict [
-  | clean e z ↦ a_head (parenthesized_head a k x (ap length e)) (no_yield_paren a k) s
+  | clean e z ↦ a_head (parenthesized_head a k x (inl e) z) (no_yield_paren a k) s
   | unclean g z ↦ told_head (told_parameters x g) (unassigned a k (no_parameters a z) s)
+  | wider w g z ↦ a_head (parenthesized_head a k x (inr (w, g)) z) (no_yield_paren a k) s
 ]
 
 module _ {p q : Parser} (a : Standing p) (k : p.token.kind ≡ LParen) where
@@ -558,8 +567,9 @@ module _ {p q : Parser} (a : Standing p) (k : p.token.kind ≡ LParen) where
     where
       by : {text : List ℕ} {f : Flags} → At text f p → Numbered text f (at Params f) p q id → HeadRead text f f p q id
       by a y = elim y.answer.verdict [
-        | clean e z ↦ read_clean (parenthesized_head a k y (ap length e))
+        | clean e z ↦ read_clean (parenthesized_head a k y (inl e) z)
         | unclean g z ↦ read_unclean (told_parameters y g) (no_parameters a z)
+        | wider w g z ↦ read_clean (parenthesized_head a k y (inr (w, g)) z)
       ]
 
   pub head_unread : {id : NodeId} → Answers (at Params) p q (Ok id) → (q.token.kind ≡ Arrow → ⊥) → WentOn p q × NoParametersHere p
@@ -589,9 +599,6 @@ none_looked p o q r s e h = subst (λ (z : Parser). WentOn z q × NoParametersHe
 pub some_looked : (p o q : Parser) (id : NodeId) (r : Option NodeId) → o ≡ p → r ≡ Some id → LooksForHead o q r → ParametersRead p q id
 some_looked p o q id r s e h = subst (λ (z : Parser). ParametersRead z q id) s (subst (LooksForHead o q) e h)
 
-pub refused_so : (kept : ℕ) (p : Parser) {r : Bool} → r ≡ true → IsRefusedHead kept p r → (length p.errors ≡ kept → ⊥) × (p.token.kind ≡ Arrow)
-refused_so kept p e h = subst (λ (b : Bool). IsRefusedHead kept p b) e h
-
 -- neither a name nor a parenthesis
 pub neither : {p : Parser} → NameHere p false → StandsHere p LParen false → NoLineHere p
 neither {p} n m = λ text f a. by text f (escaped_word p.token.kind p.token.escaped) refl a
@@ -602,8 +609,12 @@ neither {p} n m = λ text f a. by text f (escaped_word p.token.kind p.token.esca
 
 -- ---- where the parser is where it was
 
+-- it stood so there before
+pub before_unmoved : {text : List ℕ} {f : Flags} {p q : Parser} → Standing p → Unmoved p q → At text f q → At text f p
+before_unmoved {p = p} {q = q} a u b = standing_for a (sym u.same.follows.text ∙ b.text_is) (sym (flags_same p q u.same.ctx u.same.follows.source_type u.same.options) ∙ b.flags_are)
+
 pub unmoved_none : {p q : Parser} → Standing p → Unmoved p q → NoArrowHere p → NoArrowHere q
-unmoved_none {p} {q} a u n = λ text f b. subst (λ (s : ℕ). Underived text (at Arrow' f) s) (sym u.place) (subst (λ (g : Flags). Underived text (at Arrow' g) p.prev_token_end) (sym (flags_same p q u.same.ctx u.same.follows.source_type u.same.options) ∙ b.flags_are) (subst (λ (t : List ℕ). Underived t (at Arrow' (flags_of p)) p.prev_token_end) (sym u.same.follows.text ∙ b.text_is) (n _ _ a)))
+unmoved_none {p} {q} a u n = λ text f b. subst (λ (s : ℕ). Underived text (at Arrow' f) s) (sym u.place) (n text f (before_unmoved a u b))
 
 pub unmoved_went_on : {p q : Parser} → Standing p → Unmoved p q → WentOn p q
 unmoved_went_on a u = let b = u.at _ _ a in ((u.same.follows, b.at), b.heads, λ w. (u.same.lies w).1)
@@ -621,7 +632,7 @@ no_yield_here {text} {f} {p} a n = go (escaped_word p.token.kind p.token.escaped
     go false e = no_yield a (λ k. by (has_flag yield_flag p.ctx) refl k (plain_word p.token k refl e))
 
 unmoved_yield : {p q : Parser} → Standing p → Unmoved p q → (BeginsYield p → ⊥) → (text : List ℕ) (f : Flags) → At text f q → NoYield text f q.prev_token_end
-unmoved_yield {p} {q} a u n text f b = subst (λ (s : ℕ). NoYield text f s) (sym u.place) (subst (λ (g : Flags). NoYield text g p.prev_token_end) (sym (flags_same p q u.same.ctx u.same.follows.source_type u.same.options) ∙ b.flags_are) (subst (λ (t : List ℕ). NoYield t (flags_of p) p.prev_token_end) (sym u.same.follows.text ∙ b.text_is) (no_yield_here a n)))
+unmoved_yield {p} {q} a u n text f b = subst (λ (s : ℕ). NoYield text f s) (sym u.place) (no_yield_here (before_unmoved a u b) n)
 
 pub only_operand : {p q : Parser} → Standing p → (BeginsYield p → ⊥) → Unmoved p q → NoArrowHere p → OnlyOperandHere q
 only_operand a y u n = λ text f b. (unmoved_none a u n text f b, unmoved_yield a u y text f b)
@@ -638,8 +649,8 @@ from_unmoved text f n {p} {q} w (Ok id) u x = record {
     row = x.answer.row;
     pass = x.answer.pass;
     walked = walked_from u.spot_is x.answer.walked;
-    verdict = subst (λ (s : ℕ). Verdict p.errors w.errors (Stretch text (after n) (such n always) s nothing w.prev_token_end (tree x.answer.label x.answer.slots) x.answer.pass) (Underived text n s)) u.place
-        (subst (λ (ds : List Diagnostic). Verdict ds w.errors (Stretch text (after n) (such n always) q.prev_token_end nothing w.prev_token_end (tree x.answer.label x.answer.slots) x.answer.pass) (Underived text n q.prev_token_end)) u.kept x.answer.verdict);
+    verdict = subst (λ (s : ℕ). Verdict (f.wide ≡ true) p.errors w.errors (Stretch text (after n) (such n always) s nothing w.prev_token_end (tree x.answer.label x.answer.slots) x.answer.pass) (Underived text n s)) u.place
+        (subst (λ (ds : List Diagnostic). Verdict (f.wide ≡ true) ds w.errors (Stretch text (after n) (such n always) q.prev_token_end nothing w.prev_token_end (tree x.answer.label x.answer.slots) x.answer.pass) (Underived text n q.prev_token_end)) u.kept x.answer.verdict);
   };
   holds = Holds-wider (length p.nodes) (length w.nodes) (Keeps-longer u.keeps) (omega arith) x.holds;
   keeps = Keeps-trans u.keeps x.keeps;
@@ -675,10 +686,24 @@ went_back {p} {q} {r} o m (f, n, l) g =
 
 -- ---- an arrow function
 
+-- what is said of what was read
+quiet_verdict : {f : Flags} {p q : Parser} {C B : Type 0} → Quiet f p q → C → Verdict (f.wide ≡ true) p.errors q.errors C B
+quiet_verdict (inl e) c = clean e c
+quiet_verdict (inr (w, g)) c = wider w g c
+
+-- behind what kept none
+quiet_behind : {f : Flags} {o p q : Parser} → p.errors ≡ o.errors → Quiet f p q → Quiet f o q
+quiet_behind e (inl i) = inl (i ∙ e)
+quiet_behind e (inr (w, g)) = inr (w, grown_then e g)
+
+-- and more was kept behind it
+quiet_grown : {f : Flags} {p q : Parser} {ds : List Diagnostic} → Quiet f p q → Grown q.errors ds → Grown p.errors ds
+quiet_grown (inl e) g = grown_then e g
+quiet_grown (inr (w, h)) g = grown_both h g
+
 -- what a later call says of what was kept
-behind : {K : Type 0} {p q r : List K} {C B : Type 0} → Grown p q → Verdict q r C B → Grown p r
-behind g (clean e c) = grown_first g e
-behind g (unclean h n) = grown_both g h
+behind : {W K : Type 0} {p q r : List K} {C B : Type 0} → Grown p q → Verdict W q r C B → Grown p r
+behind g v = grown_on g v
 
 -- the body: in braces where a brace stands, else an expression
 to_body : {text : List ℕ} {f : Flags} {X : Test} {r : Parser} (m : Bool) → At text f r → (b : Bool) → same_kind LCurly r.token.kind ≡ b → Goes rule (Lex text) X end (body_slots m f) r.prev_token_end (such (body_of b m f) always) r.prev_token_end (λ us. us) (still 0)
@@ -803,7 +828,7 @@ module _ {text : List ℕ} (a : Bool) {f : Flags} (o : Parser) {l p : Parser} {i
       go ts vs (is_such d c) x = absurd (false≢true x.1)
 
   head_path : Path text f (plain full) (head_of (arrow_head a f)) l nothing p (tree h.label h.slots)
-  head_path = record { at = h.at; further = h.further; pass = h.pass; walked = h.walked; verdict = clean h.kept h.read }
+  head_path = record { at = h.at; further = h.further; pass = h.pass; walked = h.walked; verdict = quiet_verdict h.quiet h.read }
 
   -- the line where `=>` stands on a new one
   late_rule : p.token.is_on_new_line ≡ true → Fails rule (Lex text) (after (at Assignment f)) end (rule (at Assignment f)) o.prev_token_end
@@ -848,16 +873,16 @@ module _ {text : List ℕ} (a : Bool) {f : Flags} (o : Parser) {l p q r : Parser
   up_to : Same o p
   up_to = same_both (lead_same text f o l a d) h.same
 
-  nothing_told : p.errors ≡ o.errors
-  nothing_told = h.kept ∙ lead_kept text f o l a d
+  quietly : Quiet f o p
+  quietly = quiet_behind (lead_kept text f o l a d) h.quiet
 
   -- the body can't be read
   pub arrow_stops : (w : Parser) (e : Stop) → Stops r w e (Underived text (body_of b a f) r.prev_token_end) → Stops o w e (Underived text (at Assignment f) o.prev_token_end)
   arrow_stops w e s = go c m s
     where
       go : {q : Parser} → ChecksLine p q → Moved text f q r → Stops r w e (Underived text (body_of b a f) r.prev_token_end) → Stops o w e (Underived text (at Assignment f) o.prev_token_end)
-      go (inl (l, c)) m s = stops_behind w e (same_both up_to (same_both (line_same (inl (l, c))) m.same)) (λ g. grown_then nothing_told (grown_both (kept_one c) (grown_then m.kept g))) (λ z. fails_by (late_rule a o d h y k l)) s
-      go (inr (n, j)) m s = stops_behind w e (same_both up_to (same_both (line_same (inr (n, j))) m.same)) (λ g. grown_then (m.kept ∙ (ap (λ (z : Parser). z.errors) j ∙ nothing_told)) g) (λ z. body_fails a o d h y k n (subst (λ (z : Parser). Moved text f z r) j m) b i z) s
+      go (inl (l, c)) m s = stops_behind w e (same_both up_to (same_both (line_same (inl (l, c))) m.same)) (λ g. quiet_grown {f = f} quietly (grown_both (kept_one c) (grown_then m.kept g))) (λ z. fails_by (late_rule a o d h y k l)) s
+      go (inr (n, j)) m s = stops_behind w e (same_both up_to (same_both (line_same (inr (n, j))) m.same)) (λ g. quiet_grown {f = f} quietly (grown_then (m.kept ∙ ap (λ (z : Parser). z.errors) j) g)) (λ z. body_fails a o d h y k n (subst (λ (z : Parser). Moved text f z r) j m) b i z) s
 
   arrow_path : {w : Parser} → At text f o → (x : Answer text f (body_of b a f) r w) → Path text f (after (at Assignment f)) (rule (at Assignment f)) o nothing w (tree (flagged_here arrow_function_expression no_op (flag a async_flag) o w) (tree h.label h.slots (tree x.label x.slots end)))
   arrow_path {w} t x = go c m
@@ -869,7 +894,7 @@ module _ {text : List ℕ} (a : Bool) {f : Flags} (o : Parser) {l p q r : Parser
         further = let v = lead_start text f o l a d in let j = h.further in let d = line_place (inl (n, c)) in let e = (line_at h.at (inl (n, c))).behind in let g = m.further in let u = m.at.behind in let i = x.further in omega arith;
         pass = λ ls. lead_pass text f o l a d (h.pass (next m.lexeme (x.pass ls)));
         walked = walked_both (led_walk text f o l a p d h.walked) (walked_both (walked_from (line_spot (inl (n, c))) (walked_one m)) x.walked);
-        verdict = unclean (grown_then nothing_told (behind (grown_first (kept_one c) m.kept) x.verdict)) (late_rule a o d h y k n);
+        verdict = unclean (quiet_grown {f = f} quietly (behind (grown_first (kept_one c) m.kept) x.verdict)) (late_rule a o d h y k n);
       }
 
   pub arrow_answers : {w z : Parser} {body made : NodeId} (s : Span) → At text f o → (x : Numbered text f (body_of b a f) r w body) → s.start ≡ o.token.span.start → s.end ≡ w.prev_token_end → MadeHere (arrow_label a s) (Some id ∷ Some body ∷ []) w z made → Numbered text f (at Assignment f) o z made
@@ -884,12 +909,6 @@ module _ {text : List ℕ} (a : Bool) {f : Flags} (o : Parser) {l p q r : Parser
       by_path (arrow_path t y.answer) (same_both up_to (same_both (line_same c) (same_both m.same y.answer.same))) x.stays (λ j w. behind_body b a y.answer j w) (row_of_body b a y.answer) (two_held x hs ks j i) (Keeps-trans ks (Keeps-trans i (Keeps-made x.made))) refl (one_lies x)
 
 -- ---- and behind what was no head
-
-told_of : {text : List ℕ} {f : Flags} {o p : Parser} {id : NodeId} → Numbered text f (at Assignment f) o p id → (length p.errors ≡ length o.errors → ⊥) → Grown o.errors p.errors × Underived text (at Assignment f) o.prev_token_end
-told_of x n = elim x.answer.verdict [
-  | clean e y ↦ absurd (n (ap length e))
-  | unclean g z ↦ (g, z)
-]
 
 line_grown : {p q : Parser} {ds : List Diagnostic} → ChecksLine p q → Grown ds p.errors → Grown ds q.errors
 line_grown (inl (e, c)) g = grown_both g (kept_one c)
@@ -907,21 +926,6 @@ module _ {text : List ℕ} (a : Bool) {f : Flags} {o p : Parser} {id : NodeId} w
   pub before_further : BeforeArrow a text f o p id → o.token.span.start < p.prev_token_end
   before_further (led_head l d h y) = let b = lead_start text f o l a d in let c = h.further in omega arith
   before_further (told_led x n) = x.further
-
--- an AssignmentExpression of which something was told
-pub refused : {text : List ℕ} {f : Flags} {o p : Parser} {id : NodeId} → Numbered text f (at Assignment f) o p id → (length p.errors ≡ length o.errors → ⊥) → BeforeArrow false text f o p id
-refused x n = let t = told_of x n in told_led (record {
-  at = x.answer.at;
-  same = x.answer.same;
-  further = x.answer.further;
-  grown = t.0;
-  label = x.answer.label;
-  slots = x.answer.slots;
-  pass = x.answer.pass;
-  walked = x.answer.walked;
-  holds = x.holds;
-  keeps = x.keeps;
-}) t.1
 
 pub before_stops : {text : List ℕ} (a : Bool) {f : Flags} {o p q r : Parser} {id : NodeId} → BeforeArrow a text f o p id → p.token.kind ≡ Arrow → ChecksLine p q → Moved text f q r → (b : Bool) → same_kind LCurly r.token.kind ≡ b → (w : Parser) (e : Stop) → Stops r w e (Underived text (body_of b a f) r.prev_token_end) → Stops o w e (Underived text (at Assignment f) o.prev_token_end)
 before_stops a {f} {o} (led_head l d h y) k c m b i w e s = arrow_stops a o d h y k c m b i w e s

@@ -43,7 +43,7 @@ use Rattle.js_targets.specs.Targets.{target_of, TargetNode}
 use Rattle.js_targets.proofs.Assigned.{an_assign, Assigns, assigns, assign_slots, assign_part, then_assign, not_target, assigned}
 use Rattle.js_expressions.proofs.Conditionals.{no_conditional}
 use Rattle.js_parsing.proofs.Signs.{other_kind}
-use Rattle.js_targets.proofs.ArraysBeforeSigns.{is_cover, no_array, no_array_there, no_object_there, not_wide, target_no_literal}
+use Rattle.js_targets.proofs.ArraysBeforeSigns.{is_cover, no_array, no_array_there, no_object_there, target_no_literal}
 use Rattle.js_expressions.specs.Rests.{OnlyOperand}
 use Rattle.js_targets.specs.Targets.{is_literal}
 use Rattle.js_targets.proofs.Covers.{row_of_target, lexed_there, no_simple_there, underived_there}
@@ -70,8 +70,8 @@ shifted {text} {f} {n} {p} {q} {t} {id} x o = record {
     row = x.answer.row;
     pass = x.answer.pass;
     walked = walked_to (sym o.spot_is) x.answer.walked;
-    verdict = subst (λ (v : ℕ). Verdict p.errors t.errors (Stretch text (after n) (such n always) p.prev_token_end nothing v (tree x.answer.label x.answer.slots) x.answer.pass) (Underived text n p.prev_token_end)) (sym o.place)
-        (subst (λ (ds : List Diagnostic). Verdict p.errors ds (Stretch text (after n) (such n always) p.prev_token_end nothing q.prev_token_end (tree x.answer.label x.answer.slots) x.answer.pass) (Underived text n p.prev_token_end)) (sym o.kept) x.answer.verdict);
+    verdict = subst (λ (v : ℕ). Verdict (f.wide ≡ true) p.errors t.errors (Stretch text (after n) (such n always) p.prev_token_end nothing v (tree x.answer.label x.answer.slots) x.answer.pass) (Underived text n p.prev_token_end)) (sym o.place)
+        (subst (λ (ds : List Diagnostic). Verdict (f.wide ≡ true) p.errors ds (Stretch text (after n) (such n always) p.prev_token_end nothing q.prev_token_end (tree x.answer.label x.answer.slots) x.answer.pass) (Underived text n p.prev_token_end)) (sym o.kept) x.answer.verdict);
   };
   holds = subst (λ (ns : List Node). Holds ns (length p.nodes) (length ns) id.0 x.answer.label x.answer.slots) (sym o.nodes) x.holds;
   keeps = subst (λ (ns : List Node). Keeps p.nodes ns) (sym o.nodes) x.keeps;
@@ -211,7 +211,7 @@ assign_marked {text} {f} {p} {q} a x c u b e start d k = subst (λ (v : List ℕ
           within = (subst (λ (v : List ℕ). IsCharBoundary v q.prev_token_end) x.at.text_is x.at.at.between).0;
           begins_between = subst (λ (v : ℕ). IsCharBoundary text v) (sym d) (subst (λ (v : List ℕ). IsCharBoundary v p.token.span.start) a.text_is a.at.lies.starts_whole);
           ends_between = subst (λ (v : List ℕ). IsCharBoundary v q.prev_token_end) x.at.text_is x.at.at.between;
-          stands = (inr (underived_there x a z stood.0 stood.1 f Target (record { start = start; end = q.prev_token_end }) d refl (λ t h. no_target f (λ t h. no_object_there (not_wide a) (is_cover a) z b stood.0 m sign h) (λ t h. no_simple_there x a z stood.0 stood.1 (of_short f) e follows t h) (λ t h. no_array_there (not_wide a) (is_cover a) z (no_array x.label.kind b) stood.0 m sign h) t h)), (refl, refl));
+          stands = (inr (underived_there x a z stood.0 stood.1 f Target (record { start = start; end = q.prev_token_end }) d refl (λ t h. no_target f (λ t h. no_object_there (is_cover a) z b stood.0 m sign h) (λ t h. no_simple_there x a z stood.0 stood.1 (of_short f) e follows t h) (λ t h. no_array_there (is_cover a) z (no_array x.label.kind b) stood.0 m sign h) t h)), (refl, refl));
         }
 
 pub assign_whole : {text : List ℕ} {f : Flags} {p q : Parser} {power : ℕ} → Tightness text f p q power → one_of_kinds assign_operators q.token.kind ≡ true → (q.cut ≡ false) × (is_last q.token.kind ≡ false)

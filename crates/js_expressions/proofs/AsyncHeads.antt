@@ -51,7 +51,7 @@ use Rattle.js_parsing.proofs.Signs.{other_kind, plain_sign}
 use Rattle.js_parsing.proofs.Escapes.{no_name_where, plain_word, read_as, read_unnamed, read_word_plain}
 use Rattle.js_parsing.proofs.Verdicts.{grown_then}
 use Rattle.js_operands.proofs.Operands.{name_signless}
-use Rattle.js_targets.proofs.ArraysBeforeSigns.{array_part, is_cover, not_wide}
+use Rattle.js_targets.proofs.ArraysBeforeSigns.{array_part, is_cover}
 use Rattle.js_targets.proofs.Assigned.{arrow_passes, assign_part, assign_slots, no_branch, no_yield, only_arrow, to_choice}
 use Rattle.js_expressions.specs.Arrows.{AsyncHead, list_head, name_head, AsyncHeadBegins, AsyncPassed, AttemptsHead, BeforeArrow, led_head, told_led, BehindWord, FindsAnyHead, FindsAsyncHead, FindsHead, Head, HeadBehindAsync, read_clean, read_unclean, IsHeadBefore, IsPlainHead, NoAsyncHere, NoLed, NoLine, OnlyLed, PlainHead, a_head, told_head, SearchesHead, SearchesPlainHead, ToldHead, Unmoved, WentOn, lead_of, line_of}
 use Rattle.js_expressions.specs.declared.arrow.ArrowHead.{ArrowHead}
@@ -473,7 +473,7 @@ none_async p q r e h = subst (FindsAsyncHead p q) e h
 
 module _ {p r : Parser} (a : Standing p) (u : Unmoved p r) (n : NoAsyncHere p) where
   plain_before : {text : List ℕ} {f : Flags} {q : Parser} {id : NodeId} → At text f p → PlainHead text f p q id → BeforeArrow false text f p q id
-  plain_before {text} {f} {q} {id} b (a_head h y v) = led_head p refl (subst (λ (g : Flags). Head text f g p q id) (sym (plain_head_flags f)) h) (record { arrow = only_arrow f (not_wide b) (is_cover b) y (conditional_none f v) v; other = n text f b })
+  plain_before {text} {f} {q} {id} b (a_head h y v) = led_head p refl (subst (λ (g : Flags). Head text f g p q id) (sym (plain_head_flags f)) h) (record { arrow = only_arrow f (is_cover b) y (conditional_none f v) v; other = n text f b })
   plain_before b (told_head t v) = told_led t v
 
   plain_any : (q : Parser) (found : Option NodeId) (res : Option ArrowHead) → FindsHead p q found → IsPlainHead found res → FindsAnyHead p q res

@@ -32,7 +32,7 @@ use Rattle.js_cursor.specs.Parsers.{Parser}
 use Rattle.js_cursor.specs.Places.{IsAt, goal}
 use Rattle.js_cursor.proofs.Later.{keeps_follows}
 use Rattle.js_cursor.specs.declared.stop.Stop.{Stop}
-use Rattle.js_parsing.specs.Answers.{Grown, Verdict, clean, unclean, Stretch, Underived, Numbered, Stops, beside}
+use Rattle.js_parsing.specs.Answers.{Grown, Verdict, clean, unclean, wider, Stretch, Underived, Numbered, Stops, beside}
 use Rattle.js_targets.specs.Targets.{Stood}
 use Rattle.js_expressions.specs.Coalescing.{is_or_and, mixed_at, ChecksMixed}
 use Rattle.js_parsing.specs.Lexemes.{Lex, Walked, spot, Plain}
@@ -75,7 +75,7 @@ pub record Operands (text : List ℕ) (f : Flags) (p q : Parser) (id : NodeId) :
   pub row : of_operand (row_of label slots) ≡ true
   pub pass : Lexemes → Lexemes
   pub walked : Walked text (spot p) (spot q) pass
-  pub verdict : Verdict p.errors q.errors (Begun text f p.prev_token_end p.token.span.start label slots pass q.prev_token_end) (Unread text f p.prev_token_end)
+  pub verdict : Verdict (f.wide ≡ true) p.errors q.errors (Begun text f p.prev_token_end p.token.span.start label slots pass q.prev_token_end) (Unread text f p.prev_token_end)
   pub stops : (y : Lexeme) → Plain text q.prev_token_end y → IsTrue (seen (looser 5 f.in_ (row_of label slots)) y || seen beside y)
   pub holds : Holds q.nodes (length p.nodes) (length q.nodes) id.0 label slots
   pub keeps : Keeps p.nodes q.nodes
@@ -87,7 +87,7 @@ pub record Checked (text : List ℕ) (f : Flags) (p v w : Parser) (l : Label) (c
   pub nodes : w.nodes ≡ v.nodes
   pub place : w.prev_token_end ≡ v.prev_token_end
   pub spot_is : spot w ≡ spot v
-  pub verdict : Verdict p.errors w.errors (Begun text f p.prev_token_end p.token.span.start l cs pass v.prev_token_end) (Unread text f p.prev_token_end)
+  pub verdict : Verdict (f.wide ≡ true) p.errors w.errors (Begun text f p.prev_token_end p.token.span.start l cs pass v.prev_token_end) (Unread text f p.prev_token_end)
 
 pub operands_init : {text : List ℕ} {f : Flags} {p q : Parser} {id : NodeId} → Numbered text f (at Or f) p q id → Operands text f p q id
 operands_init {f = f} x = record {
@@ -186,7 +186,7 @@ module _ {text : List ℕ} {f : Flags} where
       abbrev Nowhere : Type 0
       Nowhere = Unread text f p.prev_token_end
 
-      both : Verdict p.errors v.errors (LeftReads × RightReads) Nowhere
+      both : Verdict (f.wide ≡ true) p.errors v.errors (LeftReads × RightReads) Nowhere
       both = and_then s.verdict (behind_none m.kept x.answer.verdict) (λ b y. (b, y)) (λ z. z) (λ b n. begun_fails f b s.row (sign_here s.at k) (inr (skip ▹✗ unread_operand n)))
 
       -- whether parentheses are missing
@@ -225,9 +225,10 @@ module _ {text : List ℕ} {f : Flags} where
       grown_of : {found : ℕ} → found ≡ length p.errors → (found ≡ length v.errors → ⊥) → Grown p.errors v.errors
       grown_of {found} e n = go both
         where
-          go : Verdict p.errors v.errors (LeftReads × RightReads) Nowhere → Grown p.errors v.errors
+          go : Verdict (f.wide ≡ true) p.errors v.errors (LeftReads × RightReads) Nowhere → Grown p.errors v.errors
           go (clean i c) = absurd (n (e ∙ sym (ap length i)))
           go (unclean g c) = g
+          go (wider w g c) = g
 
       pub checked : {w : Parser} {mixed : Bool} {start found : ℕ} → At text f p → mixed ≡ is_mixed → found ≡ length p.errors → ChecksMixed start mixed found v w (Ok tt) → Checked text f p v w pair_label pair_slots pair_pass
       checked {w} {mixed} {start} {found} a e i (inl c) = subst (λ (z : Parser). Checked text f p v z pair_label pair_slots pair_pass) (sym c.1.is) (record {
@@ -247,7 +248,7 @@ module _ {text : List ℕ} {f : Flags} where
         verdict = go mixed refl;
       })
         where
-          go : (b : Bool) → mixed ≡ b → Verdict p.errors v.errors (Begun text f p.prev_token_end p.token.span.start pair_label pair_slots pair_pass v.prev_token_end) Nowhere
+          go : (b : Bool) → mixed ≡ b → Verdict (f.wide ≡ true) p.errors v.errors (Begun text f p.prev_token_end p.token.span.start pair_label pair_slots pair_pass v.prev_token_end) Nowhere
           go true h = unclean (grown_of i (c.1 h)) (mixed_none (sym e ∙ h))
           go false h = verdict_of both (pair_reads a (sym e ∙ h)) (λ n. n)
 
@@ -361,7 +362,7 @@ module _ {text : List ℕ} {f : Flags} where
           row = x.answer.row;
           pass = pair_pass;
           walked = walked_to (sym c.spot_is) (walked_both s.walked (walked_both (walked_one m) x.answer.walked));
-          verdict = subst (λ (e : ℕ). Verdict p.errors w.errors (Begun text f p.prev_token_end p.token.span.start pair_label pair_slots pair_pass e) Nowhere) (sym c.place) c.verdict;
+          verdict = subst (λ (e : ℕ). Verdict (f.wide ≡ true) p.errors w.errors (Begun text f p.prev_token_end p.token.span.start pair_label pair_slots pair_pass e) Nowhere) (sym c.place) c.verdict;
           stops = subst (λ (e : ℕ). (y : Lexeme) → Plain text e y → IsTrue (seen (looser 5 f.in_ (row_of pair_label pair_slots)) y || seen beside y)) (sym c.place) pair_stops;
           holds = two_held n s.holds s.keeps right_held right_keeps;
           keeps = Keeps-trans s.keeps (Keeps-trans right_keeps (Keeps-made n.made));

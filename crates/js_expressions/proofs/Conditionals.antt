@@ -150,7 +150,7 @@ pub conditional_none : {text : List ℕ} (f : Flags) {s : ℕ} → Underived tex
 unfolding covers
 conditional_none {text} f {s} x = weaken_fails_on (lift_fails (at Conditional f) (at Short f) refl refl text s (short_none x) x) (same_read (at Assignment f) (at Conditional f) conditional_passes refl)
 
-pub test_none : {text : List ℕ} (f : Flags) {s : ℕ} → f.wide ≡ false → f.cover ≡ true → OnlyOperand text f s → Underived text (at Short f) s → Underived text (at Assignment f) s
+pub test_none : {text : List ℕ} (f : Flags) {s : ℕ} → f.cover ≡ true → OnlyOperand text f s → Underived text (at Short f) s → Underived text (at Assignment f) s
 unfolding covers
 test_none {text} f {s} w v a x = lift_fails (at Assignment f) (at Conditional f) refl refl text s (nothing_assigned f w v a x) (lift_fails (at Conditional f) (at Short f) refl refl text s (short_none x) x)
 

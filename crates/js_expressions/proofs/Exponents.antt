@@ -51,7 +51,7 @@ use Rattle.js_parsing.specs.Lexemes.{Lex}
 use Rattle.js_parsing.specs.Operators.{unary_kinds}
 use Rattle.js_parsing.specs.States.{At}
 use Rattle.js_parsing.specs.Moves.{Moved, MadeHere, IsWholeHere, plain_label, unpassable}
-use Rattle.js_parsing.specs.Answers.{Grown, Verdict, clean, unclean, Stretch, Underived, Answer, Numbered}
+use Rattle.js_parsing.specs.Answers.{Grown, Verdict, clean, unclean, wider, Stretch, Underived, Answer, Numbered}
 use Rattle.js_parsing.proofs.Signs.{plain_sign, other_kind}
 use Rattle.js_parsing.proofs.Giving.{kept_one}
 use Rattle.js_parsing.proofs.Told.{beside_errors}
@@ -307,9 +307,10 @@ module _ {text : List ℕ} {f : Flags} {p q : Parser} {id : NodeId} (a : At text
     stands = by x.answer.verdict;
   }
     where
-      by : Verdict p.errors q.errors (Stretch text (after (at Unary f)) (such (at Unary f) always) p.prev_token_end nothing q.prev_token_end (tree x.answer.label x.answer.slots) x.answer.pass) (Underived text (at Unary f) p.prev_token_end) → StandsAt UnaryExponentiationLeftOperand (goal q) q.text (record { start = p.token.span.start; end = q.prev_token_end }) None None
+      by : Verdict (f.wide ≡ true) p.errors q.errors (Stretch text (after (at Unary f)) (such (at Unary f) always) p.prev_token_end nothing q.prev_token_end (tree x.answer.label x.answer.slots) x.answer.pass) (Underived text (at Unary f) p.prev_token_end) → StandsAt UnaryExponentiationLeftOperand (goal q) q.text (record { start = p.token.span.start; end = q.prev_token_end }) None None
       by (clean i y) = base_stands h y
       by (unclean g m) = absurd (longer g e)
+      by (wider w g m) = absurd (longer g e)
 
   -- it begins with a unary operator, and diagnostics were kept
   broken : begins_by_unary f.awaits p.token.kind ≡ true → Grown p.errors q.errors → Numbered text f (at Update f) p q id
@@ -342,9 +343,10 @@ module _ {text : List ℕ} {f : Flags} {p q : Parser} {id : NodeId} (a : At text
   base_checked {r} {is_unary = true} {n} e i (inl c) = told (sym e) c.1 refl
   base_checked {r} {is_unary = true} {n} e i (inr c) = subst (λ (z : Parser). Numbered text f (at Update f) p z id) (sym c.0) (broken (sym e) (by x.answer.verdict))
     where
-      by : Verdict p.errors q.errors (Stretch text (after (at Unary f)) (such (at Unary f) always) p.prev_token_end nothing q.prev_token_end (tree x.answer.label x.answer.slots) x.answer.pass) (Underived text (at Unary f) p.prev_token_end) → Grown p.errors q.errors
+      by : Verdict (f.wide ≡ true) p.errors q.errors (Stretch text (after (at Unary f)) (such (at Unary f) always) p.prev_token_end nothing q.prev_token_end (tree x.answer.label x.answer.slots) x.answer.pass) (Underived text (at Unary f) p.prev_token_end) → Grown p.errors q.errors
       by (clean j y) = absurd (c.1 refl (i ∙ sym (ap length j)))
       by (unclean g m) = g
+      by (wider w g m) = g
   base_checked {r} {is_unary = false} {n} e i (inl c) = absurd (false≢true c.0)
   base_checked {r} {is_unary = false} {n} e i (inr c) = subst (λ (z : Parser). Numbered text f (at Update f) p z id) (sym c.0) (as_update a (sym e) x)
 

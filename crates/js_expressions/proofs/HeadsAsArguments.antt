@@ -1,12 +1,13 @@
 -- The parameters of an arrow function are derived as arguments too, over the same lexemes: by the cover grammar (CoverParenthesizedExpressionAndArrowParameterList, ECMA-262, 13.2).
-use Rattle.std.proofs.Common.{ℕ, zero, suc, ◌<◌, arith, ◌≡◌, true, false, IsTrue, refl}
+use Rattle.std.proofs.Common.{ℕ, zero, suc, ◌<◌, arith, ◌≡◌, Bool, true, false, IsTrue, refl, sym, ◌∙◌}
+use Rattle.std.proofs.lemmas.Bool.{false≢true}
 use Rattle.js_base.specs.declared.kind.Kind.TheVariants.{LBrack, RBrack, LCurly, RCurly, Comma, Colon, Dot3, Eq}
 use Rattle.js_grammar.specs.Trees.{Label, Slots, end, hole, tree, binding_rest_element}
 use Rattle.js_grammar.specs.Grammar.{Lexeme, Lexemes, next, seen, is, nothing, never, empty_slot, many, commas, such, ◌▸◌, ◌◇◌, Takes, is_nothing, is_lexeme, is_ahead, is_empty_slot, is_seq, is_left, is_right, is_when, is_many, is_commas, is_such, is_node}
 use Rattle.js_grammar.specs.Parsing.{always}
 use Rattle.js_grammar.specs.Productions.{G, Flags, at, mk, opt, tok, plus_in, Params, Param, Rest, Init, Assignment, Argument, LeftHandSide, IdentifierReference, BindingIdentifier, SimpleTarget, Target, ArrayTarget, ObjectTarget, TargetElement, TargetProperty, Binding, BElement, Pattern, PatternProperty, BindingRest}
 use Rattle.js_grammar.specs.Productions.{sym as symbol}
-use Rattle.js_grammar.specs.Table.{rule, rule_of, name, args}
+use Rattle.js_grammar.specs.Table.{rule, rule_of, name, args, bound_rest, rest_of}
 use Rattle.js_grammar.proofs.Frame.{framed}
 use Rattle.js_parsing.proofs.FreeOfIn.{any_in}
 use Rattle.js_targets.proofs.ArrayTargets.{One, deep, target_step, target_last, target_property, last_property, array_up, object_up}
@@ -22,13 +23,13 @@ abbrev binding_step : Flags → G
 binding_step f = empty_slot ▸ tok Comma ◇ symbol BElement f ▸ tok Comma
 
 abbrev binding_last : Flags → G
-binding_last f = symbol BElement f ◇ symbol BindingRest f ◇ nothing
+binding_last f = symbol BElement f ◇ rest_of f (symbol BindingRest f) ◇ nothing
 
 abbrev pattern_property : Flags → G
 pattern_property f = never ◇ symbol PatternProperty f ▸ tok Comma
 
 abbrev last_pattern_property : Flags → G
-last_pattern_property f = symbol PatternProperty f ◇ mk binding_rest_element (tok Dot3 ▸ symbol BindingIdentifier f) ◇ nothing
+last_pattern_property f = symbol PatternProperty f ◇ rest_of f (bound_rest f (symbol BindingIdentifier f)) ◇ nothing
 
 -- a name
 reference : (f : Flags) {ks ts us : Slots} {i j : ℕ} {ls rest : Lexemes} → Takes rule (symbol BindingIdentifier f) ks ts i ls us j rest → One (at IdentifierReference f) i ls j rest
@@ -50,7 +51,7 @@ bare_element f x = record { label = x.label; slots = x.slots; derived = is_left 
 
 default_element : (f : Flags) {us : Slots} {i j k : ℕ} {x : Lexeme} {ls mid rest : Lexemes} → One (at Target f) i ls j (next x mid) → IsTrue (seen (is Eq) x) → Takes rule (symbol Assignment (plus_in f)) end us x.to mid end k rest → One (at TargetElement f) i ls k rest
 unfolding rule rule_of
-default_element f x q e = record { label = _; slots = _; derived = is_right (is_left (is_when refl (is_node (is_seq (is_such x.derived refl) (is_seq (is_lexeme q) e))))) }
+default_element f x q e = record { label = _; slots = _; derived = is_right (is_left (is_node (is_seq (is_such x.derived refl) (is_seq (is_lexeme q) e)))) }
 
 -- a property, by a name alone, and by a name and an element
 short_property : (f : Flags) {i j : ℕ} {ls rest : Lexemes} → One (at IdentifierReference f) i ls j rest → One (at TargetProperty f) i ls j rest
@@ -103,7 +104,11 @@ object_of f q m l p = let b = l end in let a = m b.0 in record { label = _; slot
 abbrev UpTo : Flags → ℕ → Type 0
 UpTo f n = (ts us : Slots) (i j : ℕ) (ls rest : Lexemes) (d : Takes rule (rule (at Binding f)) end ts i ls us j rest) → deep d < n → One (at Target f) i ls j rest
 
-module _ (f : Flags) where
+-- what is there in the wider form alone
+not_wide : {A : Type 0} {b : Bool} → b ≡ false → b ≡ true → A
+not_wide e h = absurd (false≢true (sym e ∙ h))
+
+module _ (f : Flags) (w : f.wide ≡ false) where
   module _ {n : ℕ} (up : UpTo f n) where
     element_at : {ts us : Slots} {i j : ℕ} {ls rest : Lexemes} (d : Takes rule (rule (at BElement f)) end ts i ls us j rest) → deep d < n → One (at TargetElement f) i ls j rest
     unfolding rule rule_of
@@ -118,7 +123,9 @@ module _ (f : Flags) where
     last_at : {ks ts us : Slots} {i j : ℕ} {ls rest : Lexemes} (d : Takes rule (binding_last f) ks ts i ls us j rest) → deep d < n → Some' (target_last f) i ls j rest
     unfolding rule rule_of
     last_at (is_left (is_such d h)) c = last_element f (element_at d (omega arith))
-    last_at (is_right (is_left (is_such (is_node (is_seq (is_lexeme q) (is_such d h))) g))) c = rest_element f q (up _ _ _ _ _ _ d (omega arith))
+    last_at (is_right (is_left (is_seq (is_such (is_node (is_seq (is_lexeme q) (is_seq (is_such d h) (is_right is_nothing)))) g) (is_right is_nothing)))) c = rest_element f q (up _ _ _ _ _ _ d (omega arith))
+    last_at (is_right (is_left (is_seq (is_such (is_node (is_seq (is_lexeme q) (is_seq (is_such d h) (is_left (is_when z e))))) g) r))) c = not_wide w z
+    last_at (is_right (is_left (is_seq (is_such e g) (is_left (is_when z p))))) c = not_wide w z
     last_at (is_right (is_right is_nothing)) c = λ vs. (vs, is_right (is_right is_nothing))
 
     property_at : {ts us : Slots} {i j : ℕ} {ls rest : Lexemes} (d : Takes rule (rule (at PatternProperty f)) end ts i ls us j rest) → deep d < n → One (at TargetProperty f) i ls j rest
@@ -135,7 +142,9 @@ module _ (f : Flags) where
 
     last_property_at : {ks ts us : Slots} {i j : ℕ} {ls rest : Lexemes} (d : Takes rule (last_pattern_property f) ks ts i ls us j rest) → deep d < n → Some' (last_property f) i ls j rest
     last_property_at (is_left (is_such d h)) c = last_of_them f (property_at d (omega arith))
-    last_property_at (is_right (is_left (is_node (is_seq (is_lexeme q) d)))) c = rest_property f q (name_target f (reference f d))
+    last_property_at (is_right (is_left (is_seq (is_node (is_seq (is_lexeme q) (is_seq d (is_right is_nothing)))) (is_right is_nothing)))) c = rest_property f q (name_target f (reference f d))
+    last_property_at (is_right (is_left (is_seq (is_node (is_seq (is_lexeme q) (is_seq d (is_left (is_when z e))))) r))) c = not_wide w z
+    last_property_at (is_right (is_left (is_seq e (is_left (is_when z p))))) c = not_wide w z
     last_property_at (is_right (is_right is_nothing)) c = λ vs. (vs, is_right (is_right is_nothing))
 
     pattern_at : {ts us : Slots} {i j : ℕ} {ls rest : Lexemes} (d : Takes rule (rule (at Pattern f)) end ts i ls us j rest) → deep d < n → One (at Target f) i ls j rest
@@ -195,30 +204,32 @@ module _ (f : Flags) (w : f.wide ≡ false) (v : f.cover ≡ true) where
   target_assignment : {ts us : Slots} {i j : ℕ} {ls rest : Lexemes} → Takes rule (rule (at Target f)) end ts i ls us j rest → One (at Assignment (plus_in f)) i ls j rest
   unfolding rule rule_of
   target_assignment (is_left (is_such {l = l} {cs = cs} d h)) = let x = target_left_hand_side (record { label = l; slots = cs }) d in raised f x.derived
-  target_assignment (is_right (is_left (is_such d h))) = let x = array_up f w v d in raised f (by_primary x.derived)
-  target_assignment (is_right (is_right (is_such d h))) = let x = object_up f w v d in raised f (by_primary x.derived)
+  target_assignment (is_right (is_left (is_such d h))) = let x = array_up f v d in raised f (by_primary x.derived)
+  target_assignment (is_right (is_right (is_such d h))) = let x = object_up f v d in raised f (by_primary x.derived)
 
   param_argument : {ts us : Slots} {i j : ℕ} {ls rest : Lexemes} → Takes rule (rule (at Param f)) end ts i ls us j rest → One (at Argument f) i ls j rest
   unfolding rule rule_of
-  param_argument (is_node (is_seq (is_such d h) (is_right is_empty_slot))) = let x = binding_target f d in plain_argument f (target_assignment x.derived)
-  param_argument (is_node (is_seq (is_such d h) (is_left (is_such e g)))) = let x = binding_target f d in plain_argument f (assigned f x.derived e)
+  param_argument (is_node (is_seq (is_such d h) (is_right is_empty_slot))) = let x = binding_target f w d in plain_argument f (target_assignment x.derived)
+  param_argument (is_node (is_seq (is_such d h) (is_left (is_such e g)))) = let x = binding_target f w d in plain_argument f (assigned f x.derived e)
 
   rest_argument : {ts us : Slots} {i j : ℕ} {ls rest : Lexemes} → Takes rule (rule (at Rest f)) end ts i ls us j rest → One (at Argument f) i ls j rest
   unfolding rule rule_of
-  rest_argument (is_node (is_such (is_node (is_seq (is_lexeme q) (is_such d h))) g)) = let x = binding_target f d in spread_argument f q (target_assignment x.derived)
+  rest_argument (is_node (is_such (is_node (is_seq (is_lexeme q) (is_seq (is_such d h) (is_right is_nothing)))) g)) = let x = binding_target f w d in spread_argument f q (target_assignment x.derived)
+  rest_argument (is_node (is_such (is_node (is_seq (is_lexeme q) (is_seq (is_such d h) (is_left (is_when z e))))) g)) = not_wide w z
 
   params_at : {ks ms ts us vs : Slots} {i j k : ℕ} {ls mid rest : Lexemes} → Takes rule (many (never ◇ symbol Param f ▸ tok Comma)) ms ts i ls us j mid → (ws : Slots) × Takes rule (arguments f) ks ws j mid vs k rest → (ws : Slots) × Takes rule (arguments f) ks ws i ls vs k rest
   params_at (is_many (is_right is_nothing)) y = y
   params_at (is_many (is_left (is_seq (is_left z) m))) y = elim z [ ]
   params_at (is_many (is_left (is_seq (is_right (is_seq (is_such d h) (is_lexeme q))) m))) y = more_arguments f (param_argument d) q (params_at m y)
 
-  last_param : {ks ms ts us vs : Slots} {i j : ℕ} {ls rest : Lexemes} → Takes rule (symbol Param f ◇ symbol Rest f ◇ nothing) ms ts i ls us j rest → (ws : Slots) × Takes rule (arguments f) ks ws i ls vs j rest
+  last_param : {ks ms ts us vs : Slots} {i j : ℕ} {ls rest : Lexemes} → Takes rule (symbol Param f ◇ rest_of f (symbol Rest f) ◇ nothing) ms ts i ls us j rest → (ws : Slots) × Takes rule (arguments f) ks ws i ls vs j rest
   last_param (is_left (is_such d h)) = last_argument f (param_argument d)
-  last_param (is_right (is_left (is_such d h))) = last_argument f (rest_argument d)
+  last_param (is_right (is_left (is_seq (is_such d h) (is_right is_nothing)))) = last_argument f (rest_argument d)
+  last_param (is_right (is_left (is_seq e (is_left (is_when z p))))) = not_wide w z
   last_param {vs = vs} (is_right (is_right is_nothing)) = (vs, is_right is_nothing)
 
-pub params_as_arguments : (f : Flags) → f.cover ≡ true → f.wide ≡ false → {ks ts us : Slots} {i j : ℕ} {ls rest : Lexemes} → Takes rule (such (at Params f) always) ks ts i ls us j rest → (vs : Slots) × Takes rule (args f) ks vs i ls us j rest
+pub params_as_arguments : (f : Flags) → f.wide ≡ false → f.cover ≡ true → {ks ts us : Slots} {i j : ℕ} {ls rest : Lexemes} → Takes rule (such (at Params f) always) ks ts i ls us j rest → (vs : Slots) × Takes rule (args f) ks vs i ls us j rest
 unfolding rule rule_of
-params_as_arguments f v w (is_such (is_node (is_seq (is_lexeme q) (is_seq (is_seq m l) (is_lexeme p)))) h) =
+params_as_arguments f w v (is_such (is_node (is_seq (is_lexeme q) (is_seq (is_seq m l) (is_lexeme p)))) h) =
     let x = params_at f w v m (last_param f w v l) in
     (x.0, is_seq (is_lexeme q) (is_seq x.1 (is_lexeme p)))

@@ -11,32 +11,32 @@ use Rattle.js_cursor.proofs.Changing.{noted_on, operand_noted_on}
 use Rattle.js_cursor.proofs.Noting.{noted_step}
 use Rattle.js_expressions.specs.Arrows.{NoParametersHere, OnlyArrowHere, Unmoved}
 use Rattle.js_parsing.proofs.ToEnd.{to_end_stays}
-use Rattle.js_parsing.specs.Heads.{NoHead, NotedHeads, OnlyArrow, flags_in}
+use Rattle.js_parsing.specs.Heads.{NoHead, NotedHeads, OnlyArrow, flags_in, widened}
 use Rattle.js_parsing.specs.Lexemes.{spot}
 use Rattle.js_parsing.specs.States.{At, IsPlain, Standing, flags_of, whole, sign, nothing as none_stands, SpansLie}
 use Rattle.js_tree.specs.Holding.{Keeps}
 use Rattle.js_tree.specs.Nodes.{Node}
-use Rattle.js_parsing.proofs.Moving.{flags_same, same_both, standing}
+use Rattle.js_parsing.proofs.Moving.{flags_same, same_both, standing, standing_for}
 use Rattle.js_parsing.specs.Classes.{IsEarly}
 use Rattle.std.proofs.lemmas.List.Elements.{All-same}
 
 -- none stands here, by what is noted
 pub noted_none : {p : Parser} {place : ℕ} {b : Bool} → place ≡ p.prev_token_end → bits_of p.ctx < 65536 → b ≡ is_noted p.state.failed p.ctx place → b ≡ true → NoParametersHere p
 noted_none {p} {place} i w h e = λ text f a.
-    let n : NoHead p.text (flags_of p) p.prev_token_end = subst (λ (s : ℕ). NoHead p.text (flags_of p) s) i (a.heads.0 p.ctx place w (sym h ∙ e)) in
-    subst (λ (g : Flags). NoHead text g p.prev_token_end) a.flags_are (subst (λ (t : List ℕ). NoHead t (flags_of p) p.prev_token_end) a.text_is n)
+    let n : NoHead p.text (widened f.wide (flags_of p)) p.prev_token_end = subst (λ (s : ℕ). NoHead p.text (widened f.wide (flags_of p)) s) i (a.heads.0 f.wide p.ctx place w (sym h ∙ e)) in
+    subst (λ (g : Flags). NoHead text g p.prev_token_end) a.flags_are (subst (λ (t : List ℕ). NoHead t (widened f.wide (flags_of p)) p.prev_token_end) a.text_is n)
 
 -- behind arguments `=>` stands, by what is noted
 pub noted_operand : {text : List ℕ} {f : Flags} {q : Parser} {place : ℕ} → At text f q → bits_of q.ctx < 65536 → is_noted q.state.operands q.ctx place ≡ true → OnlyArrow text f place
-noted_operand {text} {f} {q} {place} a w h = subst (λ (g : Flags). OnlyArrow text g place) a.flags_are (subst (λ (t : List ℕ). OnlyArrow t (flags_of q) place) a.text_is (a.heads.1 q.ctx place w h))
+noted_operand {text} {f} {q} {place} a w h = subst (λ (g : Flags). OnlyArrow text g place) a.flags_are (subst (λ (t : List ℕ). OnlyArrow t (widened f.wide (flags_of q)) place) a.text_is (a.heads.1 f.wide q.ctx place w h))
 
 -- what is noted is so still
 pub noted_so : {p q : Parser} {place : ℕ} → Standing p → place ≡ p.prev_token_end → NoParametersHere p → NotesArrow place p q → NotedHeads q
-noted_so {p} {q} {place} a i n h = subst NotedHeads (sym h.is) (noted_step (λ c s. NoHead p.text (flags_in p c) s) h.noted.failed (subst (λ (v : ℕ). NoHead p.text (flags_of p) v) (sym i) (n _ _ a)) a.heads.0, λ c s b k. a.heads.1 c s b (subst (λ (v : List ℕ). is_noted v c s ≡ true) h.noted.operands k))
+noted_so {p} {q} {place} a i n h = subst NotedHeads (sym h.is) (λ w. noted_step (λ c s. NoHead p.text (widened w (flags_in p c)) s) h.noted.failed (subst (λ (v : ℕ). NoHead p.text (widened w (flags_of p)) v) (sym i) (n _ _ (standing_for a refl refl))) (a.heads.0 w), λ w c s b k. a.heads.1 w c s b (subst (λ (v : List ℕ). is_noted v c s ≡ true) h.noted.operands k))
 
 -- the same of operands
 pub operand_noted_so : {p q : Parser} {place : ℕ} → Standing p → place ≡ p.prev_token_end → OnlyArrowHere p → NotesNoOperand place p q → NotedHeads q
-operand_noted_so {p} {q} {place} a i n h = subst NotedHeads (sym h.is) (λ c s b k. a.heads.0 c s b (subst (λ (v : List ℕ). is_noted v c s ≡ true) h.noted.failed k), noted_step (λ c s. OnlyArrow p.text (flags_in p c) s) h.noted.operands (subst (λ (v : ℕ). OnlyArrow p.text (flags_of p) v) (sym i) (n _ _ a)) a.heads.1)
+operand_noted_so {p} {q} {place} a i n h = subst NotedHeads (sym h.is) (λ w c s b k. a.heads.0 w c s b (subst (λ (v : List ℕ). is_noted v c s ≡ true) h.noted.failed k), λ w. noted_step (λ c s. OnlyArrow p.text (widened w (flags_in p c)) s) h.noted.operands (subst (λ (v : ℕ). OnlyArrow p.text (widened w (flags_of p)) v) (sym i) (n _ _ (standing_for a refl refl))) (a.heads.1 w))
 
 plain_of : {text : List ℕ} {p : Parser} (ns : Notes) → IsPlain text p → IsPlain text (record p { state = ns })
 plain_of ns (whole c n x) = whole c n x
@@ -62,7 +62,7 @@ state_noted {p} {r} {q} u i g n =
 
 -- what is said of a place is so where the parser went back to it
 pub there_too : {p r : Parser} (A : List ℕ → Flags → ℕ → Type 0) → Standing p → Unmoved p r → ((text : List ℕ) (f : Flags) → At text f p → A text f p.prev_token_end) → (text : List ℕ) (f : Flags) → At text f r → A text f r.prev_token_end
-there_too {p} {r} A a u n = λ text f b. subst (λ (s : ℕ). A text f s) (sym u.place) (subst (λ (t : List ℕ). A t f p.prev_token_end) (sym u.same.follows.text ∙ b.text_is) (subst (λ (g : Flags). A p.text g p.prev_token_end) (sym (flags_same p r u.same.ctx u.same.follows.source_type u.same.options) ∙ b.flags_are) (n _ _ a)))
+there_too {p} {r} A a u n = λ text f b. subst (λ (s : ℕ). A text f s) (sym u.place) (n text f (standing_for a (sym u.same.follows.text ∙ b.text_is) (sym (flags_same p r u.same.ctx u.same.follows.source_type u.same.options) ∙ b.flags_are)))
 
 pub noted_here : {p r q : Parser} {place : ℕ} → Standing p → Unmoved p r → NoParametersHere p → place ≡ p.prev_token_end → NotesArrow place r q → Unmoved p q
 noted_here {p} {r} {q} {place} a u n i h = state_noted u h.is (noted_on (u.at _ _ a).at h) (λ text f b. noted_so (standing b) (i ∙ sym u.place) (there_too NoHead a u n) h)

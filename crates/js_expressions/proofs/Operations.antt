@@ -62,7 +62,7 @@ pub record Operand (text : List ℕ) (f : Flags) (m : ℕ) (p q : Parser) (id : 
   pub walked : Walked text (spot p) (spot q) pass
   pub cap : ℕ
   pub low : cap ≤ 10
-  pub verdict : Verdict p.errors q.errors (Ring text f m p.prev_token_end p.token.span.start cap label slots q.prev_token_end pass) (Underived text (level_at f m) p.prev_token_end)
+  pub verdict : Verdict (f.wide ≡ true) p.errors q.errors (Ring text f m p.prev_token_end p.token.span.start cap label slots q.prev_token_end pass) (Underived text (level_at f m) p.prev_token_end)
   pub stops : (y : Lexeme) → Plain text q.prev_token_end y → IsTrue (seen (looser (cap + 6) f.in_ (row_of label slots)) y || seen beside y)
   pub loose : (y : Lexeme) → Plain text q.prev_token_end y → IsTrue (seen (looser 15 f.in_ (row_of label slots)) y || seen beside y)
   pub holds : Holds q.nodes (length p.nodes) (length q.nodes) id.0 label slots
@@ -342,8 +342,8 @@ module _ {text : List ℕ} {f : Flags} where
         row = level_rows f m _ ∙ s.row;
         pass = s.pass;
         walked = walked_to (sym o.spot_is) s.walked;
-        verdict = subst (λ (v : ℕ). Verdict p.errors t.errors (Stretch text (after (level_at f m)) (such (level_at f m) always) p.prev_token_end nothing v (tree s.label s.slots) s.pass) (Underived text (level_at f m) p.prev_token_end)) (sym o.place)
-            (subst (λ (ds : List Diagnostic). Verdict p.errors ds (Stretch text (after (level_at f m)) (such (level_at f m) always) p.prev_token_end nothing q.prev_token_end (tree s.label s.slots) s.pass) (Underived text (level_at f m) p.prev_token_end)) (sym o.kept)
+        verdict = subst (λ (v : ℕ). Verdict (f.wide ≡ true) p.errors t.errors (Stretch text (after (level_at f m)) (such (level_at f m) always) p.prev_token_end nothing v (tree s.label s.slots) s.pass) (Underived text (level_at f m) p.prev_token_end)) (sym o.place)
+            (subst (λ (ds : List Diagnostic). Verdict (f.wide ≡ true) p.errors ds (Stretch text (after (level_at f m)) (such (level_at f m) always) p.prev_token_end nothing q.prev_token_end (tree s.label s.slots) s.pass) (Underived text (level_at f m) p.prev_token_end)) (sym o.kept)
             (verdict_of s.verdict (λ z. record { reach = z.reach; near = z.near; goes = loop_end f z.around no_operator }) (λ n. n)));
       };
       holds = subst (λ (ns : List Node). Holds ns (length p.nodes) (length ns) id.0 s.label s.slots) (sym o.nodes) s.holds;

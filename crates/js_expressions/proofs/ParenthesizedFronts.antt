@@ -278,7 +278,7 @@ parenthesized_front f {ls = ls} {rest = rest} d q =
 -- ---- no operand
 
 -- an arrow binds tighter than any operator
-abbrev an_arrow : Look
+abbrev pub an_arrow : Look
 an_arrow k w e = same_kind Arrow k && not e
 
 arrow_binds : (b : Bool) (r : Row) → of_operand r ≡ true → covers an_arrow (λ k w e. not (looser 4 b r k w e)) ≡ true
@@ -292,7 +292,7 @@ arrow_binds b after_yield h = absurd (false≢true h)
 arrow_binds b after_declarator h = absurd (false≢true h)
 arrow_binds b after_word h = absurd (false≢true h)
 
-contrary : (b : Bool) → not b ≡ true → b ≡ true → ⊥
+pub contrary : (b : Bool) → not b ≡ true → b ≡ true → ⊥
 contrary true h e = false≢true h
 contrary false h e = false≢true e
 

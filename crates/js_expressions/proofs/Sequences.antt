@@ -310,7 +310,7 @@ pub record Listing (text : List ℕ) (f : Flags) (p q : Parser) (ids : List (Opt
   pub prefix : Slots
   pub pass : Lexemes → Lexemes
   pub walked : Walked text (spot p) (spot q) pass
-  pub verdict : Verdict p.errors q.errors (Continues text f p q prefix pass) (Nothing text f (operands f) p.prev_token_end)
+  pub verdict : Verdict (f.wide ≡ true) p.errors q.errors (Continues text f p q prefix pass) (Nothing text f (operands f) p.prev_token_end)
   pub holds : HoldsAll q.nodes (length p.nodes) (length q.nodes) ids prefix
   pub keeps : Keeps p.nodes q.nodes
 

@@ -33,8 +33,8 @@ use Rattle.js_parsing.proofs.Paths.{walked_from}
 use Rattle.js_parsing.proofs.Unbuilt.{nothing_unbuilt}
 use Rattle.js_parsing.proofs.Verdicts.{either_way}
 use Rattle.js_targets.specs.Others.{NoYield}
-use Rattle.js_targets.proofs.ArraysBeforeSigns.{is_cover, not_wide}
-use Rattle.js_expressions.specs.Arrows.{ArgumentsTold, AttemptsHead, FindsHead, Head, HeadRead, read_clean, read_unclean, IsHeadRead, NoHeadHere, NoLine, NoSlash, OnlyArrowHere, OperandExcluded, PlainHead, a_head, told_head, SlashFound, ToldHead, TriesHead, Unmoved, WentOn, head_of}
+use Rattle.js_targets.proofs.ArraysBeforeSigns.{is_cover}
+use Rattle.js_expressions.specs.Arrows.{ArgumentsTold, AttemptsHead, FindsHead, Head, HeadRead, HeadStands, NeverArrow, read_clean, read_unclean, IsHeadRead, NoHeadHere, NoLine, NoSlash, OnlyArrowHere, OperandExcluded, PlainHead, a_head, told_head, SlashFound, ToldHead, TriesHead, Unmoved, WentOn, head_of}
 use Rattle.js_expressions.proofs.Arrows.{arrow_is_here, closed_arrow, head_only_arrow, no_head_no_line, no_yield_paren, plain_head_flags, start_between, unassigned}
 use Rattle.js_expressions.proofs.HeadsAsArguments.{params_as_arguments}
 use Rattle.js_expressions.proofs.NotedHeads.{noted_operand, there_too}
@@ -47,17 +47,14 @@ use Rattle.js_expressions.proofs.Exponents.{longer}
 
 -- ---- what was read as arguments
 
--- the parameters of an arrow function, behind `async` or not, are derived as arguments around it
+-- the parameters of an arrow function, behind `async` or not, are derived as arguments around it, not those in wider forms
 head_as_arguments : (b : Bool) (f : Flags) → f.cover ≡ true → f.wide ≡ false → {ks ts us : Slots} {i j : ℕ} {ls rest : Lexemes} → Takes rule (symbol Params (arrow_head b f)) ks ts i ls us j rest → (vs : Slots) × Takes rule (args f) ks vs i ls us j rest
-head_as_arguments true f v w d = params_as_arguments f v w (params_around f d)
-head_as_arguments false f v w {ks} {ts} {us} {i} {j} {ls} {rest} d = params_as_arguments f v w (subst (λ (g : Flags). Takes rule (symbol Params g) ks ts i ls us j rest) (plain_head_flags f) d)
+head_as_arguments true f v w d = params_as_arguments f w v (params_around f d)
+head_as_arguments false f v w {ks} {ts} {us} {i} {j} {ls} {rest} d = params_as_arguments f w v (subst (λ (g : Flags). Takes rule (symbol Params g) ks ts i ls us j rest) (plain_head_flags f) d)
 
 module _ {text : List ℕ} {f : Flags} {p : Parser} (a : At text f p) where
-  arguments_fail : Fails rule (Lex text) (plain full) end (list_of (item_of true f)) p.prev_token_end → (b : Bool) → NoHead text (arrow_head b f) p.prev_token_end
-  arguments_fail n b = record { no = λ ts vs j ls rest l d e. go ts vs j ls rest l d }
-    where
-      go : (ts vs : Slots) (j : ℕ) (ls rest : Lexemes) → Lexes (Lex text) p.prev_token_end ls → Takes rule (symbol Params (arrow_head b f) ▸ tok Arrow) end ts p.prev_token_end ls vs j rest → ⊥
-      go ts vs j ls rest l (is_seq {us = us} {j = i} {mid = mid} d e) = let z = head_as_arguments b f (is_cover a) (not_wide a) d in n.no z.0 us i ls mid l z.1 (refl, refl)
+  arguments_fail : Fails rule (Lex text) (plain full) end (list_of (item_of true f)) p.prev_token_end → OnlyArrow text f p.prev_token_end
+  arguments_fail n = record { no = λ ts vs j ls rest l d e. n.no ts vs j ls rest l d (refl, refl) }
 
   module _ {q : Parser} {ids js : List (Option NodeId)} (x : Partway text f (list_of (item_of true f)) nothing p q ids js) where
     -- whatever is derived as arguments from here ends where they ended
@@ -72,24 +69,29 @@ module _ {text : List ℕ} {f : Flags} {p : Parser} (a : At text f p) where
         go : (rest : Lexemes) → Lex text q.prev_token_end (here rest) → not (same_kind Arrow (here rest).kind) ≡ true → ⊥
         go rest l n = false≢true (sym (ap (λ k. not (same_kind Arrow k)) (kind_here x.at k refl (here rest) l)) ∙ n)
 
-    no_arrow_behind_them : (q.token.kind ≡ Arrow → ⊥) → (b : Bool) → NoHead text (arrow_head b f) p.prev_token_end
-    no_arrow_behind_them n b = record { no = λ ts vs j ls rest l d e. go ts vs j ls rest l d }
-      where
-        go : (ts vs : Slots) (j : ℕ) (ls rest : Lexemes) → Lexes (Lex text) p.prev_token_end ls → Takes rule (symbol Params (arrow_head b f) ▸ tok Arrow) end ts p.prev_token_end ls vs j rest → ⊥
-        go ts vs j ls rest l (is_seq d (is_lexeme {x = y} c)) =
-            let z = head_as_arguments b f (is_cover a) (not_wide a) d in
-            n (arrow_is_here x.at y (ends_there l z.1) (sym (kind_of_same Arrow y.kind (and_parts (same_kind Arrow y.kind) _ c).0)))
+    no_arrow_behind_them : (q.token.kind ≡ Arrow → ⊥) → NeverArrow text f p.prev_token_end
+    no_arrow_behind_them n = record { no = λ ts vs j ls rest l d e. n (arrow_is_here x.at (here rest) (ends_there l d) (sym (kind_of_same Arrow (here rest).kind e.0))) }
 
 -- what is told of it
 pub arguments_read : {p q : Parser} {ids js : List (Option NodeId)} (b : Bool) → Standing p → Arguments true ids js p q → (IsTrue b → q.token.kind ≡ Arrow) → (q.token.kind ≡ Arrow → IsTrue b) → ArgumentsTold p q b
 arguments_read true a x k n = let y = x _ _ a in (((y.same.follows, y.at.at), y.at.heads, λ w. (y.same.lies w).1), λ text f b. arrow_behind b (x text f b) (k refl))
-arguments_read false a x k n = let y = x _ _ a in (((y.same.follows, y.at.at), y.at.heads, λ w. (y.same.lies w).1), λ c text f b. no_arrow_behind_them b (x text f b) (λ i. false≢true (n i)) c)
+arguments_read false a x k n = let y = x _ _ a in (((y.same.follows, y.at.at), y.at.heads, λ w. (y.same.lies w).1), λ text f b. no_arrow_behind_them b (x text f b) (λ i. false≢true (n i)))
 
-pub arguments_refused : {p q : Parser} (e : Stop) → Standing p → e ≡ Fatal → NoArguments true p q e → ArgumentsTold p q false
+pub arguments_refused : {p q : Parser} (e : Stop) → Standing p → e ≡ Fatal → NoArguments true p q e → ArgumentsTold p q true
 arguments_refused {p} {q} e a i s = go (λ text f b. subst (λ (v : Stop). Stops p q v (Fails rule (Lex text) (plain full) end (list_of (item_of true f)) p.prev_token_end)) i (s text f b))
   where
-    go : ((text : List ℕ) (f : Flags) → At text f p → Refuses p q (Fails rule (Lex text) (plain full) end (list_of (item_of true f)) p.prev_token_end)) → ArgumentsTold p q false
-    go x = let y = x _ _ a in (((y.follows, y.at), y.heads, y.lies), λ c text f b. arguments_fail b ((x text f b).none nothing_unbuilt) c)
+    go : ((text : List ℕ) (f : Flags) → At text f p → Refuses p q (Fails rule (Lex text) (plain full) end (list_of (item_of true f)) p.prev_token_end)) → ArgumentsTold p q true
+    go x = let y = x _ _ a in (((y.follows, y.at), y.heads, y.lies), λ text f b. arguments_fail b ((x text f b).none nothing_unbuilt))
+
+-- parameters that stand are arguments, and `=>` stands behind them
+stood_never : {p : Parser} (b : Bool) → Standing p → HeadStands b p → ((text : List ℕ) (f : Flags) → At text f p → NeverArrow text f p.prev_token_end) → ⊥
+stood_never {p} b a h n =
+    let x = h _ _ a refl in
+    let z = head_as_arguments b _ (is_cover a) refl x.derived in
+    (n _ _ a).no z.0 end x.end x.lexemes x.rest x.lexed z.1 (x.arrow, refl)
+
+pub never_stands : {p : Parser} (b : Bool) → Standing p → HeadStands b p → ((text : List ℕ) (f : Flags) → At text f p → NeverArrow text f p.prev_token_end) → NoHeadHere b p
+never_stands b a h n = absurd (stood_never b a h n)
 
 pub told_so : (p q : Parser) {b r : Bool} → r ≡ b → ArgumentsTold p q r → ArgumentsTold p q b
 told_so p q e h = subst (λ (v : Bool). ArgumentsTold p q v) e h
@@ -188,7 +190,7 @@ module _ {p r : Parser} (u : Unmoved p r) where
     at = h.at;
     same = same_both u.same h.same;
     further = let a = h.further in let b = u.start in omega arith;
-    kept = h.kept ∙ u.kept;
+    quiet = quiet_behind {f = f} u.kept h.quiet;
     label = h.label;
     slots = h.slots;
     pass = h.pass;

@@ -8,13 +8,16 @@ use Rattle.js_base.specs.declared.kind.Kind.TheVariants.{Arrow, Async, LCurly, L
 use Rattle.js_base.specs.declared.span.Span.{Span}
 use Rattle.js_base.specs.Kinds.{same_kind, one_of_kinds}
 use Rattle.js_grammar.specs.Trees.{Label, Slots, end as no_slots, tree, no_op, formal_parameters, formal_parameter, arrow_function_expression}
-use Rattle.js_grammar.specs.Grammar.{Lexeme, Lexemes, seen, empty_slot, nothing, such, ◌▸◌, ◌◇◌}
+use Rattle.js_grammar.specs.Grammar.{Lexeme, Lexemes, Takes, here, seen, empty_slot, nothing, such, ◌▸◌, ◌◇◌}
 use Rattle.js_grammar.specs.Follow.{after}
+use Rattle.js_grammar.specs.Lexed.{Lexes}
 use Rattle.js_grammar.specs.Parsing.{plain, full, always, still, Fails, Goes}
 use Rattle.js_grammar.specs.Productions.{G, Flags, Symbol, at, sym, tok, mk, only, no_newline, flag, async_flag, generator_flag, Arrow', Assignment, BindingIdentifier, Body, Params, Short}
-use Rattle.js_grammar.specs.Table.{rule}
+use Rattle.js_grammar.specs.Table.{args, rule}
 use Rattle.js_grammar.proofs.Heads.{begins_head}
 use Rattle.js_tree.specs.declared.id.NodeId.{NodeId}
+use Rattle.js_tree.specs.declared.kind.NodeKind.TheVariants.{ParenthesizedExpression}
+use Rattle.js_tree.specs.Nodes.{node_at}
 use Rattle.js_tree.specs.Holding.{Holds, Keeps as KeepsNodes}
 use Rattle.js_cursor.specs.Checkpoints.{GoesOn}
 use Rattle.js_cursor.specs.Moves.{Keeps}
@@ -69,12 +72,16 @@ NoAsyncHere p = (text : List ℕ) (f : Flags) → At text f p → NoLed true tex
 abbrev pub NoOperandHere : Parser → Type 0
 NoOperandHere p = (text : List ℕ) (f : Flags) → At text f p → Underived text (at Short f) p.prev_token_end
 
--- A head that stands under these parameters was read, under the parameters g, and nothing was told of it: a node made in the call stands for its tree.
+-- nothing was told; or, in wider forms, something was
+abbrev pub Quiet : Flags → Parser → Parser → Type 0
+Quiet f p q = (q.errors ≡ p.errors) ⊎ ((f.wide ≡ true) × Grown p.errors q.errors)
+
+-- A head that stands under these parameters was read, under the parameters g, and nothing was told of it, or no more than what a wider form lets in: a node made in the call stands for its tree.
 pub record Head (text : List ℕ) (f g : Flags) (p q : Parser) (id : NodeId) : Type 0 where
   pub at : At text f q
   pub same : Same p q
   pub further : p.token.span.start < q.prev_token_end
-  pub kept : q.errors ≡ p.errors
+  pub quiet : Quiet f p q
   pub label : Label
   pub slots : Slots
   pub pass : Lexemes → Lexemes
@@ -148,7 +155,7 @@ abbrev pub SlashFound : List ℕ → ℕ → ℕ → Bool → Type 0
 SlashFound text s e true = Unit {0}
 SlashFound text s e false = NoSlash text s e
 
--- It's noted that behind arguments there `=>` stands; or the parentheses that begin there close before `=>`; or nothing was told of the head that was read from the place on, and no slash stands in it.
+-- It's noted that behind arguments there `=>` stands; or the parentheses that begin there close before `=>`; or nothing was told since there were so many diagnostics, and no slash stands in the head that was read from the place on.
 abbrev pub OperandExcluded : ℕ → ℕ → Parser → Bool → Type 0
 OperandExcluded place kept q true = ((bits_of q.ctx < 65536) × (is_noted q.state.operands q.ctx place ≡ true)) ⊎ (ArrowBehindOne q.text place ⊎ ((length q.errors ≡ kept) × NoSlash q.text place q.token.span.start))
 OperandExcluded place kept q false = Unit {0}
@@ -273,10 +280,28 @@ abbrev pub LooksForHead : Parser → Parser → Option NodeId → Type 0
 LooksForHead p q (Some id) = ParametersRead p q id
 LooksForHead p q None = WentOn p q × NoParametersHere p
 
--- `=>` stands behind all arguments that are derived from here; or no head stands here, behind `async` or not; and the parser went on
+-- parameters are derived from the place, and `=>` stands behind them
+pub record HeadDerived (text : List ℕ) (g : Flags) (s : ℕ) : Type 0 where
+  pub lexemes : Lexemes
+  pub lexed : Lexes (Lex text) s lexemes
+  pub slots : Slots
+  pub end : ℕ
+  pub rest : Lexemes
+  pub derived : Takes rule (sym Params g) no_slots slots s lexemes no_slots end rest
+  pub arrow : same_kind Arrow (here rest).kind ≡ true
+
+-- such are derived from here, behind `async` or not, not in wider forms alone
+abbrev pub HeadStands : Bool → Parser → Type 0
+HeadStands a p = (text : List ℕ) (f : Flags) → At text f p → f.wide ≡ false → HeadDerived text (arrow_head a f) p.prev_token_end
+
+-- behind no arguments that are derived from the place `=>` stands
+abbrev pub NeverArrow : List ℕ → Flags → ℕ → Type 0
+NeverArrow text f s = Fails rule (Lex text) (plain (λ k w e. same_kind Arrow k)) no_slots (args f) s
+
+-- `=>` stands behind all arguments that are derived from here, or behind none; and the parser went on
 abbrev pub ArgumentsTold : Parser → Parser → Bool → Type 0
 ArgumentsTold p q true = WentOn p q × OnlyArrowHere p
-ArgumentsTold p q false = WentOn p q × ((a : Bool) → NoHeadHere a p)
+ArgumentsTold p q false = WentOn p q × ((text : List ℕ) (f : Flags) → At text f p → NeverArrow text f p.prev_token_end)
 
 -- from what is in force to what is in the parameters of an arrow function, behind `async` or not
 abbrev pub EntersHead : Bool → Context → Context → Type 0
@@ -294,10 +319,10 @@ late_arrow s = record { kind = LineterminatorBeforeArrow; span = s; first = None
 abbrev pub ChecksLine : Parser → Parser → Type 0
 ChecksLine p q = ((p.token.is_on_new_line ≡ true) × Keeps (late_arrow p.token.span) p q) ⊎ ((p.token.is_on_new_line ≡ false) × (q ≡ p))
 
--- `=>` stands here, behind something of which more was told than so many diagnostics
-abbrev pub IsRefusedHead : ℕ → Parser → Bool → Type 0
-IsRefusedHead kept p true = (length p.errors ≡ kept → ⊥) × (p.token.kind ≡ Arrow)
-IsRefusedHead kept p false = Unit {0}
+-- `=>` stands here, behind parentheses of which more was told than so many diagnostics
+abbrev pub IsRefusedHead : NodeId → ℕ → Parser → Bool → Type 0
+IsRefusedHead id kept p true = (length p.errors ≡ kept → ⊥) × (p.token.kind ≡ Arrow) × ((node_at p.nodes id).kind ≡ ParenthesizedExpression)
+IsRefusedHead id kept p false = Unit {0}
 
 -- the nonterminal of the body, of an asynchronous arrow function or another one: in braces, or an expression
 abbrev pub body_of : Bool → Bool → Flags → Symbol

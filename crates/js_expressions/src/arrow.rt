@@ -5,7 +5,7 @@ ghost use Rattle.js_base.specs.declared.kind.Kind.TheVariants.{Arrow, LParen};
 ghost use Rattle.js_cursor.specs.Moves.{OnlyMemory};
 ghost use Rattle.js_grammar.specs.Productions.{at, Params};
 ghost use Rattle.js_parsing.specs.Answers.{Answers};
-ghost use Rattle.js_expressions.specs.Arrows.{ArgumentsTold, ArrowBehind, AsyncHeadBegins, AttemptsHead, ChecksLine, EntersHead, FindsAsyncHead, FindsHead, HeadBehindAsync, IsPlainHead, LooksForHead, NamesHead, NoHeadHere, NoOperandHere, OperandExcluded, ReadsArrowBody, ReadsBody, ReadsHead, SearchesHead, SearchesPlainHead, Single, SlashFound, TriesHead, TriesParameters, Unmoved, arrow_label};
+ghost use Rattle.js_expressions.specs.Arrows.{ArgumentsTold, ArrowBehind, AsyncHeadBegins, AttemptsHead, ChecksLine, EntersHead, FindsAsyncHead, FindsHead, HeadBehindAsync, HeadStands, IsPlainHead, LooksForHead, NamesHead, NoHeadHere, NoOperandHere, OperandExcluded, ReadsArrowBody, ReadsBody, ReadsHead, SearchesHead, SearchesPlainHead, Single, SlashFound, TriesHead, TriesParameters, Unmoved, arrow_label};
 ghost use Rattle.js_expressions.specs.HeadOperands.{IsNoTarget};
 ghost use Rattle.js_base.specs.Kinds.{one_of_kinds};
 ghost use Rattle.js_parsing.specs.Lexemes.{name_kinds};
@@ -280,8 +280,9 @@ fn attempt_head<C: ParserConfig, N: Nested<C>>(
         if excludes_operand(p, place, kept)? {
             return Ok(Some(parameters));
         }
+        let is_told = kept_so_far(p) != kept;
         p.rewind(here);
-        return attempt_head_again(p, nested, is_async);
+        return attempt_head_again(p, nested, is_async, is_told);
     }
     Ok(None)
 }
@@ -375,26 +376,33 @@ fn has_slash(text: &str, start: u32, end: u32) -> bool
     false
 }
 
-/// FormalParameters in parentheses, where a slash stands in them, or something was told of them and their parentheses aren't
-/// seen to close before `=>`: what stands here is read as arguments first. Those are
-/// read over one list of lexemes alone, and a head or an operand here begins with such; so if `=>` stands behind them, no
-/// operand stands here, which is noted, and else no head.
+/// FormalParameters in parentheses, which were read with `=>` behind them, and of which something was told or not; where a
+/// slash stands in them, or something was told and their parentheses aren't seen to close before `=>`. What stands here is
+/// read as arguments first. Those are read over one list of lexemes alone, and an operand here begins with such; so if none
+/// can be read, or `=>` stands behind them, no operand stands here, which is noted. Else no head does, for parameters of
+/// which nothing is told are arguments over the same lexemes. Where something was told of them, no text is known that comes
+/// here, nor is it proved that there is none; the answer then is want of memory.
 #[inline(never)]
 fn attempt_head_again<C: ParserConfig, N: Nested<C>>(
     p: &mut ParserImpl<'_, C>,
     nested: &N,
     is_async: bool,
+    is_told: bool,
 ) -> Result<Option<NodeId>, Stop>
     requires at { Standing p.old }
     requires nests { CanNest (N.can nested.now) (room p.old) }
     requires open { p.old.token.kind ≡ LParen }
+    requires stood { is_told ≡ false → HeadStands is_async p.old }
     ensures { MatchResult result (λ found. AttemptsHead is_async p.old p.new found) OnlyMemory }
 {
     let place = p.prev_token_end();
     let here = p.checkpoint()?;
-    let found = is_arrow_behind_arguments(p, nested)?;
+    let excluded = is_arrow_due(p, nested)?;
     p.rewind(here);
-    if !found {
+    if !excluded {
+        if is_told {
+            return Err(Stop::NoMemory);
+        }
         note_no_head(p, place, is_async)?;
         return Ok(None);
     }
@@ -420,21 +428,21 @@ fn note_no_head<C: ParserConfig>(
     Ok(())
 }
 
-/// Whether `=>` stands behind what can be read as arguments. If not, no parameters stand here with `=>` behind them,
-/// behind `async` or not.
-fn is_arrow_behind_arguments<C: ParserConfig, N: Nested<C>>(
+/// Whether `=>` stands behind whatever can be read here as arguments, or nothing can. If not, they can be read, and `=>`
+/// doesn't stand behind them.
+fn is_arrow_due<C: ParserConfig, N: Nested<C>>(
     p: &mut ParserImpl<'_, C>,
     nested: &N,
 ) -> Result<bool, Stop>
     requires at { Standing p.old }
     requires nests { CanNest (N.can nested.now) (room p.old) }
     requires open { p.old.token.kind ≡ LParen }
-    ensures { MatchResult result (λ found. ArgumentsTold p.old p.new found) OnlyMemory }
+    ensures { MatchResult result (λ due. ArgumentsTold p.old p.new due) OnlyMemory }
 {
     let none = Vec::new(p.alloc);
     match parse_call_arguments(p, nested, true, none) {
         Ok(_arguments) => Ok(p.at(Kind::Arrow)),
-        Err(Stop::Fatal) => Ok(false),
+        Err(Stop::Fatal) => Ok(true),
         Err(Stop::NoMemory) => Err(Stop::NoMemory),
     }
 }

@@ -65,7 +65,7 @@ pub fn parse_assignment_expression<C: ParserConfig, N: Nested<C>>(
 /// Whether `=>` stands behind parentheses in which something was told, since there were so many diagnostics.
 fn is_refused_head<C: ParserConfig>(p: &ParserImpl<'_, C>, operand: NodeId, kept: usize) -> bool
     requires { operand.0 < length p.now.nodes }
-    ensures { IsRefusedHead kept p.now result }
+    ensures { IsRefusedHead operand kept p.now result }
 {
     if !p.at(Kind::Arrow) || kept_so_far(p) == kept {
         return false;

@@ -7,7 +7,7 @@ use Rattle.js_grammar.specs.Trees.{array_expression, array_pattern, arrow_functi
 use Rattle.js_grammar.specs.Grammar.{commas, empty_slot, ended, lexeme, many, node, nothing, when, whole_text, ◌▸◌, ◌◇◌}
 use Rattle.js_grammar.specs.Insertion.{by_edge, is_word}
 use Rattle.js_grammar.specs.Productions.{Additive, And, Argument, ArrayTarget, Arrow', Assignment, Attrs, BElement, Binding, BindingIdentifier, BindingRest, BitAnd, BitOr, BitXor, Block, Body, Break, Call, Case, Catch, Chain, Class, ClassBody, ClassExpr, Coalesce, Conditional, Continue, Debugger, Decorator, Directive, Do, Empty, Equality, Exponent, ExportDecl, ExprStmt, Expression, Flags, For, ForIn, ForOf, FuncExpr, Function, G, IdentifierName, IdentifierReference, If, ImportDecl, Init, Item, LabelIdentifier, Labeled, LeftHandSide, Lexical, Links, ListItem, Member, Multiply, Name, New, Object, ObjectTarget, Or, Param, Params, Pattern, Primary, PrivateName, Program, Relational, Rest, Return, Shift, Short, SimpleTarget, Statement, Sub, Super, Switch, Symbol, Target, Template, Throw, Try, Unary, Update, Var, While, With, Yield, any_of, branches, make, mk, no_newline, op, opt, optional_flag, parens, plus_in, prefix_flag, slot, sym, tok}
-use Rattle.js_grammar.specs.Table.{args, directives_then, identifier, level, paren_expression, rule_of, string}
+use Rattle.js_grammar.specs.Table.{args, bound_rest, directives_then, identifier, level, paren_expression, rest_of, rule_of, string}
 use Rattle.js_grammar.specs.Pruning.{pruned}
 
 -- The kinds of lexemes of core texts, and the end.
@@ -73,13 +73,13 @@ core_of Empty f = mk empty_statement (tok Semicolon)
 core_of Labeled f = mk labeled_statement (sym LabelIdentifier f ▸ tok Colon ▸ sym Sub f)
 core_of Sub f = sym Statement f ◇ sym ExprStmt f
 core_of Init f = tok Eq ▸ sym Assignment f
-core_of Params f = mk formal_parameters (parens (many (sym Param f ▸ tok Comma) ▸ (sym Param f ◇ sym Rest f ◇ nothing)))
+core_of Params f = mk formal_parameters (parens (many (sym Param f ▸ tok Comma) ▸ (sym Param f ◇ rest_of f (sym Rest f) ◇ nothing)))
 core_of Param f = mk formal_parameter (sym Binding f ▸ slot (sym Init (plus_in f)))
 core_of Rest f = mk formal_parameter_rest (sym BindingRest f)
-core_of BindingRest f = mk binding_rest_element (tok Dot3 ▸ sym Binding f)
+core_of BindingRest f = bound_rest f (sym Binding f)
 core_of Binding f = sym BindingIdentifier f ◇ sym Pattern f
 core_of BElement f = sym Binding f ◇ mk assignment_pattern (sym Binding f ▸ tok Eq ▸ sym Assignment (plus_in f))
-core_of Pattern f = mk array_pattern (tok LBrack ▸ (many (empty_slot ▸ tok Comma ◇ sym BElement f ▸ tok Comma) ▸ (sym BElement f ◇ sym BindingRest f ◇ nothing)) ▸ tok RBrack)
+core_of Pattern f = mk array_pattern (tok LBrack ▸ (many (empty_slot ▸ tok Comma ◇ sym BElement f ▸ tok Comma) ▸ (sym BElement f ◇ rest_of f (sym BindingRest f) ◇ nothing)) ▸ tok RBrack)
 core_of Arrow' f = mk arrow_function_expression ((mk formal_parameters (mk formal_parameter (sym BindingIdentifier (record f { await_ = f.await_ || false }) ▸ empty_slot)) ◇ sym Params (record f { await_ = f.await_ || false }))
     ▸ no_newline ▸ tok Arrow ▸ sym Assignment (record f { yield_ = false; await_ = false; awaits = false }))
 core_of Expression f = sym Assignment f ◇ mk sequence_expression (sym Assignment f ▸ tok Comma ▸ commas false (sym Assignment f))

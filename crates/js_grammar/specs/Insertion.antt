@@ -7,6 +7,10 @@ use Rattle.js_grammar.specs.Words.{'in', 'instanceof', 'get', 'set', 'static'}
 use Rattle.js_grammar.specs.Trees.{NodeKind, Slots, end, hole, tree, sequence_expression, assignment_expression, conditional_expression, logical_expression, binary_expression, private_in_expression, unary_expression, await_expression, yield_expression, arrow_function_expression, variable_declarator, update_expression, function_body, label_identifier, with_clause}
 use Rattle.js_grammar.specs.Grammar.{Lexeme, Look}
 
+-- the assignment operators but `=`
+abbrev pub other_operators : List Kind
+other_operators = PlusEq ∷ MinusEq ∷ StarEq ∷ SlashEq ∷ PercentEq ∷ ShiftLeftEq ∷ ShiftRightEq ∷ ShiftRight3Eq ∷ PipeEq ∷ CaretEq ∷ AmpEq ∷ Amp2Eq ∷ Pipe2Eq ∷ Question2Eq ∷ Star2Eq ∷ []
+
 abbrev pub assign_operators : List Kind
 assign_operators = Eq ∷ PlusEq ∷ MinusEq ∷ StarEq ∷ SlashEq ∷ PercentEq ∷ ShiftLeftEq ∷ ShiftRightEq ∷ ShiftRight3Eq ∷ PipeEq ∷ CaretEq ∷ AmpEq ∷ Amp2Eq ∷ Pipe2Eq ∷ Question2Eq ∷ Star2Eq ∷ []
 

@@ -6,7 +6,7 @@ use Rattle.js_base.specs.Kinds.{same_kind, one_of_kinds}
 use Rattle.js_grammar.specs.Words.{'break', 'case', 'catch', 'class', 'const', 'continue', 'debugger', 'default', 'delete', 'do', 'else', 'export', 'extends', 'false', 'finally', 'for', 'function', 'if', 'import', 'in', 'instanceof', 'new', 'null', 'return', 'super', 'switch', 'this', 'throw', 'true', 'try', 'typeof', 'var', 'void', 'while', 'with', 'let', 'static', 'implements', 'interface', 'package', 'private', 'protected', 'public', 'yield', 'await', 'async', 'of', 'get', 'set', 'as', 'from', 'assert', 'accessor', 'meta', 'target'}
 use Rattle.js_grammar.specs.Trees.{NodeKind, program, hashbang, directive, block_statement, empty_statement, expression_statement, variable_declaration, variable_declarator, if_statement, do_while_statement, while_statement, with_statement, for_statement, for_in_statement, for_of_statement, continue_statement, break_statement, return_statement, throw_statement, switch_statement, switch_case, try_statement, catch_clause, catch_parameter, debugger_statement, labeled_statement, function_declaration, function_expression, formal_parameters, formal_parameter, formal_parameter_rest, binding_rest_element, function_body, arrow_function_expression, class_declaration, class_expression, class_body, method_definition, property_definition, accessor_property, static_block, decorator, object_expression, object_property, spread_element, sequence_expression, assignment_expression, yield_expression, conditional_expression, logical_expression, binary_expression, private_in_expression, unary_expression, await_expression, update_expression, new_expression, static_member_expression, computed_member_expression, private_field_expression, tagged_template_expression, new_target_expression, import_meta, call_expression, import_expression, chain_expression, super_expression, this_expression, null_literal, boolean_literal, numeric_literal, big_int_literal, string_literal, reg_exp_literal, array_expression, elision, parenthesized_expression, v8_intrinsic_expression, template_literal, template_element, identifier_reference, binding_identifier, label_identifier, identifier_name, private_identifier, array_assignment_target, object_assignment_target, assignment_target_rest, assignment_target_with_default, assignment_target_property_identifier, assignment_target_property_property, array_pattern, object_pattern, binding_property, assignment_pattern, import_declaration, import_default_specifier, import_namespace_specifier, import_specifier, with_clause, import_attribute, export_all_declaration, export_from_declaration, export_named_declaration, export_declaration, export_default_declaration, export_specifier, Op, no_op, init, method_op, constructor_op, exponential, of}
 use Rattle.js_grammar.specs.Grammar.{inside, whole_text, nothing, never, lexeme, text, ahead, empty_slot, ◌▸◌, ◌◇◌, when, many, commas, such, marked, node, ended, keep, kept, is}
-use Rattle.js_grammar.specs.Insertion.{assign_operators, is_word, may_bind, by_edge, only_by, by_field}
+use Rattle.js_grammar.specs.Insertion.{assign_operators, other_operators, is_word, may_bind, by_edge, only_by, by_field}
 use Rattle.js_grammar.specs.Productions.{G, at, sym, tok, any_of, opt, slot, only, each, branches, make, mk, op, parens, braces, items, other, if_next, not_then, no_newline, function_on_line, is_one_of, word_or, prefix_flag, optional_flag, computed_flag, shorthand_flag, method_flag, async_flag, generator_flag, delegate_flag, static_flag, await_flag, tail_flag, bare_flag, flag, with_pife, plus_in, minus_in, params_of, body_of, field_of, static_of, Flags, Name, Symbol, Program, Directive, Item, ListItem, Statement, Sub, Block, Empty, ExprStmt, Var, Lexical, Init, If, Do, While, With, For, ForInit, ForIn, ForOf, Continue, Break, Return, Throw, Switch, Case, Try, Catch, Debugger, Labeled, Function, FuncExpr, Params, Param, Rest, Body, Arrow', Class, ClassExpr, ClassBody, Element, Decorator, DecoratorMember, Object, Property, Expression, Assignment, Yield, Conditional, Short, Coalesce, Or, And, BitOr, BitXor, BitAnd, Equality, Relational, Shift, Additive, Multiply, Exponent, Unary, Update, LeftHandSide, New, Member, Call, Chain, Links, Super, Argument, Primary, Template, IdentifierReference, BindingIdentifier, LabelIdentifier, IdentifierName, PrivateName, SimpleTarget, Target, ArrayTarget, ObjectTarget, TargetElement, TargetProperty, Binding, BElement, Pattern, PatternProperty, BindingRest, ImportDecl, Spec, ExportName, Attrs, Attr, ExportDecl, LooseHead}
 use Rattle.js_grammar.specs.Conditions.{not_string, has_else, well_formed}
 
@@ -115,9 +115,13 @@ paren_expression f = mk parenthesized_expression (parens (marked with_pife (at E
 abbrev pub part : ℕ → ℕ → Kind → G
 part fl close k = node (record { kind = template_element; op = no_op; flags = fl; extent = inside 1 close }) (tok k)
 
--- a rest, and where targets are wide a comma after it
+-- a rest, and in the wider form a comma after it
 abbrev pub rest_of : Flags → G → G
 rest_of f g = g ▸ opt (when f.wide (tok Comma))
+
+-- what a rest binds, and in the wider form an initialiser
+abbrev pub bound_rest : Flags → G → G
+bound_rest f g = mk binding_rest_element (tok Dot3 ▸ g ▸ opt (when f.wide (sym Init (plus_in f))))
 
 -- one name that stands for two, or two with a word between
 abbrev pub one_or_two : G → G → G
@@ -217,7 +221,7 @@ rule_of Function f = any_function function_declaration (λ g. sym BindingIdentif
 -- FunctionExpression and its kin (15.2, 15.5, 15.6, 15.8): the name has the Yield and Await of the function
 rule_of FuncExpr f = any_function function_expression (λ g. slot (sym BindingIdentifier g)) f
 -- FormalParameters (15.1)
-rule_of Params f = mk formal_parameters (parens (items never (sym Param f) (sym Rest f)))
+rule_of Params f = mk formal_parameters (parens (items never (sym Param f) (rest_of f (sym Rest f))))
 -- FormalParameter (15.1)
 rule_of Param f = mk formal_parameter (sym Binding f ▸ slot (sym Init (plus_in f)))
 -- FunctionRestParameter (15.1)
@@ -338,7 +342,8 @@ rule_of SimpleTarget f = sym IdentifierReference f ◇ member_access f ◇ call_
 -- ArrayAssignmentPattern (13.15.5)
 rule_of ArrayTarget f = mk array_assignment_target (tok LBrack ▸ items (empty_slot ▸ tok Comma) (sym TargetElement f) (rest_of f (mk assignment_target_rest (tok Dot3 ▸ sym Target f))) ▸ tok RBrack)
 -- AssignmentElement (13.15.5)
-rule_of TargetElement f = sym Target f ◇ branches assign_operators (λ o. when (same_kind Eq o || f.wide) (mk assignment_target_with_default (sym Target f ▸ tok o ▸ sym Assignment (plus_in f))))
+rule_of TargetElement f = sym Target f ◇ mk assignment_target_with_default (sym Target f ▸ tok Eq ▸ sym Assignment (plus_in f))
+    ◇ when f.wide (branches other_operators (λ o. mk assignment_target_with_default (sym SimpleTarget f ▸ tok o ▸ sym Assignment (plus_in f))))
 -- ObjectAssignmentPattern (13.15.5)
 rule_of ObjectTarget f = mk object_assignment_target (braces (items never (sym TargetProperty f) (rest_of f (mk assignment_target_rest (tok Dot3 ▸ (sym SimpleTarget f ◇ when f.wide (sym ArrayTarget f ◇ sym ObjectTarget f)))))))
 -- AssignmentProperty (13.15.5)
@@ -349,13 +354,13 @@ rule_of Binding f = sym BindingIdentifier f ◇ sym Pattern f
 -- BindingElement (14.3.3)
 rule_of BElement f = sym Binding f ◇ mk assignment_pattern (sym Binding f ▸ tok Eq ▸ sym Assignment (plus_in f))
 -- ArrayBindingPattern, ObjectBindingPattern (14.3.3)
-rule_of Pattern f = mk array_pattern (tok LBrack ▸ items (empty_slot ▸ tok Comma) (sym BElement f) (sym BindingRest f) ▸ tok RBrack)
-    ◇ mk object_pattern (braces (items never (sym PatternProperty f) (mk binding_rest_element (tok Dot3 ▸ sym BindingIdentifier f))))
+rule_of Pattern f = mk array_pattern (tok LBrack ▸ items (empty_slot ▸ tok Comma) (sym BElement f) (rest_of f (sym BindingRest f)) ▸ tok RBrack)
+    ◇ mk object_pattern (braces (items never (sym PatternProperty f) (rest_of f (bound_rest f (sym BindingIdentifier f)))))
 -- BindingProperty (14.3.3)
 rule_of PatternProperty f = make binding_property no_op shorthand_flag (ahead (sym IdentifierName f) ▸ (sym BindingIdentifier f ◇ mk assignment_pattern (sym BindingIdentifier f ▸ sym Init (plus_in f))))
     ◇ each (λ c. make binding_property no_op (flag c computed_flag) (name c false f ▸ tok Colon ▸ sym BElement f))
 -- BindingRestElement (14.3.3)
-rule_of BindingRest f = mk binding_rest_element (tok Dot3 ▸ sym Binding f)
+rule_of BindingRest f = bound_rest f (sym Binding f)
 -- Modules.
 -- ImportDeclaration (16.2.2)
 rule_of ImportDecl f = make import_declaration no_op bare_flag (tok 'import' ▸ source f) ◇ mk import_declaration (tok 'import' ▸ keep (import_clause f) (tok 'from' ▸ source f ▸ kept))

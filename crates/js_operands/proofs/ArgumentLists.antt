@@ -221,7 +221,7 @@ module _ {text : List ℕ} {f : Flags} (i : Bool) where
       puts = x.puts;
       pass = λ ls. x.pass (d.pass ls);
       walked = walked_both x.walked d.walked;
-      verdict = subst (λ (ds : List Diagnostic). Verdict o.errors ds (Stretch text (plain full) g o.prev_token_end (due_of due (item_of i f)) q.prev_token_end x.slots (λ ls. x.pass (d.pass ls))) (Fails rule (Lex text) (plain full) end g o.prev_token_end)) (sym d.kept) (verdict_of x.verdict (λ y. stretches y (d.goes i) d.forward) (λ n. n));
+      verdict = subst (λ (ds : List Diagnostic). Verdict (f.wide ≡ true) o.errors ds (Stretch text (plain full) g o.prev_token_end (due_of due (item_of i f)) q.prev_token_end x.slots (λ ls. x.pass (d.pass ls))) (Fails rule (Lex text) (plain full) end g o.prev_token_end)) (sym d.kept) (verdict_of x.verdict (λ y. stretches y (d.goes i) d.forward) (λ n. n));
       holds = λ lo us h. subst (λ (ns : List Node). HoldsAll ns lo (length ns) js (append us (x.slots end))) (sym d.nodes) (x.holds lo us h);
       keeps = subst (λ (ns : List Node). Keeps o.nodes ns) (sym d.nodes) x.keeps;
     }
@@ -259,7 +259,7 @@ module _ {text : List ℕ} {f : Flags} (i : Bool) where
       puts = x.puts;
       pass = λ ls. x.pass (next m.lexeme ls);
       walked = walked_both x.walked (walked_one m);
-      verdict = subst (λ (ds : List Diagnostic). Verdict o.errors ds (Stretch text (plain full) g o.prev_token_end nothing q.prev_token_end x.slots (λ ls. x.pass (next m.lexeme ls))) (Fails rule (Lex text) (plain full) end g o.prev_token_end)) (sym m.kept) (verdict_of x.verdict (λ y. stretches y (record { reach = 0; near = omega arith; goes = passes x.at RParen k (plain_sign RParen x.at k refl refl paren_plain) refl m }) further) (λ n. n));
+      verdict = subst (λ (ds : List Diagnostic). Verdict (f.wide ≡ true) o.errors ds (Stretch text (plain full) g o.prev_token_end nothing q.prev_token_end x.slots (λ ls. x.pass (next m.lexeme ls))) (Fails rule (Lex text) (plain full) end g o.prev_token_end)) (sym m.kept) (verdict_of x.verdict (λ y. stretches y (record { reach = 0; near = omega arith; goes = passes x.at RParen k (plain_sign RParen x.at k refl refl paren_plain) refl m }) further) (λ n. n));
       holds = λ lo us h. subst (λ (ns : List Node). HoldsAll ns lo (length ns) js (append us (x.slots end))) (sym m.nodes) (x.holds lo us h);
       keeps = subst (λ (ns : List Node). Keeps o.nodes ns) (sym m.nodes) x.keeps;
     }

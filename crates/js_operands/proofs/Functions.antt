@@ -68,7 +68,7 @@ star_plain = refl
 
 module _ {text : List ℕ} {f : Flags} {g g' : G} {p q : Parser} {ids js : List (Option NodeId)} (x : Partway text f g g' p q ids js) where
   -- an empty slot more, in a state that differs in what was told
-  hole_behind : {g'' : G} {t : Parser} → At text f t → Same q t → t.prev_token_end ≡ q.prev_token_end → spot t ≡ spot q → t.nodes ≡ q.nodes → Verdict p.errors t.errors (Stretch text (plain full) g p.prev_token_end g'' t.prev_token_end (λ us. x.slots (hole us)) x.pass) (Fails rule (Lex text) (plain full) end g p.prev_token_end) → Partway text f g g'' p t ids (js ++ None ∷ [])
+  hole_behind : {g'' : G} {t : Parser} → At text f t → Same q t → t.prev_token_end ≡ q.prev_token_end → spot t ≡ spot q → t.nodes ≡ q.nodes → Verdict (f.wide ≡ true) p.errors t.errors (Stretch text (plain full) g p.prev_token_end g'' t.prev_token_end (λ us. x.slots (hole us)) x.pass) (Fails rule (Lex text) (plain full) end g p.prev_token_end) → Partway text f g g'' p t ids (js ++ None ∷ [])
   hole_behind {t = t} a s e o n v = record {
     at = a;
     same = same_both x.same s;

@@ -531,7 +531,7 @@ module _ {text : List ℕ} {f : Flags} {p q : Parser} (a : At text f p) (k : p.t
         start_before_less : p.token.span.start < w.prev_token_end
         start_before_less = let i = m.further in let j = callee_taken.further in let d = m.at.behind in omega arith
 
-        bare_verdict : ((y : Lexeme) → Lex text w.prev_token_end y → one_of_kinds link_kinds y.kind ≡ false) → NoneIs text w.prev_token_end LParen → Verdict p.errors w.errors (Headed text f p.prev_token_end (label_here new_expression no_op p w) (tree callee_taken.label callee_taken.slots end) (λ ls. next m.lexeme (callee_taken.pass ls)) w.prev_token_end) (NoMember text f p.prev_token_end)
+        bare_verdict : ((y : Lexeme) → Lex text w.prev_token_end y → one_of_kinds link_kinds y.kind ≡ false) → NoneIs text w.prev_token_end LParen → Verdict (f.wide ≡ true) p.errors w.errors (Headed text f p.prev_token_end (label_here new_expression no_op p w) (tree callee_taken.label callee_taken.slots end) (λ ls. next m.lexeme (callee_taken.pass ls)) w.prev_token_end) (NoMember text f p.prev_token_end)
         bare_verdict u none = behind_none m.kept (verdict_of callee_taken.verdict (λ c. bare c) (λ z. new_fails z))
           where
             bare : Headed text f q.prev_token_end callee_taken.label callee_taken.slots callee_taken.pass w.prev_token_end → Headed text f p.prev_token_end (label_here new_expression no_op p w) (tree callee_taken.label callee_taken.slots end) (λ ls. next m.lexeme (callee_taken.pass ls)) w.prev_token_end

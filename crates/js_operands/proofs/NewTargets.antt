@@ -1,7 +1,7 @@
 -- `new.target` (ECMA-262, 13.3.12): what is derived of it, and what is told where it, or another word, stands behind `new` and a dot.
 use Rattle.std.proofs.Common.{ℕ, ◌≡◌, ◌≤◌, ◌<◌, inl, inr, List, [], ◌∷◌, Bool, true, false, not, ◌&&◌, ◌||◌, IsTrue, IsCharBoundary, refl, sym, ap, subst, arith, ◌∙◌}
 use Rattle.std.specs.Prelude.{Ok}
-use Rattle.std.proofs.lemmas.Bool.{false≢true, and_from, and_parts, or_left}
+use Rattle.std.proofs.lemmas.Bool.{false≢true, and_from, and_parts, or_left, or_right}
 use Rattle.js_base.specs.Kinds.{same_kind, one_of_kinds}
 use Rattle.js_base.specs.KindSets.{identifier_name_kinds}
 use Rattle.js_base.specs.Diagnostics.{class_of}
@@ -33,6 +33,7 @@ use Rattle.js_tree.specs.Nodes.{Node}
 use Rattle.js_tree.specs.Holding.{Keeps}
 use Rattle.js_tree.proofs.HoldingLemmas.{Keeps-made, Keeps-refl, Keeps-trans}
 use Rattle.js_cursor.specs.Moves.{GivesUp, is_last}
+use Rattle.js_cursor.specs.Moves.{Keeps as TellsOne}
 use Rattle.js_cursor.specs.Parsers.{Parser}
 use Rattle.js_cursor.specs.Places.{goal}
 use Rattle.js_cursor.specs.declared.stop.Stop.{Stop}
@@ -41,7 +42,7 @@ use Rattle.js_operands.specs.Members.{MemberSoFar, NoMember, NoOther}
 use Rattle.js_operands.specs.NewTargets.{BehindDot, BehindNew, ChecksTarget, TargetOutcome, no_target_at, outside_at, target_slots}
 use Rattle.js_operands.proofs.Links.{member_target, new_target, no_member_new, with_arguments}
 use Rattle.js_operands.proofs.Members.{called_member, new_other, new_skips, no_primary, no_super_at_new}
-use Rattle.js_parsing.specs.Answers.{Stops, Verdict, unclean}
+use Rattle.js_parsing.specs.Answers.{Grown, Stops, Stretch, Verdict, unclean}
 use Rattle.js_parsing.specs.Classes.{EndsParse, ends_parse}
 use Rattle.js_parsing.specs.Lexemes.{Lex, spot}
 use Rattle.js_parsing.specs.Moves.{MadeHere, Moved, plain_label}
@@ -54,7 +55,7 @@ use Rattle.js_parsing.proofs.Moving.{beside_nodes, same_both, same_itself, same_
 use Rattle.js_parsing.proofs.Paths.{Path, ◌⟶◌, label_here, last_token, skips, token, walked_to}
 use Rattle.js_parsing.proofs.Signs.{stands_not, stands_there}
 use Rattle.js_parsing.proofs.Told.{told_at, told_same}
-use Rattle.js_parsing.proofs.Verdicts.{grown_then, verdict_of}
+use Rattle.js_parsing.proofs.Verdicts.{grown_then, told_wider, verdict_of}
 use Rattle.js_parsing.proofs.Verdicts.{after as grown_behind}
 
 -- ---- what was passed
@@ -216,7 +217,7 @@ module _ {text : List ℕ} {f : Flags} {o p : Parser} (a : At text f o) (s : Sta
     target_path = token New a s.0 s.1 refl m ⟶ (token Dot m.at d.0 d.1 refl n ⟶ last_token Target n.at t.0 t.1 refl e)
 
     abbrev Verdict_of : Parser → Type 0
-    Verdict_of g = Verdict o.errors g.errors (MemberSoFar text f o.prev_token_end o.token.span.start (label_here new_target_expression no_op o g) end target_path.pass g.prev_token_end) (NoMember text f o.prev_token_end)
+    Verdict_of g = Verdict (f.wide ≡ true) o.errors g.errors (MemberSoFar text f o.prev_token_end o.token.span.start (label_here new_target_expression no_op o g) end target_path.pass g.prev_token_end) (NoMember text f o.prev_token_end)
 
     module _ {z : Span} {g : Parser} (c : ChecksTarget z r g) where
       checked_at : At text f g
@@ -257,13 +258,22 @@ module _ {text : List ℕ} {f : Flags} {o p : Parser} (a : At text f o) (s : Sta
       checked_verdict : Verdict_of g
       checked_verdict = go c
         where
-          allowed : {b : Bool} → (flags_of r).new_target ≡ b → f.new_target ≡ b
-          allowed i = sym (ap (λ (h : Flags). h.new_target) e.at.flags_are) ∙ i
+          allowed : {b : Bool} → (flags_of r).new_target ≡ b → f.new_target ≡ (f.wide || b)
+          allowed i = sym (ap (λ (h : Flags). h.new_target) e.at.flags_are) ∙ ap (λ (b : Bool). f.wide || b) i
+
+          read_here : f.new_target ≡ true → Stretch text (plain full) target_slots o.prev_token_end nothing r.prev_token_end (λ us. us) target_path.pass → MemberSoFar text f o.prev_token_end o.token.span.start (label_here new_target_expression no_op o r) end target_path.pass r.prev_token_end
+          read_here i y = (member_target f (no_super_at_new a s.0 s.1 m) i (no_primary a s.0 s.1 m) no_call y (begins_here a), no_bare)
+
+          none_here : Fails rule (Lex text) (plain full) end target_slots o.prev_token_end → NoMember text f o.prev_token_end
+          none_here x = none_there (λ X. fails_under (fails_node inside_full x))
+
+          told_here : (k : TellsOne (outside_at z) r g) (w : Bool) → f.wide ≡ w → f.new_target ≡ (w || false) → Verdict_of g
+          told_here k false h i = unclean (grown_behind target_path.verdict (kept_one k)) (none_there (λ X. fails_when i))
+          told_here k true h i = subst (λ (v : Parser). Verdict_of v) (sym k.is) (told_wider h (subst (λ (v : Parser). Grown r.errors v.errors) k.is (kept_one k)) target_path.verdict (read_here i) none_here)
 
           go : ChecksTarget z r g → Verdict_of g
-          go (inl (i, k)) = unclean (grown_behind target_path.verdict (kept_one k)) (none_there (λ X. fails_when (allowed i)))
-          go (inr (i, k)) = subst (λ (v : Parser). Verdict_of v) (sym k)
-              (verdict_of target_path.verdict (λ y. (member_target f (no_super_at_new a s.0 s.1 m) (allowed i) (no_primary a s.0 s.1 m) no_call y (begins_here a), no_bare)) (λ x. none_there (λ X. fails_under (fails_node inside_full x))))
+          go (inl (i, k)) = told_here k f.wide refl (allowed i)
+          go (inr (i, k)) = subst (λ (v : Parser). Verdict_of v) (sym k) (verdict_of target_path.verdict (read_here (allowed i ∙ or_right f.wide true refl)) none_here)
 
       kept_nodes : Keeps o.nodes g.nodes
       kept_nodes = subst (λ (ns : List Node). Keeps o.nodes ns) (sym checked_nodes) (Keeps-refl o.nodes)

@@ -33,7 +33,7 @@ use Rattle.js_parsing.specs.States.{At}
 use Rattle.js_parsing.specs.Moves.{Passes, unpassable}
 use Rattle.js_operands.specs.Marked.{is_function, Marks}
 use Rattle.js_parsing.specs.Moves.{Moved, MadeHere, IsWholeHere, plain_label}
-use Rattle.js_parsing.specs.Answers.{clean, unclean, Stretch, Underived, Answer, Numbered, Stops}
+use Rattle.js_parsing.specs.Answers.{clean, unclean, wider, Stretch, Underived, Answer, Numbered, Stops}
 use Rattle.js_parsing.proofs.Signs.{plain_sign, other_kind}
 use Rattle.js_parsing.proofs.Dead.{all_read}
 use Rattle.js_parsing.proofs.Giving.{gives_up}
@@ -107,6 +107,7 @@ module _ {text : List ℕ} {f : Flags} {p q : Parser} (a : At text f p) (k : p.t
     close_fails n = inside_fails (elim x.verdict [
       | clean e y ↦ then_by {X' = plain (is RParen)} (marked_read (before_paren f) y.goes) (by_first firsts (by_plain (is RParen)) refl) ▹✗ fails_at x.at {X = plain full} (tok RParen) (RParen ∷ []) refl n
       | unclean g z ↦ part_fails {X' = plain (is RParen)} (marked_fails (before_paren f) z) (by_first firsts (by_plain (is RParen)) refl)
+      | wider w g y ↦ then_by {X' = plain (is RParen)} (marked_read (before_paren f) y.goes) (by_first firsts (by_plain (is RParen)) refl) ▹✗ fails_at x.at {X = plain full} (tok RParen) (RParen ∷ []) refl n
     ])
 
     module _ {u : Parser} (c : r.token.kind ≡ RParen) (d : Moved text f r u) where

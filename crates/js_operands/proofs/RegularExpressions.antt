@@ -70,7 +70,7 @@ use Rattle.js_parsing.proofs.Here.{alike, plain_token, sign_here, told_plain}
 use Rattle.js_parsing.proofs.Kept.{kept_for, passing_so}
 use Rattle.js_parsing.proofs.KeptTokens.{again_before, again_last, before_next, trivia_kept}
 use Rattle.js_parsing.proofs.MadeNodes.{leaf_held, one_lies}
-use Rattle.js_parsing.proofs.Moving.{flags_same, heads_kept, nodes_lie}
+use Rattle.js_parsing.proofs.Moving.{flags_same, heads_kept, nodes_lie, standing_for}
 use Rattle.js_parsing.proofs.Escapes.{read_plain}
 use Rattle.js_parsing.proofs.Paths.{Path, ◌⟼◌, at_kinds, label_here, noded, read_of, walked_to}
 use Rattle.js_parsing.proofs.Slashes.{pattern_goal, sign_there}
@@ -321,7 +321,7 @@ module _ {text : List ℕ} {f : Flags} {p q : Parser} {at_end : ℕ} (a : At tex
       text_is = m.stays.text ∙ text_stays
 
       next_at : At text f r
-      next_at = subst (λ (g : Flags). At text g r) (flags_same q r m.stays.ctx m.stays.source_type m.stays.options ∙ (flags_same p q h.stays.ctx h.stays.source_type h.stays.options ∙ a.flags_are)) (subst (λ (t : List ℕ). At t (flags_of r) r) text_is (behind_first h.at heads_stay m))
+      next_at = standing_for (behind_first h.at heads_stay m) text_is (flags_same q r m.stays.ctx m.stays.source_type m.stays.options ∙ (flags_same p q h.stays.ctx h.stays.source_type h.stays.options ∙ a.flags_are))
 
       same : Same p r
       same = record {

@@ -114,7 +114,7 @@ module _ {text : List ℕ} {f : Flags} {p q : Parser} (a : At text f p) (s : Sta
           }
 
   -- its node
-  leaf_taken : {g w : Parser} {id : NodeId} → At text f g → Same p g → g.nodes ≡ p.nodes → spot g ≡ spot q → g.prev_token_end ≡ q.prev_token_end → Verdict p.errors g.errors (SuperWord text f p.prev_token_end (label_here super_expression no_op p g) end (λ ls. next m.lexeme ls) g.prev_token_end × LinkHere g base.Call true) (NoMember text f p.prev_token_end)
+  leaf_taken : {g w : Parser} {id : NodeId} → At text f g → Same p g → g.nodes ≡ p.nodes → spot g ≡ spot q → g.prev_token_end ≡ q.prev_token_end → Verdict (f.wide ≡ true) p.errors g.errors (SuperWord text f p.prev_token_end (label_here super_expression no_op p g) end (λ ls. next m.lexeme ls) g.prev_token_end × LinkHere g base.Call true) (NoMember text f p.prev_token_end)
       → MadeHere (plain_label node.Super op.None p.token.span) [] g w id → SuperTaken text f p w id
   leaf_taken {g} {w} {id} b c n o e v x =
       let l : plain_label node.Super op.None p.token.span ≡ label_here super_expression no_op p g = ap (λ (v : ℕ). record { kind = super_expression; op = no_op; flags = 0; span = record { from = p.token.span.start; to = v } }) (m.tells.end ∙ (m.ends ∙ sym e)) in

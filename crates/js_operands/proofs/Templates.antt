@@ -171,7 +171,7 @@ module _ {text : List ℕ} {f : Flags} {p : Parser} (a : At text f p) (h : one_o
   head_edge = let y = found a (uncut a head_passes.1) head_passes.0 in the_start (a_lexeme (subst (λ (t : List ℕ). Reached t p.prev_token_end) a.text_is a.at.reached) y.1) (sym y.2.start)
 
 pub part_standing : {text : List ℕ} {f : Flags} {p : Parser} → PartAt text f p → PartAt p.text (flags_of p) p
-part_standing {text} {f} {p} a = subst (λ (g : Flags). PartAt p.text g p) (sym a.flags_are) (subst (λ (t : List ℕ). PartAt t f p) (sym a.text_is) a)
+part_standing {text} {f} {p} a = subst (λ (t : List ℕ). PartAt t (flags_of p) p) (sym a.text_is) (record { text_is = a.text_is; flags_are = refl; at = a.at; uncut = a.uncut; part = a.part; begins = a.begins; behind = a.behind; heads = a.heads; kept_last = a.kept_last; meets = a.meets })
 
 -- ---- a part was passed
 

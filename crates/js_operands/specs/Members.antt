@@ -52,7 +52,7 @@ pub record Taken (text : List ℕ) (f : Flags) (p q : Parser) (id : NodeId) (Cle
   pub row : same_row after_expression (row_of label slots) ≡ true
   pub pass : Lexemes → Lexemes
   pub walked : Walked text (spot p) (spot q) pass
-  pub verdict : Verdict p.errors q.errors (Clean label slots pass q.prev_token_end) Unclean
+  pub verdict : Verdict (f.wide ≡ true) p.errors q.errors (Clean label slots pass q.prev_token_end) Unclean
   pub holds : Holds q.nodes (length p.nodes) (length q.nodes) id.0 label slots
   pub keeps : Keeps p.nodes q.nodes
 

@@ -1,5 +1,5 @@
 -- What the parse functions of names of properties answer (ECMA-262, 13.2.5).
-use Rattle.std.specs.Prelude.{ℕ, ◌<◌, List, Bool, true, false, not, length, Result, Ok, Err}
+use Rattle.std.specs.Prelude.{ℕ, ◌<◌, List, Bool, true, false, not, length, Result, Ok, Err, ◌≡◌}
 use Rattle.js_grammar.specs.Trees.{Label, Slots, end, tree}
 use Rattle.js_grammar.specs.Grammar.{Lexemes, nothing}
 use Rattle.js_grammar.specs.Parsing.{plain, full, Fails}
@@ -27,7 +27,7 @@ pub record NameRead (text : List ℕ) (f : Flags) (c : Bool) (p q : Parser) (id 
   pub slots : Slots
   pub pass : Lexemes → Lexemes
   pub walked : Walked text (spot p) (spot q) pass
-  pub verdict : Verdict p.errors q.errors (Stretch text (plain full) (name c false f) p.prev_token_end nothing q.prev_token_end (tree label slots) pass) (NoName text c f p.prev_token_end)
+  pub verdict : Verdict (f.wide ≡ true) p.errors q.errors (Stretch text (plain full) (name c false f) p.prev_token_end nothing q.prev_token_end (tree label slots) pass) (NoName text c f p.prev_token_end)
   pub other : NoName text (not c) f p.prev_token_end
   pub holds : Holds q.nodes (length p.nodes) (length q.nodes) id.0 label slots
   pub keeps : Keeps p.nodes q.nodes

@@ -21,7 +21,7 @@ use Rattle.js_cursor.specs.Parsers.{Parser}
 use Rattle.js_cursor.specs.Places.{IsAt, goal}
 use Rattle.js_cursor.specs.declared.stop.Stop.{Stop}
 use Rattle.js_parsing.specs.Answers.{Grown, Numbered, Stops, Underived}
-use Rattle.js_parsing.specs.Heads.{NotedHeads}
+use Rattle.js_parsing.specs.Heads.{NotedHeads, widened}
 use Rattle.js_parsing.specs.Lexemes.{Lex, IsNew, IsReread, KeptLast, News, NoneToEnd, Walked, onward, spot, template_tails, with_faults}
 use Rattle.js_parsing.specs.Moves.{MadeHere}
 use Rattle.js_parsing.specs.States.{At, Same, flags_of}
@@ -55,7 +55,7 @@ element_label last s = record { kind = template_element; op = no_op; flags = con
 -- A template part stands here, told whole: by the plain lexical goal, or by that of template parts.
 pub record PartAt (text : List ℕ) (f : Flags) (p : Parser) : Type 0 where
   pub text_is : p.text ≡ text
-  pub flags_are : flags_of p ≡ f
+  pub flags_are : widened f.wide (flags_of p) ≡ f
   pub at : IsAt p
   pub uncut : p.cut ≡ false
   pub part : one_of_kinds parts p.token.kind ≡ true

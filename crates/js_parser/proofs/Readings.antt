@@ -1,6 +1,6 @@
 -- From the statements that were taken to the readings of the whole text.
 use Rattle.std.proofs.Common.{ℕ, zero, suc, ◌&&◌, take, ◌≡◌, max, ◌⊎◌, inl, inr, List, [], ◌∷◌, ◌++◌, length, Bool, true, false, not, ◌||◌, IsTrue, Option, refl, sym, ap, subst, arith, ◌∙◌}
-use Rattle.std.proofs.lemmas.Bool.{and_from}
+use Rattle.std.proofs.lemmas.Bool.{and_from, false≢true}
 use Rattle.js_base.specs.declared.diagnostic.Diagnostic.{Diagnostic}
 use Rattle.js_base.specs.declared.kind.Kind.{Kind}
 use Rattle.js_base.specs.declared.kind.Kind.TheVariants.{Eof, Undetermined, RAngle, HashbangComment}
@@ -29,7 +29,7 @@ use Rattle.js_cursor.specs.Starts.{Starts}
 use Rattle.js_cursor.specs.Tokens.{IsToken, whole as whole_token, sign as sign_token, nothing as no_token}
 use Rattle.js_cursor.specs.declared.stop.Stop.{Stop}
 use Rattle.js_cursor.specs.declared.stop.Stop.TheVariants.{Fatal, NoMemory}
-use Rattle.js_parsing.specs.Answers.{Stretch, Verdict, clean, unclean}
+use Rattle.js_parsing.specs.Answers.{Stretch, Verdict, clean, unclean, wider}
 use Rattle.js_parsing.specs.Lexemes.{IsRight, Lex, goal_for, is_read, other_goals, read_kinds, signs}
 use Rattle.js_parsing.specs.States.{At, IsPlain, whole, sign, nothing as no_lexeme, flags_of, Standing, NodesLie, SpansLie}
 use Rattle.js_statements.specs.StatementLists.{at_end, with_directives, statements, NoList, Taken, AllTaken, AllRefused}
@@ -405,6 +405,10 @@ module _ {text : List ℕ} {f : Flags} {source : SourceType} {o : ParseOptions} 
   none : NoList text Text (with_directives Text f) v.prev_token_end → HasNoReadingBy true text (goal_of source) (options_of o)
   none n = none_at_all b.parameters_are b.opens (subst (λ (i : ℕ). NoList text Text (with_directives Text f) i) b.place n)
 
+  -- a text isn't read in wider forms
+  narrow : f.wide ≡ true → ⊥
+  narrow w = false≢true (sym (ap (λ (g : Flags). g.wide) b.parameters_are) ∙ w)
+
   module _ {q : Parser} {ids : List (Option NodeId)} (t : Taken text f Text (with_directives Text f) (statements Text f) v q ids) where
     walk : Walked text (record { source = goal_of source; keeps_tokens = v.lexer.keeps_tokens; place = s; kept = record v.lexer.kept { tokens = kept_before v.lexer v.token } }) (spot q) t.pass
     walk = walked_from (λ i. record { source = goal_of (b.read_as i); keeps_tokens = v.lexer.keeps_tokens; place = b.place i; kept = record v.lexer.kept { tokens = kept_before v.lexer v.token } }) t.walked
@@ -416,9 +420,10 @@ module _ {text : List ℕ} {f : Flags} {source : SourceType} {o : ParseOptions} 
     kept_by z (inr e) w r = absurd (fault_kept t.at e z.faults)
     kept_by z (inl e) w r = go t.verdict
       where
-        go : Verdict v.errors q.errors (Stretch text (plain (at_end Text)) (with_directives Text f) v.prev_token_end (statements Text f) q.prev_token_end t.slots t.pass) (NoList text Text (with_directives Text f) v.prev_token_end) → IsKeptOf r v.lexer.keeps_tokens q.lexer.kept
+        go : Verdict (f.wide ≡ true) v.errors q.errors (Stretch text (plain (at_end Text)) (with_directives Text f) v.prev_token_end (statements Text f) q.prev_token_end t.slots t.pass) (NoList text Text (with_directives Text f) v.prev_token_end) → IsKeptOf r v.lexer.keeps_tokens q.lexer.kept
         go (clean h u) = kept_so t.at e (whole_stretch u) walk b.faults b.parameters_are b.opens b.trivia b.tokens w r
         go (unclean g m) = absurd (none m w r)
+        go (wider d g u) = absurd (narrow d)
 
     by_kind : (q.token.kind ≡ Eof) ⊎ (q.token.kind ≡ Undetermined) → ReadOrNot text source o q (front (t.slots end))
     by_kind (inl e) = go t.verdict
@@ -427,9 +432,10 @@ module _ {text : List ℕ} {f : Flags} {source : SourceType} {o : ParseOptions} 
         read h u [] z = inl (record { faults = z; errors = h }, one_reading t.at e u walk b.faults b.parameters_are b.opens z)
         read h u (d ∷ ds) z = inr (λ x. cons_some d ds (sym z ∙ x.faults), faulty_so t.at e u walk b.faults b.parameters_are b.opens (λ x. cons_some d ds (sym z ∙ x)))
 
-        go : Verdict v.errors q.errors (Stretch text (plain (at_end Text)) (with_directives Text f) v.prev_token_end (statements Text f) q.prev_token_end t.slots t.pass) (NoList text Text (with_directives Text f) v.prev_token_end) → ReadOrNot text source o q (front (t.slots end))
+        go : Verdict (f.wide ≡ true) v.errors q.errors (Stretch text (plain (at_end Text)) (with_directives Text f) v.prev_token_end (statements Text f) q.prev_token_end t.slots t.pass) (NoList text Text (with_directives Text f) v.prev_token_end) → ReadOrNot text source o q (front (t.slots end))
         go (clean h u) = read (h ∙ b.errors) (whole_stretch u) q.lexer.kept.errors refl
         go (unclean g m) = inr (λ x. grown_some g x.errors, none m)
+        go (wider d g u) = absurd (narrow d)
     by_kind (inr e) = inr (λ x. fault_kept t.at e x.faults, none (none_left t (nothing_here t.at e)))
 
     -- the children of Program are those of the front and those that were taken

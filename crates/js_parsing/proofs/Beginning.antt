@@ -29,7 +29,7 @@ hashbang_kind x = x.tells.kind ∙ hashbang_is x.stands.lex.word x.lexeme.kind (
 
 -- nothing is noted where a text begins
 pub none_noted : (p : Parser) → HasNone p.state → NotedHeads p
-none_noted p n = (λ c s b k. absurd (false≢true (sym (ap (λ (v : List ℕ). is_noted v c s) n.failed) ∙ k)), λ c s b k. absurd (false≢true (sym (ap (λ (v : List ℕ). is_noted v c s) n.operands) ∙ k)))
+none_noted p n = (λ w c s b k. absurd (false≢true (sym (ap (λ (v : List ℕ). is_noted v c s) n.failed) ∙ k)), λ w c s b k. absurd (false≢true (sym (ap (λ (v : List ℕ). is_noted v c s) n.operands) ∙ k)))
 
 -- Behind a lexeme of whichever goal the plain goal gives the next token.
 pub behind_first : {p q : Parser} → IsAt p → NotedHeads p → Passed p q → Standing q

@@ -34,7 +34,7 @@ use Rattle.js_cursor.proofs.Changing.{fields_at, fields_set, entered_on}
 use Rattle.js_base.specs.declared.context.Context.{Context}
 use Rattle.js_cursor.specs.Notes.{Notes, is_noted}
 use Rattle.js_cursor.specs.Starts.{is_module}
-use Rattle.js_parsing.specs.Heads.{NoHead, NotedHeads, OnlyArrow, flags_in}
+use Rattle.js_parsing.specs.Heads.{NoHead, NotedHeads, OnlyArrow, flags_in, widened}
 use Rattle.js_parsing.specs.Lexemes.{KeptFor, NoneToEnd, TriviaKept, News, other_goals, read_kinds}
 use Rattle.js_parsing.proofs.KeptTokens.{counts_here, completed_counts, before_next, next_kept_last, again_before, again_last, trivia_kept}
 use Rattle.js_parsing.specs.States.{At, Standing, IsPlain, whole, sign, nothing, Same, flags_of, NodesLie, SpansLie}
@@ -74,15 +74,15 @@ plain_given {text} {p} {source} faults k o = go p.cut refl k (same_kind Undeterm
     go false q (no_token before e d x) true h y = nothing q e y.2.none
     go false q (no_token before e d x) false h y = absurd (false≢true (sym h ∙ ap (same_kind Undetermined) e))
 
-pub flags_same : (p q : Parser) → q.ctx ≡ p.ctx → q.source_type ≡ p.source_type → q.options ≡ p.options → flags_of q ≡ flags_of p
+pub flags_same : {w : Bool} (p q : Parser) → q.ctx ≡ p.ctx → q.source_type ≡ p.source_type → q.options ≡ p.options → widened w (flags_of q) ≡ widened w (flags_of p)
 flags_same p q c s o = rw (c, s, o) refl
 
 -- what is noted of heads stays right where the text and what is noted stay
 pub heads_kept : (p q : Parser) → q.text ≡ p.text → q.source_type ≡ p.source_type → q.options ≡ p.options → q.state.failed ≡ p.state.failed → q.state.operands ≡ p.state.operands → NotedHeads p → NotedHeads q
-heads_kept p q t s o h g n = (λ c x b k. stays NoHead c x (n.0 c x b (subst (λ (v : List ℕ). is_noted v c x ≡ true) h k)), λ c x b k. stays OnlyArrow c x (n.1 c x b (subst (λ (v : List ℕ). is_noted v c x ≡ true) g k)))
+heads_kept p q t s o h g n = (λ w c x b k. stays NoHead w c x (n.0 w c x b (subst (λ (v : List ℕ). is_noted v c x ≡ true) h k)), λ w c x b k. stays OnlyArrow w c x (n.1 w c x b (subst (λ (v : List ℕ). is_noted v c x ≡ true) g k)))
   where
-    stays : (P : List ℕ → Flags → ℕ → Type 0) → (c : Context) (x : ℕ) → P p.text (flags_in p c) x → P q.text (flags_in q c) x
-    stays P c x z = subst (λ (v : List ℕ). P v (flags_in q c) x) (sym t) (subst (λ (f : Flags). P p.text f x) (λ i. record (flags_in q c) { module_goal = is_module (sym s i); v8 = (sym o i).allow_v8_intrinsics }) z)
+    stays : (P : List ℕ → Flags → ℕ → Type 0) → (w : Bool) (c : Context) (x : ℕ) → P p.text (widened w (flags_in p c)) x → P q.text (widened w (flags_in q c)) x
+    stays P w c x z = subst (λ (v : List ℕ). P v (widened w (flags_in q c)) x) (sym t) (subst (λ (f : Flags). P p.text f x) (λ i. record (widened w (flags_in q c)) { module_goal = is_module (sym s i); v8 = (sym o i).allow_v8_intrinsics }) z)
 
 pub same_itself : {p : Parser} → Same p p
 same_itself {p} = record { follows = follows_itself p; options = refl; ctx = refl; depth = refl; visits = refl; early = λ h. h; lies = λ h. h; meets = λ h. h }
@@ -332,7 +332,11 @@ stops_in {p = p} {q = q} r e a h i s = stops_later r e (entered_on a h).0 (λ w.
 
 -- whatever the text and the parameters are called
 pub standing : {text : List ℕ} {f : Flags} {p : Parser} → At text f p → Standing p
-standing {text} {f} {p} a = subst (λ (g : Flags). At p.text g p) (sym a.flags_are) (subst (λ (t : List ℕ). At t f p) (sym a.text_is) a)
+standing {text} {f} {p} a = subst (λ (t : List ℕ). At t (flags_of p) p) (sym a.text_is) (record { text_is = a.text_is; flags_are = refl; at = a.at; plain = a.plain; behind = a.behind; heads = a.heads; kept_last = a.kept_last })
+
+-- and the same for other parameters, those of wider forms
+pub standing_for : {text : List ℕ} {f : Flags} {p : Parser} → Standing p → p.text ≡ text → widened f.wide (flags_of p) ≡ f → At text f p
+standing_for {text} {f} {p} a t e = record { text_is = t; flags_are = e; at = a.at; plain = subst (λ (v : List ℕ). IsPlain v p) t a.plain; behind = a.behind; heads = a.heads; kept_last = a.kept_last }
 
 pub entered_place : {k : ℕ} {p q : Parser} → Enters k p q → q.prev_token_end ≡ p.prev_token_end
 entered_place h = ap (λ (r : Parser). r.prev_token_end) h.is

@@ -176,12 +176,12 @@ pub record Path (text : List ℕ) (f : Flags) (X : Test) (g : G) (p : Parser) (g
   pub further : p.token.span.start < q.prev_token_end
   pub pass : Lexemes → Lexemes
   pub walked : Walked text (spot p) (spot q) pass
-  pub verdict : Verdict p.errors q.errors (Stretch text X g p.prev_token_end g' q.prev_token_end h pass) (Fails rule (Lex text) X end g p.prev_token_end)
+  pub verdict : Verdict (f.wide ≡ true) p.errors q.errors (Stretch text X g p.prev_token_end g' q.prev_token_end h pass) (Fails rule (Lex text) X end g p.prev_token_end)
 
 module _ {text : List ℕ} {X : Test} where
   -- one stretch and another
   infixr 18 ◌⟶◌
-  pub ◌⟶◌ : {f f' : Flags} {g g' g'' : G} {p q r : Parser} {h i : Slots → Slots} → Path text f X g p g' q h → Path text f' (behind X h) g' q g'' r i → Path text f' X g p g'' r (λ us. h (i us))
+  pub ◌⟶◌ : {f : Flags} {g g' g'' : G} {p q r : Parser} {h i : Slots → Slots} → Path text f X g p g' q h → Path text f (behind X h) g' q g'' r i → Path text f X g p g'' r (λ us. h (i us))
   a ⟶ b = record {
     at = b.at;
     further = let i = a.further in let j = b.further in let h = a.at.behind in omega arith;

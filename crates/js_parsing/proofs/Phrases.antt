@@ -45,7 +45,7 @@ module _ (n m : Symbol) (h : passes_on n.name m.name ≡ true) (i : n.flags.in_ 
   lift_stretch y = record { reach = max 0 y.reach; near = let k = y.near in omega arith; goes = by_rule {X' = after n} (λ l cs vs z d. d) (g ▹ weaken_on y.goes (same_read n m h i)) refl }
 
   unfoldable pub lift : {f : Flags} {p q : Parser} {id : NodeId} → p.prev_token_end ≡ s → (x : Numbered text f m p q id) → may_end n.name (row_of x.answer.label x.answer.slots) ≡ true → ((y : Lexeme) → Plain text q.prev_token_end y → IsTrue (seen (follow n (edge_of x.answer.label x.answer.slots)) y || seen beside y)) → Numbered text f n p q id
-  lift {p = p} {q = q} e x r k = record {
+  lift {f = f} {p = p} {q = q} e x r k = record {
     answer = record {
       at = x.answer.at;
       same = x.answer.same;
@@ -56,8 +56,8 @@ module _ (n m : Symbol) (h : passes_on n.name m.name ≡ true) (i : n.flags.in_ 
       row = r;
       pass = x.answer.pass;
       walked = x.answer.walked;
-      verdict = subst (λ (v : ℕ). Verdict p.errors q.errors (Stretch text (after n) (such n always) v nothing q.prev_token_end (tree x.answer.label x.answer.slots) x.answer.pass) (Underived text n v)) (sym e)
-          (verdict_of (subst (λ (v : ℕ). Verdict p.errors q.errors (Stretch text (after m) (such m always) v nothing q.prev_token_end (tree x.answer.label x.answer.slots) x.answer.pass) (Underived text m v)) e x.answer.verdict) (λ y. lift_stretch y) (λ z. lift_fails z));
+      verdict = subst (λ (v : ℕ). Verdict (f.wide ≡ true) p.errors q.errors (Stretch text (after n) (such n always) v nothing q.prev_token_end (tree x.answer.label x.answer.slots) x.answer.pass) (Underived text n v)) (sym e)
+          (verdict_of (subst (λ (v : ℕ). Verdict (f.wide ≡ true) p.errors q.errors (Stretch text (after m) (such m always) v nothing q.prev_token_end (tree x.answer.label x.answer.slots) x.answer.pass) (Underived text m v)) e x.answer.verdict) (λ y. lift_stretch y) (λ z. lift_fails z));
     };
     holds = x.holds;
     keeps = x.keeps;

@@ -23,7 +23,7 @@ use Rattle.std.proofs.lemmas.Bool.{or_left, or_right, lt-ltb}
 use Rattle.js_base.specs.declared.kind.Kind.TheVariants.{Eof, Comma, Semicolon, RParen, RBrack}
 use Rattle.js_grammar.proofs.Lexemes.{first_or}
 use Rattle.js_lex.specs.Reading.{Tells}
-use Rattle.js_parsing.specs.Answers.{Grown, Verdict, clean, unclean}
+use Rattle.js_parsing.specs.Answers.{Grown, Verdict, clean, unclean, wider}
 use Rattle.js_parsing.specs.Lexemes.{read_kinds}
 use Rattle.js_parsing.specs.Moves.{IsWholeHere, Tightness, unpassable}
 use Rattle.js_parsing.specs.Operators.{power_of}
@@ -111,14 +111,16 @@ grown_length {K} {old} {new} g = let a = ap length g.kept in let b = length-appe
     positive (x ∷ l) n = omega arith
 
 -- no more diagnostics than before: none was kept
-pub none_kept : {K : Type 0} {old new : List K} {C B : Type 0} → Verdict old new C B → length new ≡ length old → C
+pub none_kept : {W K : Type 0} {old new : List K} {C B : Type 0} → Verdict W old new C B → length new ≡ length old → C
 none_kept (clean e c) l = c
 none_kept (unclean g b) l = let h = grown_length g in absurd (omega arith)
+none_kept (wider w g c) l = c
 
 -- what is said where a call gave up
-pub grew : {K : Type 0} {old new : List K} {C B : Type 0} (kept : ℕ) → kept ≡ length old → (length new ≡ kept → ⊥) → Verdict old new C B → Grown old new
+pub grew : {W K : Type 0} {old new : List K} {C B : Type 0} (kept : ℕ) → kept ≡ length old → (length new ≡ kept → ⊥) → Verdict W old new C B → Grown old new
 grew kept k h (clean e c) = absurd (h (ap length e ∙ sym k))
 grew kept k h (unclean g b) = g
+grew kept k h (wider w g c) = g
 
 pub span_is : {from to : ℕ} (s : Span) → s.start ≡ from → s.end ≡ to → s ≡ record { start = from; end = to }
 span_is s a b = λ i. record { start = a i; end = b i }

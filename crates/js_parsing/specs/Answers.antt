@@ -30,10 +30,11 @@ pub record Grown {K : Type 0} (old new : List K) : Type 0 where
   pub kept : new ≡ old ++ more
   pub some : more ≡ [] → ⊥
 
--- What an `Ok` says, by the list of diagnostics: the one where none was kept in the call, the other where one was.
-pub data Verdict {K : Type 0} (old new : List K) (Clean Unclean : Type 0) : Type 0 where
-  clean : new ≡ old → Clean → Verdict old new Clean Unclean
-  unclean : Grown old new → Unclean → Verdict old new Clean Unclean
+-- What an `Ok` says, by the list of diagnostics: the one where none was kept in the call, the other where one was. In wider forms the first may be said though one was kept: where only these let in what was read.
+pub data Verdict (Wider : Type 0) {K : Type 0} (old new : List K) (Clean Unclean : Type 0) : Type 0 where
+  clean : new ≡ old → Clean → Verdict Wider old new Clean Unclean
+  unclean : Grown old new → Unclean → Verdict Wider old new Clean Unclean
+  wider : Wider → Grown old new → Clean → Verdict Wider old new Clean Unclean
 
 -- To read g from the place s is to read g' from s', with the slots that f puts before, over the lexemes of `pass`; no further was looked than s'.
 pub record Stretch (text : List ℕ) (X : Test) (g : G) (s : ℕ) (g' : G) (s' : ℕ) (f : Slots → Slots) (pass : Lexemes → Lexemes) : Type 0 where
@@ -60,7 +61,7 @@ pub record Answer (text : List ℕ) (f : Flags) (n : Symbol) (old new : Parser) 
   pub row : may_end n.name (row_of label slots) ≡ true
   pub pass : Lexemes → Lexemes
   pub walked : Walked text (spot old) (spot new) pass
-  pub verdict : Verdict old.errors new.errors (Stretch text (after n) (such n always) old.prev_token_end nothing new.prev_token_end (tree label slots) pass) (Underived text n old.prev_token_end)
+  pub verdict : Verdict (f.wide ≡ true) old.errors new.errors (Stretch text (after n) (such n always) old.prev_token_end nothing new.prev_token_end (tree label slots) pass) (Underived text n old.prev_token_end)
 
 -- And a node made in the call stands for the tree, clean or not, and reaches no number twice; the nodes from before keep their trees.
 pub record Numbered (text : List ℕ) (f : Flags) (n : Symbol) (old new : Parser) (id : NodeId) : Type 0 where

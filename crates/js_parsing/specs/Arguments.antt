@@ -50,7 +50,7 @@ pub record Partway (text : List ℕ) (f : Flags) (g g' : G) (p q : Parser) (ids 
   pub puts : (us : Slots) → slots us ≡ append (slots end) us
   pub pass : Lexemes → Lexemes
   pub walked : Walked text (spot p) (spot q) pass
-  pub verdict : Verdict p.errors q.errors (Stretch text (plain full) g p.prev_token_end g' q.prev_token_end slots pass) (Fails rule (Lex text) (plain full) end g p.prev_token_end)
+  pub verdict : Verdict (f.wide ≡ true) p.errors q.errors (Stretch text (plain full) g p.prev_token_end g' q.prev_token_end slots pass) (Fails rule (Lex text) (plain full) end g p.prev_token_end)
   pub holds : (lo : ℕ) (us : Slots) → HoldsAll p.nodes lo (length p.nodes) ids us → HoldsAll q.nodes lo (length q.nodes) js (append us (slots end))
   pub keeps : Keeps p.nodes q.nodes
 
@@ -97,7 +97,7 @@ pub record PartTaken (text : List ℕ) (f : Flags) (g : G) (p q : Parser) (id : 
   pub slots : Slots
   pub pass : Lexemes → Lexemes
   pub walked : Walked text (spot p) (spot q) pass
-  pub verdict : Verdict p.errors q.errors (Stretch text behind_item g p.prev_token_end nothing q.prev_token_end (tree label slots) pass) (Fails rule (Lex text) behind_item end g p.prev_token_end)
+  pub verdict : Verdict (f.wide ≡ true) p.errors q.errors (Stretch text behind_item g p.prev_token_end nothing q.prev_token_end (tree label slots) pass) (Fails rule (Lex text) behind_item end g p.prev_token_end)
   pub holds : Holds q.nodes (length p.nodes) (length q.nodes) id.0 label slots
   pub keeps : Keeps p.nodes q.nodes
 

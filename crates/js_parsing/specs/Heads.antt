@@ -1,5 +1,5 @@
 -- Where no head of an arrow function was found, and where nothing but such a head (ECMA-262, 15.3).
-use Rattle.std.specs.Prelude.{ℕ, ◌≡◌, ◌<◌, true, false, List}
+use Rattle.std.specs.Prelude.{ℕ, ◌≡◌, ◌<◌, ◌||◌, Bool, true, false, List}
 use Rattle.js_base.specs.declared.context.Context.{Context}
 use Rattle.js_base.specs.Contexts.{bits_of, has_flag, reads_await, in_flag, yield_flag, await_flag, return_flag, new_target_flag}
 use Rattle.js_base.specs.declared.kind.Kind.TheVariants.{Arrow}
@@ -33,10 +33,14 @@ flags_in p c = record {
   wide = false;
 }
 
+-- The same in wider forms, with true: an assignment target is taken as a parser meets it before it says what is wrong with it, and `new.target` may stand everywhere.
+abbrev pub widened : Bool → Flags → Flags
+widened w f = record f { new_target = w || f.new_target; wide = w }
+
 -- Behind arguments that are derived from the place `=>` stands: no parentheses there are an operand (CoverParenthesizedExpressionAndArrowParameterList, 13.2).
 abbrev pub OnlyArrow : List ℕ → Flags → ℕ → Type 0
 OnlyArrow text f s = Fails rule (Lex text) (plain (other (λ k w e. same_kind Arrow k))) no_slots (args f) s
 
--- Whatever is noted is so: no head is derived from the place, or no operand, under the parameters by which it is noted.
+-- Whatever is noted is so: no head is derived from the place, or no operand, under the parameters by which it is noted, in wider forms neither.
 abbrev pub NotedHeads : Parser → Type 0
-NotedHeads p = ((c : Context) (s : ℕ) → bits_of c < 65536 → is_noted p.state.failed c s ≡ true → NoHead p.text (flags_in p c) s) × ((c : Context) (s : ℕ) → bits_of c < 65536 → is_noted p.state.operands c s ≡ true → OnlyArrow p.text (flags_in p c) s)
+NotedHeads p = ((w : Bool) (c : Context) (s : ℕ) → bits_of c < 65536 → is_noted p.state.failed c s ≡ true → NoHead p.text (widened w (flags_in p c)) s) × ((w : Bool) (c : Context) (s : ℕ) → bits_of c < 65536 → is_noted p.state.operands c s ≡ true → OnlyArrow p.text (widened w (flags_in p c)) s)

@@ -33,7 +33,7 @@ pub record OneMore (text : List ℕ) (f : Flags) (g g' : G) (p q : Parser) (ids 
   pub puts : (us : Slots) → slots us ≡ append (slots end) us
   pub pass : Lexemes → Lexemes
   pub walked : Walked text (spot p) (spot q) pass
-  pub verdict : Verdict p.errors q.errors (Stretch text (plain full) g p.prev_token_end g' q.prev_token_end slots pass) (NoneLeft text g p.prev_token_end)
+  pub verdict : Verdict (f.wide ≡ true) p.errors q.errors (Stretch text (plain full) g p.prev_token_end g' q.prev_token_end slots pass) (NoneLeft text g p.prev_token_end)
   pub holds : (lo : ℕ) (us : Slots) → HoldsAll p.nodes lo (length p.nodes) ids us → HoldsAll q.nodes lo (length q.nodes) js (append us (slots end))
   pub keeps : Keeps p.nodes q.nodes
 

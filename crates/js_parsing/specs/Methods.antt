@@ -1,5 +1,5 @@
 -- Parameters of methods (ECMA-262, 15.4), and what is answered of a part that anything may follow.
-use Rattle.std.specs.Prelude.{ℕ, ◌<◌, List, length, Result, Ok, Err}
+use Rattle.std.specs.Prelude.{ℕ, ◌<◌, List, length, Result, Ok, Err, ◌≡◌, true}
 use Rattle.js_grammar.specs.Trees.{Label, Slots, end, tree, formal_parameters}
 use Rattle.js_grammar.specs.Grammar.{Lexemes, nothing}
 use Rattle.js_grammar.specs.Parsing.{plain, full, Fails}
@@ -31,7 +31,7 @@ pub record WholeTaken (text : List ℕ) (f : Flags) (g : G) (p q : Parser) (id :
   pub slots : Slots
   pub pass : Lexemes → Lexemes
   pub walked : Walked text (spot p) (spot q) pass
-  pub verdict : Verdict p.errors q.errors (Stretch text (plain full) g p.prev_token_end nothing q.prev_token_end (tree label slots) pass) (Fails rule (Lex text) (plain full) end g p.prev_token_end)
+  pub verdict : Verdict (f.wide ≡ true) p.errors q.errors (Stretch text (plain full) g p.prev_token_end nothing q.prev_token_end (tree label slots) pass) (Fails rule (Lex text) (plain full) end g p.prev_token_end)
   pub holds : Holds q.nodes (length p.nodes) (length q.nodes) id.0 label slots
   pub keeps : Keeps p.nodes q.nodes
 

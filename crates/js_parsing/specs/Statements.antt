@@ -55,7 +55,7 @@ pub record Statement (text : List ℕ) (f : Flags) (n : Symbol) (old new : Parse
   pub closed : Closed text new.prev_token_end label slots
   pub pass : Lexemes → Lexemes
   pub walked : Walked text (spot old) (spot new) pass
-  pub verdict : Verdict old.errors new.errors (Stretch text (after_statement n) (such n always) old.prev_token_end nothing new.prev_token_end (tree label slots) pass) (NoStatement text n old.prev_token_end)
+  pub verdict : Verdict (f.wide ≡ true) old.errors new.errors (Stretch text (after_statement n) (such n always) old.prev_token_end nothing new.prev_token_end (tree label slots) pass) (NoStatement text n old.prev_token_end)
   pub holds : Holds new.nodes (length old.nodes) (length new.nodes) id.0 label slots
   pub keeps : Keeps old.nodes new.nodes
 

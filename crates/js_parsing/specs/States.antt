@@ -8,7 +8,7 @@ use Rattle.js_lex.specs.Reading.{cut, GivesLexeme, LexemeBehind}
 use Rattle.js_cursor.specs.Checkpoints.{Follows}
 use Rattle.js_cursor.specs.Parsers.{Parser}
 use Rattle.js_cursor.specs.Places.{IsAt}
-use Rattle.js_parsing.specs.Heads.{NotedHeads, flags_in}
+use Rattle.js_parsing.specs.Heads.{NotedHeads, flags_in, widened}
 use Rattle.js_parsing.specs.Lexemes.{KeptLast, NoneToEnd}
 use Rattle.js_parsing.specs.Classes.{IsEarly}
 use Rattle.std.specs.List.{All}
@@ -25,10 +25,10 @@ pub data IsPlain (text : List ℕ) (p : Parser) : Type 0 where
   sign : p.cut ≡ true → p.token.kind ≡ RAngle → GivesLexeme division cut text p.prev_token_end p.token → IsPlain text p
   nothing : p.cut ≡ false → p.token.kind ≡ Undetermined → ((y : Lexeme) → LexemeBehind division text p.prev_token_end y → ⊥) → IsPlain text p
 
--- A production of a text may be read here, under these parameters.
+-- A production of a text may be read here, under these parameters: those in force, or the same in wider forms.
 pub record At (text : List ℕ) (f : Flags) (p : Parser) : Type 0 where
   pub text_is : p.text ≡ text
-  pub flags_are : flags_of p ≡ f
+  pub flags_are : widened f.wide (flags_of p) ≡ f
   pub at : IsAt p
   pub plain : IsPlain text p
   pub behind : p.prev_token_end ≤ p.token.span.start

@@ -72,7 +72,7 @@ pub record BoundTaken (text : List ℕ) (f : Flags) (first keyed q : Parser) (id
   pub slots : Slots
   pub pass : Lexemes → Lexemes
   pub walked : Walked text (spot first) (spot q) pass
-  pub verdict : Verdict first.errors q.errors (Stretch text behind_item (bound_by_name f) first.prev_token_end nothing q.prev_token_end (tree label slots) pass) (Fails rule (Lex text) behind_item end (bound_by_name f) first.prev_token_end)
+  pub verdict : Verdict (f.wide ≡ true) first.errors q.errors (Stretch text behind_item (bound_by_name f) first.prev_token_end nothing q.prev_token_end (tree label slots) pass) (Fails rule (Lex text) behind_item end (bound_by_name f) first.prev_token_end)
   pub holds : Holds q.nodes (length keyed.nodes) (length q.nodes) id.0 label slots
   pub keeps : Keeps keyed.nodes q.nodes
 

@@ -59,7 +59,7 @@ use Rattle.js_statements.proofs.WordStatements.{Alone, alone_fails, alone_path}
 
 -- a path, and what passes some lexemes behind it or none
 pub then_some : {text : List ℕ} {X : Test} {f f' : Flags} {g g' g'' : G} {p q r : Parser} {h i : Slots → Slots} {pass : Lexemes → Lexemes} → Path text f X g p g' q h → At text f' r → q.prev_token_end ≤ r.prev_token_end → Walked text (spot q) (spot r) pass
-    → Verdict q.errors r.errors (Stretch text (behind X h) g' q.prev_token_end g'' r.prev_token_end i pass) (Fails rule (Lex text) (behind X h) end g' q.prev_token_end) → Path text f' X g p g'' r (λ us. h (i us))
+    → Verdict (f.wide ≡ true) q.errors r.errors (Stretch text (behind X h) g' q.prev_token_end g'' r.prev_token_end i pass) (Fails rule (Lex text) (behind X h) end g' q.prev_token_end) → Path text f' X g p g'' r (λ us. h (i us))
 then_some {pass = w} a b l u v = record {
   at = b;
   further = let i = a.further in omega arith;

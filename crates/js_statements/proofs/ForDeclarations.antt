@@ -223,7 +223,7 @@ record FirstRead (text : List ℕ) (f : Flags) (is_await : Bool) (p q : Parser) 
   same : Same p q
   further : p.token.span.start < q.prev_token_end
   walked : Walked text (spot p) (spot q) pass
-  read : (e : Ending) → StandsHere q (end_kind e) true → Verdict p.errors q.errors (Stretch text (plain (is (end_kind e))) (first_part is_await e f) p.prev_token_end nothing q.prev_token_end (tree l us) pass) (NoFirst text is_await e f p.prev_token_end)
+  read : (e : Ending) → StandsHere q (end_kind e) true → Verdict (f.wide ≡ true) p.errors q.errors (Stretch text (plain (is (end_kind e))) (first_part is_await e f) p.prev_token_end nothing q.prev_token_end (tree l us) pass) (NoFirst text is_await e f p.prev_token_end)
   none : (e : Ending) → StandsHere q (end_kind e) false → NoFirst text is_await e f p.prev_token_end
   kept : (ds : List Diagnostic) → Grown q.errors ds → Grown p.errors ds
 
@@ -353,7 +353,7 @@ module _ {text : List ℕ} {f : Flags} (is_await : Bool) {p q : Parser} (k : Dec
     abbrev bound_pass : Lexemes → Lexemes
     bound_pass ls = next m.lexeme (x.pass ls)
 
-    bound_verdict : (e : Ending) → Goes rule (Lex text) (plain (is (end_kind e))) end (first_part is_await e f) p.prev_token_end (bound_node (declaration_kind k) f) p.prev_token_end (λ us. us) (still 0) → Verdict p.errors r.errors (Stretch text (plain (is (end_kind e))) (first_part is_await e f) p.prev_token_end nothing r.prev_token_end (tree (label_here variable_declaration (of (declaration_kind k)) p r) bound_slots) bound_pass) (NoFirst text is_await e f p.prev_token_end)
+    bound_verdict : (e : Ending) → Goes rule (Lex text) (plain (is (end_kind e))) end (first_part is_await e f) p.prev_token_end (bound_node (declaration_kind k) f) p.prev_token_end (λ us. us) (still 0) → Verdict (f.wide ≡ true) p.errors r.errors (Stretch text (plain (is (end_kind e))) (first_part is_await e f) p.prev_token_end nothing r.prev_token_end (tree (label_here variable_declaration (of (declaration_kind k)) p r) bound_slots) bound_pass) (NoFirst text is_await e f p.prev_token_end)
     bound_verdict e l = behind_none m.kept (verdict_of x.verdict (λ y. made y) (λ n. l ▹✗ fails_node inside_full (behind_word ▹✗ n)))
       where
         made : Stretch text (plain full) (bound_alone f) q.prev_token_end nothing r.prev_token_end (tree x.label x.slots) x.pass → Stretch text (plain (is (end_kind e))) (first_part is_await e f) p.prev_token_end nothing r.prev_token_end (tree (label_here variable_declaration (of (declaration_kind k)) p r) bound_slots) bound_pass
@@ -361,10 +361,10 @@ module _ {text : List ℕ} {f : Flags} (is_await : Bool) {p q : Parser} (k : Dec
             let z = noding {X = plain (is (end_kind e))} {X' = plain full} {k = variable_declaration} {o = of (declaration_kind k)} {pass = bound_pass} r a inside_full (record { reach = max 0 y.reach; near = let i = y.near in omega arith; goes = behind_word ▹ y.goes }) in
             record { reach = max 0 z.reach; near = let i = z.near in omega arith; goes = l ▹ z.goes }
 
-    bound_in : Verdict p.errors r.errors (Stretch text (plain (is kind.In)) (first_part is_await ending.In f) p.prev_token_end nothing r.prev_token_end (tree (label_here variable_declaration (of (declaration_kind k)) p r) bound_slots) bound_pass) (NoFirst text is_await ending.In f p.prev_token_end)
+    bound_in : Verdict (f.wide ≡ true) p.errors r.errors (Stretch text (plain (is kind.In)) (first_part is_await ending.In f) p.prev_token_end nothing r.prev_token_end (tree (label_here variable_declaration (of (declaration_kind k)) p r) bound_slots) bound_pass) (NoFirst text is_await ending.In f p.prev_token_end)
     bound_in = bound_verdict ending.In (in_bound a is_await k b (no_value_node x.no_value))
 
-    bound_of : Verdict p.errors r.errors (Stretch text (plain (is kind.Of)) (first_part is_await ending.Of f) p.prev_token_end nothing r.prev_token_end (tree (label_here variable_declaration (of (declaration_kind k)) p r) bound_slots) bound_pass) (NoFirst text is_await ending.Of f p.prev_token_end)
+    bound_of : Verdict (f.wide ≡ true) p.errors r.errors (Stretch text (plain (is kind.Of)) (first_part is_await ending.Of f) p.prev_token_end nothing r.prev_token_end (tree (label_here variable_declaration (of (declaration_kind k)) p r) bound_slots) bound_pass) (NoFirst text is_await ending.Of f p.prev_token_end)
     bound_of = bound_verdict ending.Of (of_bound a is_await k b)
 
     no_list_there : NoFirst text is_await ending.Semicolon f p.prev_token_end
@@ -385,7 +385,7 @@ module _ {text : List ℕ} {f : Flags} (is_await : Bool) {p q : Parser} (k : Dec
       kept = λ ds g. grown_then m.kept (grown_behind x.verdict g);
     }
       where
-        reads : (e : Ending) → StandsHere r (end_kind e) true → Verdict p.errors r.errors (Stretch text (plain (is (end_kind e))) (first_part is_await e f) p.prev_token_end nothing r.prev_token_end (tree (label_here variable_declaration (of (declaration_kind k)) p r) bound_slots) (λ ls. next m.lexeme (x.pass ls))) (NoFirst text is_await e f p.prev_token_end)
+        reads : (e : Ending) → StandsHere r (end_kind e) true → Verdict (f.wide ≡ true) p.errors r.errors (Stretch text (plain (is (end_kind e))) (first_part is_await e f) p.prev_token_end nothing r.prev_token_end (tree (label_here variable_declaration (of (declaration_kind k)) p r) bound_slots) (λ ls. next m.lexeme (x.pass ls))) (NoFirst text is_await e f p.prev_token_end)
         reads ending.Semicolon s = absurd (none_ends x.here s)
         reads ending.In s = bound_in
         reads ending.Of s = bound_of
@@ -430,7 +430,7 @@ module _ {text : List ℕ} {f : Flags} (is_await : Bool) {p q : Parser} (k : Dec
       kept = λ ds g. list_grown g;
     }
       where
-        reads : (e : Ending) → StandsHere v (end_kind e) true → Verdict p.errors v.errors (Stretch text (plain (is (end_kind e))) (first_part is_await e f) p.prev_token_end nothing v.prev_token_end (tree (label_here variable_declaration (of (declaration_kind k)) p v) y.slots) init_path.pass) (NoFirst text is_await e f p.prev_token_end)
+        reads : (e : Ending) → StandsHere v (end_kind e) true → Verdict (f.wide ≡ true) p.errors v.errors (Stretch text (plain (is (end_kind e))) (first_part is_await e f) p.prev_token_end nothing v.prev_token_end (tree (label_here variable_declaration (of (declaration_kind k)) p v) y.slots) init_path.pass) (NoFirst text is_await e f p.prev_token_end)
         reads ending.Semicolon s = init_path.verdict
         reads ending.In s = absurd (u.0 s.0 s.1)
         reads ending.Of s = absurd (u.1 s.0 s.1)
@@ -504,7 +504,7 @@ module _ {text : List ℕ} {f : Flags} (is_await : Bool) {p q : Parser} (k : Dec
       kept = λ ds g. list_grown x y g;
     })
       where
-        reads : (e : Ending) → StandsHere r (end_kind e) true → Verdict p.errors r.errors (Stretch text (plain (is (end_kind e))) (first_part is_await e f) p.prev_token_end nothing r.prev_token_end (tree (label_here variable_declaration (of kind.Var) p r) (tree value.label value.slots end)) value_path.pass) (NoFirst text is_await e f p.prev_token_end)
+        reads : (e : Ending) → StandsHere r (end_kind e) true → Verdict (f.wide ≡ true) p.errors r.errors (Stretch text (plain (is (end_kind e))) (first_part is_await e f) p.prev_token_end nothing r.prev_token_end (tree (label_here variable_declaration (of kind.Var) p r) (tree value.label value.slots end)) value_path.pass) (NoFirst text is_await e f p.prev_token_end)
         reads ending.Semicolon s = absurd (no_semicolon_there x y true h s.0 s.1)
         reads ending.In s = value_path.verdict
         reads ending.Of s = absurd (let z : kind.In ≡ kind.Of = sym h.0 ∙ s.0 in cc)

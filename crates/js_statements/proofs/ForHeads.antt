@@ -264,7 +264,7 @@ none_first {text} {f} {p} a w j h e = record {
     plain_here (inl i) = plain_sign kind.Semicolon a (e ∙ i) refl refl refl
     plain_here (inr i) = plain_sign kind.RParen a (e ∙ i) refl refl refl
 
-    reads : (d : Ending) → StandsHere p (end_kind d) true → Verdict p.errors p.errors (Stretch text (plain (is (end_kind d))) (first_part w d f) p.prev_token_end nothing p.prev_token_end hole (λ ls. ls)) (NoFirstPart text w d f p.prev_token_end)
+    reads : (d : Ending) → StandsHere p (end_kind d) true → Verdict (f.wide ≡ true) p.errors p.errors (Stretch text (plain (is (end_kind d))) (first_part w d f) p.prev_token_end nothing p.prev_token_end hole (λ ls. ls)) (NoFirstPart text w d f p.prev_token_end)
     reads ending.Semicolon s = clean refl (record { reach = max 0 0; near = omega arith; goes = right (none_at_end a (init_begins f) j h e) ▹ reads_empty_slot })
     reads ending.In s = absurd (apart_from kind.In h (λ k. cc) (λ k. cc) s.0)
     reads ending.Of s = absurd (apart_from kind.Of h (λ k. cc) (λ k. cc) s.0)

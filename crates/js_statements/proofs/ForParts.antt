@@ -97,7 +97,7 @@ ending_angle ending.In = refl
 ending_angle ending.Of = refl
 
 -- of what ends where another lexeme stands
-pub verdict_not : {text : List ℕ} {f : Flags} {g : G} {s : ℕ} {q : Parser} {es ds : List Diagnostic} {h : Slots → Slots} {pass : Lexemes → Lexemes} (e : Ending) → Verdict es ds (Stretch text (plain (is (end_kind e))) g s nothing q.prev_token_end h pass) (Fails rule (Lex text) (plain (is (end_kind e))) end g s) → At text f q → StandsHere q (end_kind e) false → Fails rule (Lex text) (plain (is (end_kind e))) end g s
+pub verdict_not : {text : List ℕ} {f : Flags} {g : G} {s : ℕ} {q : Parser} {es ds : List Diagnostic} {h : Slots → Slots} {pass : Lexemes → Lexemes} (e : Ending) → Verdict (f.wide ≡ true) es ds (Stretch text (plain (is (end_kind e))) g s nothing q.prev_token_end h pass) (Fails rule (Lex text) (plain (is (end_kind e))) end g s) → At text f q → StandsHere q (end_kind e) false → Fails rule (Lex text) (plain (is (end_kind e))) end g s
 verdict_not e v a n = either_way v (λ z. stretch_not (end_kind e) z (stands_not a (ending_angle e) n)) (λ z. z)
 
 pub path_not : {text : List ℕ} {f f' : Flags} {g : G} {p q : Parser} {h : Slots → Slots} (e : Ending) → Path text f (plain (is (end_kind e))) g p nothing q h → At text f' q → StandsHere q (end_kind e) false → Fails rule (Lex text) (plain (is (end_kind e))) end g p.prev_token_end
@@ -272,7 +272,7 @@ module _ {text : List ℕ} {f : Flags} (is_await : Bool) {p : Parser} (a : At te
       keeps = x.keeps;
     }
       where
-        reads : (e : Ending) → StandsHere q (end_kind e) true → Verdict p.errors q.errors (Stretch text (plain (is (end_kind e))) (first_part is_await e f) p.prev_token_end nothing q.prev_token_end (tree x.answer.label x.answer.slots) (init_path x.answer).pass) (NoFirstPart text is_await e f p.prev_token_end)
+        reads : (e : Ending) → StandsHere q (end_kind e) true → Verdict (f.wide ≡ true) p.errors q.errors (Stretch text (plain (is (end_kind e))) (first_part is_await e f) p.prev_token_end nothing q.prev_token_end (tree x.answer.label x.answer.slots) (init_path x.answer).pass) (NoFirstPart text is_await e f p.prev_token_end)
         reads ending.Semicolon s = verdict_of (init_path x.answer).verdict (λ y. y) (λ n. no_first_part f is_await ending.Semicolon n)
         reads ending.In s = absurd (t.0 s.0 s.1)
         reads ending.Of s = absurd (t.1 s.0 s.1)
@@ -312,7 +312,7 @@ module _ {text : List ℕ} {f : Flags} (is_await : Bool) {p : Parser} (a : At te
 
     -- one before `in` or `of`, as the target that it is; it doesn't begin with `let` before `of`
     module _ {q r : Parser} {id target : NodeId} (x : Numbered text f (at Expression f) p q id) (t : HeadTargetTaken text f p q r target) where
-      target_verdict : (e : Ending) → (e ≡ ending.Semicolon → ⊥) → Verdict p.errors r.errors (Stretch text (plain (is (end_kind e))) (symbol Target f) p.prev_token_end nothing r.prev_token_end (tree t.label t.slots) t.path.pass) (Fails rule (Lex text) (plain (is (end_kind e))) end (symbol Target f) p.prev_token_end)
+      target_verdict : (e : Ending) → (e ≡ ending.Semicolon → ⊥) → Verdict (f.wide ≡ true) p.errors r.errors (Stretch text (plain (is (end_kind e))) (symbol Target f) p.prev_token_end nothing r.prev_token_end (tree t.label t.slots) t.path.pass) (Fails rule (Lex text) (plain (is (end_kind e))) end (symbol Target f) p.prev_token_end)
       target_verdict e m = verdict_of t.path.verdict (λ y. record { reach = y.reach; near = y.near; goes = weaken_on y.goes (on_through e m) }) (λ y. weaken_fails_on y (on_through e m))
         where
           on_through : (e : Ending) → (e ≡ ending.Semicolon → ⊥) → On rule (plain (is (end_kind e))) (plain goes_through) end (symbol Target f) p.prev_token_end
@@ -320,10 +320,10 @@ module _ {text : List ℕ} {f : Flags} (is_await : Bool) {p : Parser} (a : At te
           on_through ending.In m = record { admits = λ ts vs k ls rest d e. (look_in (here rest) e.0, refl) }
           on_through ending.Of m = record { admits = λ ts vs k ls rest d e. (look_of (here rest) e.0, refl) }
 
-      in_verdict : Verdict p.errors r.errors (Stretch text (plain (is kind.In)) (first_part is_await ending.In f) p.prev_token_end nothing r.prev_token_end (tree t.label t.slots) t.path.pass) (NoFirst text is_await ending.In f p.prev_token_end)
+      in_verdict : Verdict (f.wide ≡ true) p.errors r.errors (Stretch text (plain (is kind.In)) (first_part is_await ending.In f) p.prev_token_end nothing r.prev_token_end (tree t.label t.slots) t.path.pass) (NoFirst text is_await ending.In f p.prev_token_end)
       in_verdict = let l = in_leads {X = plain (is kind.In)} in verdict_of (target_verdict ending.In (λ k. cc)) (λ z. record { reach = max l.reach z.reach; near = let i = l.near in let j = z.near in let o = t.path.further in let u = a.behind in omega arith; goes = l.goes ▹ z.goes }) (λ z. l.goes ▹✗ z)
 
-      of_verdict : StandsHere p kind.Let false → (is_await ≡ false → NoAsyncOf text p.prev_token_end) → Verdict p.errors r.errors (Stretch text (plain (is kind.Of)) (first_part is_await ending.Of f) p.prev_token_end nothing r.prev_token_end (tree t.label t.slots) t.path.pass) (NoFirst text is_await ending.Of f p.prev_token_end)
+      of_verdict : StandsHere p kind.Let false → (is_await ≡ false → NoAsyncOf text p.prev_token_end) → Verdict (f.wide ≡ true) p.errors r.errors (Stretch text (plain (is kind.Of)) (first_part is_await ending.Of f) p.prev_token_end nothing r.prev_token_end (tree t.label t.slots) t.path.pass) (NoFirst text is_await ending.Of f p.prev_token_end)
       of_verdict s m = let l = of_leads {X = plain (is kind.Of)} s m in verdict_of (target_verdict ending.Of (λ k. cc)) (λ z. record { reach = max l.reach z.reach; near = let i = l.near in let j = z.near in let o = t.path.further in let u = a.behind in omega arith; goes = l.goes ▹ z.goes }) (λ z. l.goes ▹✗ z)
 
       -- where it is `async` with `of` behind it, it is `async` alone
@@ -374,11 +374,11 @@ module _ {text : List ℕ} {f : Flags} (is_await : Bool) {p : Parser} (a : At te
         keeps = t.keeps;
       }
         where
-          of_read : (b : Bool) × StandsHere p kind.Let b → StandsHere r kind.Of true → Verdict p.errors r.errors (Stretch text (plain (is kind.Of)) (first_part is_await ending.Of f) p.prev_token_end nothing r.prev_token_end (tree t.label t.slots) t.path.pass) (NoFirst text is_await ending.Of f p.prev_token_end)
+          of_read : (b : Bool) × StandsHere p kind.Let b → StandsHere r kind.Of true → Verdict (f.wide ≡ true) p.errors r.errors (Stretch text (plain (is kind.Of)) (first_part is_await ending.Of f) p.prev_token_end nothing r.prev_token_end (tree t.label t.slots) t.path.pass) (NoFirst text is_await ending.Of f p.prev_token_end)
           of_read (true, l) s = absurd (n l s)
           of_read (false, l) s = of_verdict l (λ e y z i q j o. m e (async_alone y z i q j o) s)
 
-          reads : (e : Ending) → StandsHere r (end_kind e) true → Verdict p.errors r.errors (Stretch text (plain (is (end_kind e))) (first_part is_await e f) p.prev_token_end nothing r.prev_token_end (tree t.label t.slots) t.path.pass) (NoFirst text is_await e f p.prev_token_end)
+          reads : (e : Ending) → StandsHere r (end_kind e) true → Verdict (f.wide ≡ true) p.errors r.errors (Stretch text (plain (is (end_kind e))) (first_part is_await e f) p.prev_token_end nothing r.prev_token_end (tree t.label t.slots) t.path.pass) (NoFirst text is_await e f p.prev_token_end)
           reads ending.Semicolon s = absurd (no_semicolon h s)
           reads ending.In s = in_verdict
           reads ending.Of s = of_read (stands_word p kind.Let) s
@@ -414,7 +414,7 @@ module _ {text : List ℕ} {f : Flags} (is_await : Bool) {p : Parser} (a : At te
           here_in : {k : Kind} → w.token ≡ r.token → StandsHere w k true → StandsHere r k true
           here_in e s = (sym (ap (λ (z : Token). z.kind) e) ∙ s.0, sym (ap (λ (z : Token). z.escaped) e) ∙ s.1)
 
-          reads : (e : Ending) → StandsHere r (end_kind e) true → Verdict p.errors w.errors (Stretch text (plain (is (end_kind e))) (first_part is_await e f) p.prev_token_end nothing w.prev_token_end (tree t.label t.slots) t.path.pass) (NoFirst text is_await e f p.prev_token_end)
+          reads : (e : Ending) → StandsHere r (end_kind e) true → Verdict (f.wide ≡ true) p.errors w.errors (Stretch text (plain (is (end_kind e))) (first_part is_await e f) p.prev_token_end nothing w.prev_token_end (tree t.label t.slots) t.path.pass) (NoFirst text is_await e f p.prev_token_end)
           reads ending.Semicolon s = absurd (no_semicolon (inr o) s)
           reads ending.In s = absurd (let k : kind.Of ≡ kind.In = sym o.0 ∙ s.0 in cc)
           reads ending.Of s = unclean (grown_behind t.path.verdict (kept_one u)) l

@@ -30,7 +30,7 @@ use Rattle.std.specs.Prelude.{Err}
 use Rattle.js_cursor.specs.Moves.{OnlyMemory}
 use Rattle.js_cursor.specs.declared.stop.Stop.{Stop}
 use Rattle.js_cursor.specs.declared.stop.Stop.TheVariants.{Fatal, NoMemory}
-use Rattle.js_parsing.specs.Answers.{Grown, Verdict, clean, unclean, Stretch, Underived, Answer, Numbered, Stops}
+use Rattle.js_parsing.specs.Answers.{Grown, Stretch, Underived, Answer, Numbered, Stops}
 use Rattle.js_parsing.specs.Lexemes.{Lex, Walked, may_name, name_kinds, Spot, spot, nowhere, one_more, more_faults, read_again}
 use Rattle.js_parsing.specs.Nesting.{room}
 use Rattle.js_parsing.specs.Moves.{Moved, MadeHere, plain_label}
@@ -49,7 +49,7 @@ use Rattle.js_statements.specs.LetStatements.{behind_let, LetIsName}
 use Rattle.js_statements.proofs.WordLookaheads.{AsyncIsName, let_word, not_followed, ◌⇒✗◌}
 use Rattle.js_statements.proofs.Strings.{name_look, name_node, name_expression}
 use Rattle.js_parsing.proofs.Escapes.{read_as, read_plain}
-use Rattle.js_parsing.proofs.Verdicts.{verdict_of, grown_then}
+use Rattle.js_parsing.proofs.Verdicts.{either_way, verdict_of, grown_then}
 use Rattle.js_parsing.proofs.Verdicts.{after as grown_behind}
 use Rattle.js_operands.proofs.Operands.{name_signless}
 
@@ -186,20 +186,16 @@ module _ {text : List ℕ} {f : Flags} {p q : Parser} (a : At text f p) (x : Ans
       let w = u.goes.only (tree cs end end) end y.to (next y (last z)) (last z) (name.1, l) (name_expression looks_so) (admits (at Expression f) (tree cs end end) z (covered (is Colon) (looser 1 f.in_ after_expression) (colon_ends f.in_) z.kind z.newline z.escaped (and_from _ _ (rw (colon.2) refl) (ap not (read_plain z colon.1.1 colon.2 refl))))) in
       ap x.pass (sym (ends w.4).2) ∙ sym w.5
 
-  clean_name : (q.errors ≡ p.errors) × ((ls : Lexemes) → x.pass ls ≡ next name.0 ls)
-  clean_name = go x.verdict
-    where
-      go : Verdict p.errors q.errors (Stretch text (after (at Expression f)) (such (at Expression f) always) p.prev_token_end nothing q.prev_token_end (tree x.label x.slots) x.pass) (Underived text (at Expression f) p.prev_token_end) → (q.errors ≡ p.errors) × ((ls : Lexemes) → x.pass ls ≡ next name.0 ls)
-      go (clean e c) = (e, one_lexeme x.walked name.0 colon.0 (only_name c))
-      go (unclean g m) = absurd (derived m)
+  name_passed : (ls : Lexemes) → x.pass ls ≡ next name.0 ls
+  name_passed = either_way x.verdict (λ c. one_lexeme x.walked name.0 colon.0 (only_name c)) (λ m. absurd (derived m))
 
   name_path : Path text f (plain full) (lexeme (name_look f)) p nothing q (λ us. us)
   name_path = record {
     at = x.at;
     further = x.further;
     pass = λ ls. next name.0 ls;
-    walked = subst (λ (h : Lexemes → Lexemes). Walked text (spot p) (spot q) h) (λ i ls. clean_name.1 ls i) x.walked;
-    verdict = clean clean_name.0 (record { reach = 0; near = omega arith; goes = subst (λ (e : ℕ). Reads rule (Lex text) (plain full) end (lexeme (name_look f)) p.prev_token_end e (λ us. us) (passing name.0)) name.3 (reads_lexeme (name_look f) name.1 looks_so (λ z l h. one_read a (name_signless p.token.kind is_listed) l name.1)) });
+    walked = subst (λ (h : Lexemes → Lexemes). Walked text (spot p) (spot q) h) (λ i ls. name_passed ls i) x.walked;
+    verdict = verdict_of x.verdict (λ c. record { reach = 0; near = omega arith; goes = subst (λ (e : ℕ). Reads rule (Lex text) (plain full) end (lexeme (name_look f)) p.prev_token_end e (λ us. us) (passing name.0)) name.3 (reads_lexeme (name_look f) name.1 looks_so (λ z l h. one_read a (name_signless p.token.kind is_listed) l name.1)) }) (λ m. absurd (derived m));
   }
 
   pub label_path : Path text f (plain full) (symbol LabelIdentifier f) p nothing q (tree (label_here label_identifier no_op p q) end)

@@ -62,19 +62,11 @@ cancelled (x ∷ a) m e = cancelled a m cc
 not_grown : {K : Type 0} {p q : List K} → q ≡ p → Grown p q → ⊥
 not_grown {p = p} e g = g.some (cancelled p g.more (sym e ∙ g.kept))
 
--- what is said of a call that kept nothing, and of one that kept something
-cleanly : {K : Type 0} {p q : List K} {C B : Type 0} → q ≡ p → Verdict p q C B → C
-cleanly e (clean h c) = c
-cleanly e (unclean g n) = absurd (not_grown e g)
-
-pub uncleanly : {K : Type 0} {p q : List K} {C B : Type 0} → Grown p q → Verdict p q C B → B
-uncleanly g (clean h c) = absurd (not_grown h g)
-uncleanly g (unclean h n) = n
-
--- two calls that kept the same
-both_ways : {K : Type 0} {p q : List K} {C B D E X Y : Type 0} → Verdict p q C B → Verdict p q D E → (C → D → X) → (B → E → Y) → Verdict p q X Y
-both_ways (clean e c) v f g = clean e (f c (cleanly e v))
-both_ways (unclean h n) v f g = unclean h (g n (uncleanly h v))
+-- what is said of a call that kept something
+pub uncleanly : {W K : Type 0} {p q : List K} {C B : Type 0} → Grown p q → (C → B) → Verdict W p q C B → B
+uncleanly g k (clean h c) = absurd (not_grown h g)
+uncleanly g k (unclean h n) = n
+uncleanly g k (wider w h c) = k c
 
 -- ---- the grammar of a list
 
@@ -182,13 +174,20 @@ module _ {text : List ℕ} {f : Flags} {p : Parser} (a : At text f p) (sl : Stat
       → Stretch text (plain (at_end sl)) (with_directives sl f) p.prev_token_end (statements sl f) s (tree l cs) pass
   statement_first t d y = record { reach = max 0 (max 0 (max 0 y.reach)); near = let k = y.near in omega arith; goes = split sl f ▹ right (part_fails d (before_list sl)) ▹ left (not_end sl a n) ▹ then_by (tested y.goes t) (before_statements sl) }
 
+  -- no statement is derived that is none of a string alone
+  abbrev NoTested : Type 0
+  NoTested = Fails rule (Lex text) (after_statement (at (item_of sl) f)) end (such (at (item_of sl) f) not_string) p.prev_token_end
+
+  none_tested : Fails rule (Lex text) (plain no_link) end (directives f) p.prev_token_end → NoTested → NoList text sl (with_directives sl f) p.prev_token_end
+  none_tested d x = split sl f ▹✗ fails_alt (part_fails d (before_list sl)) (fails_alt (part_fails x (before_statements sl)) (not_end sl a n))
+
   none_first : Fails rule (Lex text) (plain no_link) end (directives f) p.prev_token_end → NoStatement text (at (item_of sl) f) p.prev_token_end → NoList text sl (with_directives sl f) p.prev_token_end
-  none_first d x = split sl f ▹✗ fails_alt (part_fails d (before_list sl)) (fails_alt (part_fails (fails_tested x) (before_statements sl)) (not_end sl a n))
+  none_first d x = none_tested d (fails_tested x)
 
   -- a directive
-  directive_first : {s : ℕ} {l m : Label} {cs ds : Slots} {pass pass' : Lexemes → Lexemes} {s' : ℕ} → not_string (record { label = m; slots = ds }) ≡ false → Stretch text (after_statement (at (item_of sl) f)) (symbol (item_of sl) f) p.prev_token_end nothing s' (tree m ds) pass' → Stretch text (plain no_link) (directives f) p.prev_token_end nothing s (tree l cs) pass
+  directive_first : {s : ℕ} {l : Label} {cs : Slots} {pass : Lexemes → Lexemes} → NoTested → Stretch text (plain no_link) (directives f) p.prev_token_end nothing s (tree l cs) pass
       → Stretch text (plain (at_end sl)) (with_directives sl f) p.prev_token_end (with_directives sl f) s (tree l cs) pass
-  directive_first t i y = record { reach = max 0 (max 0 y.reach); near = let k = y.near in omega arith; goes = split sl f ▹ left (fails_alt (part_fails (fails_test i.goes t) (before_statements sl)) (not_end sl a n)) ▹ then_by y.goes (before_list sl) }
+  directive_first x y = record { reach = max 0 (max 0 y.reach); near = let k = y.near in omega arith; goes = split sl f ▹ left (fails_alt (part_fails x (before_statements sl)) (not_end sl a n)) ▹ then_by y.goes (before_list sl) }
 
 -- ---- statements that begin with a string
 
@@ -291,13 +290,17 @@ module _ {text : List ℕ} {f : Flags} {p : Parser} (a : At text f p) (s : p.tok
       item_path : Path text f (after_statement (at ListItem f)) (symbol ListItem f) p nothing r (tree (label_here expression_statement no_op p r) (tree x.label x.slots end))
       item_path = by_symbol_as {X' = after_statement (at ListItem f)} (λ l cs vs y d. d) (statement_path a no_own_kind no_label no_async true no_let i x e)
 
+      -- and no statement stands here that is none of a string alone
+      no_other : (sl : StatementList) → is_literal x.label.kind ≡ true → Fails rule (Lex text) (after_statement (at (item_of sl) f)) end (such (at (item_of sl) f) not_string) p.prev_token_end
+      no_other sl t = either_way item_path.verdict (λ z. fails_test (item_stretch sl z).goes (string_statement x.label (label_here expression_statement no_op p r) x.slots x.label.kind refl t)) (λ n. fails_tested (no_item sl n))
+
       as_directive : (sl : StatementList) → is_literal x.label.kind ≡ true → Path text f (plain (at_end sl)) (with_directives sl f) p (with_directives sl f) r (tree (label_here directive no_op p r) (tree x.label x.slots end))
       as_directive sl t = let d = directive_path t in record {
         at = d.at;
         further = d.further;
         pass = d.pass;
         walked = d.walked;
-        verdict = both_ways d.verdict item_path.verdict (λ y z. directive_first a sl (not_eof sl) (string_statement x.label (label_here expression_statement no_op p r) x.slots x.label.kind refl t) (item_stretch sl z) y) (λ m n. none_first a sl (not_eof sl) m (no_item sl n));
+        verdict = verdict_of d.verdict (λ y. directive_first a sl (not_eof sl) (no_other sl t) y) (λ m. none_tested a sl (not_eof sl) m (no_other sl t));
       }
 
       as_statement : (sl : StatementList) → is_literal x.label.kind ≡ false → Path text f (plain (at_end sl)) (with_directives sl f) p (statements sl f) r (tree (label_here expression_statement no_op p r) (tree x.label x.slots end))
@@ -448,10 +451,6 @@ text_ends k h = once (same_kind Eof k) (same_kind Undetermined k) h
     once : (b c : Bool) → (b || (b || c)) ≡ true → (b || c) ≡ true
     once true c g = refl
     once false c g = g
-
--- whatever the text and the parameters are called
-pub at_any : (P : List ℕ → Flags → Type 0) {p : Parser} → P p.text (flags_of p) → (text : List ℕ) (f : Flags) → At text f p → P text f
-at_any P {p} h text f a = subst (λ (t : List ℕ). P t f) a.text_is (subst (λ (g : Flags). P p.text g) a.flags_are h)
 
 -- less of the text is left
 pub smaller_room : {text : List ℕ} {f : Flags} {sl : StatementList} {g g' : G} {p q : Parser} {id : NodeId} → At text f p → OneTaken text f sl g g' p q id → room q < room p

@@ -530,7 +530,7 @@ module _ {text : List ℕ} {f : Flags} {p : Parser} where
     appends = y.appends;
     pass = y.pass;
     walked = y.walked;
-    verdict = unclean s.told (uncleanly s.told y.verdict);
+    verdict = unclean s.told (uncleanly s.told (λ z. record { no = λ ts vs k ls rest l d a. elim (z.goes.only ts vs k ls rest l d a).4 [ ] }) y.verdict);
     holds = y.holds;
     keeps = y.keeps;
   }

@@ -1,5 +1,5 @@
 -- Lists of statements in braces (ECMA-262, 14.2, 15.2).
-use Rattle.std.specs.Prelude.{ℕ, ◌<◌, List, length, Option}
+use Rattle.std.specs.Prelude.{ℕ, ◌<◌, List, length, Option, ◌≡◌, true}
 use Rattle.js_grammar.specs.Trees.{Slots, end as no_slots}
 use Rattle.js_grammar.specs.Grammar.{Lexemes, nothing}
 use Rattle.js_grammar.specs.Parsing.{Fails, full, plain}
@@ -31,7 +31,7 @@ pub record BracesTaken (text : List ℕ) (f : Flags) (l : StatementList) (old ne
   pub slots : Slots → Slots
   pub pass : Lexemes → Lexemes
   pub walked : Walked text (spot old) (spot new) pass
-  pub verdict : Verdict old.errors new.errors (Stretch text (plain full) (in_braces l f) old.prev_token_end nothing new.prev_token_end slots pass) (NoBraces text l f old.prev_token_end)
+  pub verdict : Verdict (f.wide ≡ true) old.errors new.errors (Stretch text (plain full) (in_braces l f) old.prev_token_end nothing new.prev_token_end slots pass) (NoBraces text l f old.prev_token_end)
   pub holds : HoldsAll new.nodes (length old.nodes) (length new.nodes) ids (slots no_slots)
   pub keeps : Keeps old.nodes new.nodes
 

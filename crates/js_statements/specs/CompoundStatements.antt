@@ -37,7 +37,7 @@ pub record ParensTaken (text : List ℕ) (f : Flags) (old new : Parser) (id : No
   pub slots : Slots
   pub pass : Lexemes → Lexemes
   pub walked : Walked text (spot old) (spot new) pass
-  pub verdict : Verdict old.errors new.errors (Stretch text (plain full) (in_parens f) old.prev_token_end nothing new.prev_token_end (tree label slots) pass) (NoParens text f old.prev_token_end)
+  pub verdict : Verdict (f.wide ≡ true) old.errors new.errors (Stretch text (plain full) (in_parens f) old.prev_token_end nothing new.prev_token_end (tree label slots) pass) (NoParens text f old.prev_token_end)
   pub holds : Holds new.nodes (length old.nodes) (length new.nodes) id.0 label slots
   pub keeps : Keeps old.nodes new.nodes
 

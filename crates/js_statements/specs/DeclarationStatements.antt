@@ -1,5 +1,5 @@
 -- Declarations that begin with `var`, `let` or `const` (ECMA-262, 14.3.1, 14.3.2).
-use Rattle.std.specs.Prelude.{ℕ, ◌<◌, ◌≡◌, List, length, Result, Ok, Err}
+use Rattle.std.specs.Prelude.{ℕ, ◌<◌, ◌≡◌, List, length, Result, Ok, Err, true}
 use Rattle.js_grammar.specs.Trees.{Label, Slots, end as no_slots, tree, variable_declaration}
 use Rattle.js_grammar.specs.Grammar.{Lexemes, nothing, ended}
 use Rattle.js_grammar.specs.Insertion.{by_edge}
@@ -34,7 +34,7 @@ pub record Declaration (text : List ℕ) (f : Flags) (k : DeclarationKind) (old 
   pub slots : Slots
   pub pass : Lexemes → Lexemes
   pub walked : Walked text (spot old) (spot new) pass
-  pub verdict : Verdict old.errors new.errors (Stretch text (plain no_link) (declaration k f) old.prev_token_end nothing new.prev_token_end (tree label slots) pass) (NoDeclaration text k f old.prev_token_end)
+  pub verdict : Verdict (f.wide ≡ true) old.errors new.errors (Stretch text (plain no_link) (declaration k f) old.prev_token_end nothing new.prev_token_end (tree label slots) pass) (NoDeclaration text k f old.prev_token_end)
   pub holds : Holds new.nodes (length old.nodes) (length new.nodes) id.0 label slots
   pub keeps : Keeps old.nodes new.nodes
 

@@ -91,7 +91,7 @@ pub record FirstTaken (text : List ℕ) (f : Flags) (w : Bool) (p q : Parser) (f
   pub strips : (us : Slots) → behind_slot (slots us) ≡ us
   pub pass : Lexemes → Lexemes
   pub walked : Walked text (spot p) (spot q) pass
-  pub read : (e : Ending) → StandsHere q (end_kind e) true → Verdict p.errors q.errors (Stretch text (plain (is (end_kind e))) (first_part w e f) p.prev_token_end nothing q.prev_token_end slots pass) (NoFirstPart text w e f p.prev_token_end)
+  pub read : (e : Ending) → StandsHere q (end_kind e) true → Verdict (f.wide ≡ true) p.errors q.errors (Stretch text (plain (is (end_kind e))) (first_part w e f) p.prev_token_end nothing q.prev_token_end slots pass) (NoFirstPart text w e f p.prev_token_end)
   pub none : (e : Ending) → StandsHere q (end_kind e) false → NoFirstPart text w e f p.prev_token_end
   pub kept : (ds : List Diagnostic) → Grown q.errors ds → Grown p.errors ds
   pub held : HoldsAll q.nodes (length p.nodes) (length q.nodes) (first ∷ []) (slots no_slots)
@@ -124,7 +124,7 @@ pub record PartTaken (text : List ℕ) (f : Flags) (k : Kind) (p q : Parser) (pa
   pub strips : (us : Slots) → behind_slot (slots us) ≡ us
   pub pass : Lexemes → Lexemes
   pub walked : Walked text (spot p) (spot q) pass
-  pub verdict : Verdict p.errors q.errors (Stretch text (plain (is k)) (slot (sym Expression f)) p.prev_token_end nothing q.prev_token_end slots pass) (NoPart text k f p.prev_token_end)
+  pub verdict : Verdict (f.wide ≡ true) p.errors q.errors (Stretch text (plain (is k)) (slot (sym Expression f)) p.prev_token_end nothing q.prev_token_end slots pass) (NoPart text k f p.prev_token_end)
   pub held : HoldsAll q.nodes (length p.nodes) (length q.nodes) (part ∷ []) (slots no_slots)
   pub keeps : Keeps p.nodes q.nodes
 

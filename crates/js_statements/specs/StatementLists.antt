@@ -81,7 +81,7 @@ pub record OneTaken (text : List ℕ) (f : Flags) (l : StatementList) (g g' : G)
   pub slots : Slots
   pub pass : Lexemes → Lexemes
   pub walked : Walked text (spot old) (spot new) pass
-  pub verdict : Verdict old.errors new.errors (Stretch text (plain (at_end l)) g old.prev_token_end g' new.prev_token_end (tree label slots) pass) (NoList text l g old.prev_token_end)
+  pub verdict : Verdict (f.wide ≡ true) old.errors new.errors (Stretch text (plain (at_end l)) g old.prev_token_end g' new.prev_token_end (tree label slots) pass) (NoList text l g old.prev_token_end)
   pub holds : Holds new.nodes (length old.nodes) (length new.nodes) id.0 label slots
   pub keeps : Keeps old.nodes new.nodes
 
@@ -94,7 +94,7 @@ pub record Taken (text : List ℕ) (f : Flags) (l : StatementList) (g g' : G) (o
   pub appends : (us : Slots) → slots us ≡ append (slots no_slots) us
   pub pass : Lexemes → Lexemes
   pub walked : Walked text (spot old) (spot new) pass
-  pub verdict : Verdict old.errors new.errors (Stretch text (plain (at_end l)) g old.prev_token_end g' new.prev_token_end slots pass) (NoList text l g old.prev_token_end)
+  pub verdict : Verdict (f.wide ≡ true) old.errors new.errors (Stretch text (plain (at_end l)) g old.prev_token_end g' new.prev_token_end slots pass) (NoList text l g old.prev_token_end)
   pub holds : HoldsAll new.nodes (length old.nodes) (length new.nodes) ids (slots no_slots)
   pub keeps : Keeps old.nodes new.nodes
 

@@ -71,7 +71,7 @@ pub record TestTaken (text : List ℕ) (f : Flags) (b : Bool) (old new : Parser)
   pub appends : (us : Slots) → slots us ≡ append (slots no_slots) us
   pub pass : Lexemes → Lexemes
   pub walked : Walked text (spot old) (spot new) pass
-  pub verdict : Verdict old.errors new.errors (Stretch text (plain (at_end Clause)) (clause_slots b f) old.prev_token_end (tok Colon ▸ statements Clause f) new.prev_token_end slots pass) (NoList text Clause (clause_slots b f) old.prev_token_end)
+  pub verdict : Verdict (f.wide ≡ true) old.errors new.errors (Stretch text (plain (at_end Clause)) (clause_slots b f) old.prev_token_end (tok Colon ▸ statements Clause f) new.prev_token_end slots pass) (NoList text Clause (clause_slots b f) old.prev_token_end)
   pub holds : HoldsAll new.nodes (length old.nodes) (length new.nodes) (test ∷ []) (slots no_slots)
   pub keeps : Keeps old.nodes new.nodes
 
@@ -93,7 +93,7 @@ pub record OpenClause (text : List ℕ) (f : Flags) (b : Bool) (old new : Parser
   pub slots : Slots → Slots
   pub pass : Lexemes → Lexemes
   pub walked : Walked text (spot old) (spot new) pass
-  pub verdict : Verdict old.errors new.errors (Stretch text (plain (at_end Clause)) (clause_slots b f) old.prev_token_end (statements Clause f) new.prev_token_end slots pass) (NoList text Clause (clause_slots b f) old.prev_token_end)
+  pub verdict : Verdict (f.wide ≡ true) old.errors new.errors (Stretch text (plain (at_end Clause)) (clause_slots b f) old.prev_token_end (statements Clause f) new.prev_token_end slots pass) (NoList text Clause (clause_slots b f) old.prev_token_end)
   pub holds : Holds new.nodes (length old.nodes) (length new.nodes) id.0 (clause_label old.token.span.start new.prev_token_end) (slots no_slots)
   pub keeps : Keeps old.nodes new.nodes
 
@@ -183,7 +183,7 @@ pub record CaseBlockTaken (text : List ℕ) (f : Flags) (old new : Parser) (ids 
   pub slots : Slots → Slots
   pub pass : Lexemes → Lexemes
   pub walked : Walked text (spot old) (spot new) pass
-  pub verdict : Verdict old.errors new.errors (Stretch text (plain full) (case_block f) old.prev_token_end nothing new.prev_token_end slots pass) (NoCaseBlock text f old.prev_token_end)
+  pub verdict : Verdict (f.wide ≡ true) old.errors new.errors (Stretch text (plain full) (case_block f) old.prev_token_end nothing new.prev_token_end slots pass) (NoCaseBlock text f old.prev_token_end)
   pub holds : HoldsAll new.nodes (length old.nodes) (length new.nodes) ids (slots no_slots)
   pub keeps : Keeps old.nodes new.nodes
 

@@ -51,7 +51,7 @@ pub record WholePart (text : List ℕ) (f : Flags) (g : G) (old new : Parser) (i
   pub slots : Slots
   pub pass : Lexemes → Lexemes
   pub walked : Walked text (spot old) (spot new) pass
-  pub verdict : Verdict old.errors new.errors (Stretch text (plain full) g old.prev_token_end nothing new.prev_token_end (tree label slots) pass) (NoPart text g old.prev_token_end)
+  pub verdict : Verdict (f.wide ≡ true) old.errors new.errors (Stretch text (plain full) g old.prev_token_end nothing new.prev_token_end (tree label slots) pass) (NoPart text g old.prev_token_end)
   pub holds : Holds new.nodes (length old.nodes) (length new.nodes) id.0 label slots
   pub keeps : Keeps old.nodes new.nodes
 
@@ -70,7 +70,7 @@ pub record ClausesTaken (text : List ℕ) (f : Flags) (old new : Parser) (handle
   pub slots : Slots → Slots
   pub pass : Lexemes → Lexemes
   pub walked : Walked text (spot old) (spot new) pass
-  pub verdict : Verdict old.errors new.errors (Stretch text (plain no_clause) (clauses_of f) old.prev_token_end nothing new.prev_token_end slots pass) (Fails rule (Lex text) (plain no_clause) no_slots (clauses_of f) old.prev_token_end)
+  pub verdict : Verdict (f.wide ≡ true) old.errors new.errors (Stretch text (plain no_clause) (clauses_of f) old.prev_token_end nothing new.prev_token_end slots pass) (Fails rule (Lex text) (plain no_clause) no_slots (clauses_of f) old.prev_token_end)
   pub holds : HoldsAll new.nodes (length old.nodes) (length new.nodes) (handler ∷ finalizer ∷ []) (slots no_slots)
   pub keeps : Keeps old.nodes new.nodes
 

@@ -2,16 +2,16 @@
 use Rattle.std.proofs.Common.{ℕ, zero, suc, ◌+◌, ◌<◌, arith, ◌≡◌, Bool, true, false, not, ◌&&◌, ◌||◌, IsTrue, List, [], ◌∷◌, refl, sym, ◌∙◌}
 use Rattle.std.proofs.lemmas.Bool.{false≢true, and_parts}
 use Rattle.js_base.specs.declared.kind.Kind.{Kind}
-use Rattle.js_base.specs.declared.kind.Kind.TheVariants.{Await, Yield, Eq, Colon, Comma, Dot3, LBrack, RBrack, LCurly, RCurly, PlusEq, MinusEq, StarEq, SlashEq, PercentEq, ShiftLeftEq, ShiftRightEq, ShiftRight3Eq, PipeEq, CaretEq, AmpEq, Amp2Eq, Pipe2Eq, Question2Eq, Star2Eq}
+use Rattle.js_base.specs.declared.kind.Kind.TheVariants.{Await, Yield, Eq, Colon, Comma, Dot3, LBrack, RBrack, LCurly, RCurly}
 use Rattle.js_base.specs.Kinds.{same_kind}
-use Rattle.js_grammar.specs.Trees.{Label, Slots, end, tree, assignment_target_rest, assignment_target_with_default, elision, object_expression}
-use Rattle.js_grammar.specs.Grammar.{Lexeme, Lexemes, Look, next, seen, is, commas, is_commas, is_ahead, is_keep, seq, such, many, nothing, never, empty_slot, when, ◌▸◌, ◌◇◌, Takes, is_nothing, is_lexeme, is_empty_slot, is_seq, is_left, is_right, is_when, is_many, is_such, is_node, is_look, is_text, is_marked, is_ended, is_kept}
+use Rattle.js_grammar.specs.Trees.{Label, Slots, end, tree, of, no_op, assignment_target_rest, assignment_expression, assignment_target_with_default, elision, object_expression}
+use Rattle.js_grammar.specs.Grammar.{Lexeme, Lexemes, Look, next, here, seen, is, commas, is_commas, is_ahead, is_keep, seq, such, many, nothing, never, empty_slot, when, ◌▸◌, ◌◇◌, Takes, is_nothing, is_lexeme, is_empty_slot, is_seq, is_left, is_right, is_when, is_many, is_such, is_node, is_look, is_text, is_marked, is_ended, is_kept}
 use Rattle.js_grammar.specs.Parsing.{always}
-use Rattle.js_grammar.specs.Productions.{G, Flags, Symbol, at, tok, mk, opt, slot, branches, IdentifierReference, Init, Property, TargetProperty, plus_in, Argument, Assignment, LeftHandSide, Primary, SimpleTarget, Target, ArrayTarget, ObjectTarget, TargetElement}
+use Rattle.js_grammar.specs.Productions.{G, Flags, Symbol, at, tok, mk, op, opt, slot, branches, IdentifierReference, Init, Property, TargetProperty, plus_in, Argument, Assignment, LeftHandSide, Primary, SimpleTarget, Target, ArrayTarget, ObjectTarget, TargetElement}
 use Rattle.js_grammar.specs.Productions.{sym as symbol}
 use Rattle.js_grammar.specs.Table.{rule, rule_of, rest_of, name}
 use Rattle.js_base.specs.Texts.{words}
-use Rattle.js_grammar.specs.Insertion.{is_word, may_bind}
+use Rattle.js_grammar.specs.Insertion.{is_word, may_bind, other_operators}
 use Rattle.js_grammar.proofs.Frame.{framed}
 use Rattle.js_grammar.proofs.Looks.{covers, covered}
 use Rattle.js_targets.specs.Targets.{is_array}
@@ -23,10 +23,6 @@ pub record One (n : Symbol) (i : ℕ) (ls : Lexemes) (j : ℕ) (rest : Lexemes) 
   pub label : Label
   pub slots : Slots
   pub derived : Takes rule (rule n) end (tree label slots end) i ls end j rest
-
--- some slots, before whatever slots stand behind them
-abbrev Some' : G → ℕ → Lexemes → ℕ → Lexemes → Type 0
-Some' g i ls j rest = (vs : Slots) → (ws : Slots) × Takes rule g end ws i ls vs j rest
 
 -- an array literal
 pub record Arrayed (f : Flags) (i : ℕ) (ls : Lexemes) (j : ℕ) (rest : Lexemes) : Type 0 where
@@ -48,6 +44,9 @@ literal_step f = mk elision (tok Comma) ◇ symbol Argument f ▸ tok Comma
 abbrev pub literal_last : Flags → G
 literal_last f = symbol Argument f ◇ never ◇ nothing
 
+abbrev pub literal_items : Flags → G
+literal_items f = seq (many (literal_step f)) (literal_last f)
+
 such_of : {n : Symbol} {l : Label} {cs us : Slots} {i j : ℕ} {ls rest : Lexemes} → Takes rule (rule n) end (tree l cs end) i ls end j rest → Takes rule (such n always) end (tree l cs us) i ls us j rest
 such_of d = is_such d refl
 
@@ -58,7 +57,7 @@ raised f {l} {cs} d = record { label = l; slots = cs; derived = of_such ((of_ass
     of_such : {n : Symbol} {i j : ℕ} {ls rest : Lexemes} → Takes rule (such n always) end (tree l cs end) i ls end j rest → Takes rule (rule n) end (tree l cs end) i ls end j rest
     of_such (is_such d h) = d
 
-by_array : (f : Flags) {ts : Slots} {i j : ℕ} {x : Lexeme} {ls rest : Lexemes} → IsTrue (seen (is LBrack) x) → Takes rule (seq (seq (many (literal_step f)) (literal_last f)) (tok RBrack)) end ts x.to ls end j rest → Arrayed f i (next x ls) j rest
+by_array : (f : Flags) {ts : Slots} {i j : ℕ} {x : Lexeme} {ls rest : Lexemes} → IsTrue (seen (is LBrack) x) → Takes rule (seq (literal_items f) (tok RBrack)) end ts x.to ls end j rest → Arrayed f i (next x ls) j rest
 unfolding rule rule_of
 by_array f q d = record { label = _; slots = _; array = refl; derived = is_right (is_right (is_right (is_right (is_right (is_right (is_right (is_right (is_right (is_right (is_right (is_left (is_node (is_seq (is_lexeme q) d))))))))))))) }
 
@@ -88,8 +87,15 @@ pub record Objected (f : Flags) (i : ℕ) (ls : Lexemes) (j : ℕ) (rest : Lexem
 abbrev pub target_property : Flags → G
 target_property f = never ◇ symbol TargetProperty f ▸ tok Comma
 
+-- what is left of an object, a literal among it where targets are wide
+abbrev pub left_line : Flags → G
+left_line f = symbol SimpleTarget f ◇ when f.wide (symbol ArrayTarget f ◇ symbol ObjectTarget f)
+
+abbrev rest_property : Flags → G
+rest_property f = rest_of f (mk assignment_target_rest (tok Dot3 ▸ left_line f))
+
 abbrev pub last_property : Flags → G
-last_property f = symbol TargetProperty f ◇ rest_of f (mk assignment_target_rest (tok Dot3 ▸ (symbol SimpleTarget f ◇ when f.wide (symbol ArrayTarget f ◇ symbol ObjectTarget f)))) ◇ nothing
+last_property f = symbol TargetProperty f ◇ rest_property f ◇ nothing
 
 abbrev pub properties : Flags → G
 properties f = opt (commas true (symbol Property f))
@@ -146,39 +152,50 @@ spread_property : (f : Flags) {i j : ℕ} {x : Lexeme} {ls rest : Lexemes} → I
 unfolding rule rule_of
 spread_property f q e = record { label = _; slots = _; derived = is_right (is_right (is_node (is_seq (is_lexeme q) (is_such e.derived refl)))) }
 
-abbrev rest_property : Flags → G
-rest_property f = rest_of f (mk assignment_target_rest (tok Dot3 ▸ (symbol SimpleTarget f ◇ when f.wide (symbol ArrayTarget f ◇ symbol ObjectTarget f))))
+abbrev pub with_default : Flags → Kind → G
+with_default f o = mk assignment_target_with_default (symbol SimpleTarget f ▸ tok o ▸ symbol Assignment (plus_in f))
 
--- what is left
-rest_up : (f : Flags) → f.wide ≡ false → {ts : Slots} {i j : ℕ} {ls rest : Lexemes} → Takes rule (rest_property f) end ts i ls end j rest → (ws : Slots) × Takes rule (properties f) end ws i ls end j rest
-rest_up f w (is_seq (is_node (is_seq (is_lexeme q) (is_left (is_such {l = l} {cs = cs} d h)))) (is_right is_nothing)) = let x = target_left_hand_side (record { label = l; slots = cs }) d in last_of_them f (spread_property f q (raised f x.derived))
-rest_up f w (is_seq (is_node (is_seq (is_lexeme q) (is_right (is_when z d)))) k) = absurd (false≢true (sym w ∙ z))
-rest_up f w (is_seq r (is_left (is_when z k))) = absurd (false≢true (sym w ∙ z))
+abbrev pub assigning : Flags → Kind → G
+assigning f o = op assignment_expression o (symbol SimpleTarget f ▸ tok o ▸ symbol Assignment f)
 
-abbrev never_eq : List Kind → Bool
-never_eq [] = true
-never_eq (k ∷ ks) = not (same_kind Eq k) && never_eq ks
+abbrev pub default_label : Lexemes → ℕ → Label
+default_label ls j = record { kind = assignment_target_with_default; op = no_op; flags = 0; span = record { from = (here ls).from; to = j } }
 
-both_of : {a b : Bool} → (a && b) ≡ true → (a ≡ true) × (b ≡ true)
-both_of {a} {b} h = and_parts a b h
+abbrev pub assigned_label : Kind → Lexemes → ℕ → Label
+assigned_label o ls j = record { kind = assignment_expression; op = of o; flags = 0; span = record { from = (here ls).from; to = j } }
 
-abbrev with_default : Flags → Kind → G
-with_default f o = mk assignment_target_with_default (symbol Target f ▸ tok o ▸ symbol Assignment (plus_in f))
+-- a simple target with another operator than `=`, as an assignment
+pub record Assigning (f : Flags) (ks : List Kind) (ts us : Slots) (i : ℕ) (ls : Lexemes) (j : ℕ) (rest : Lexemes) : Type 0 where
+  pub operator : Kind
+  pub slots : Slots
+  pub is_tree : ts ≡ tree (default_label ls j) slots us
+  pub derived : Takes rule (branches ks (assigning (plus_in f))) end (tree (assigned_label operator ls j) slots end) i ls end j rest
 
-module _ (f : Flags) (w : f.wide ≡ false) where
-  narrow : (k : Kind) → not (same_kind Eq k) ≡ true → IsTrue (same_kind Eq k || f.wide) → ⊥
-  narrow k h c = go (same_kind Eq k) h c
-    where
-      go : (b : Bool) → not b ≡ true → (b || f.wide) ≡ true → ⊥
-      go true h c = false≢true h
-      go false h c = false≢true (sym w ∙ c)
+pub by_other : (f : Flags) {ts us : Slots} {i j : ℕ} {ls rest : Lexemes} (ks : List Kind) → Takes rule (branches ks (with_default f)) end ts i ls us j rest → Assigning f ks ts us i ls j rest
+by_other f [] d = elim d [ ]
+by_other f (k ∷ []) (is_node (is_seq (is_such d h) (is_seq (is_lexeme q) (is_such e g)))) = record { operator = k; slots = _; is_tree = refl; derived = is_node (is_seq (any_in SimpleTarget f (plus_in f) refl refl (is_such d refl)) (is_seq (is_lexeme q) (is_such e refl))) }
+by_other f (k ∷ j ∷ ks) (is_left (is_node (is_seq (is_such d h) (is_seq (is_lexeme q) (is_such e g))))) = record { operator = k; slots = _; is_tree = refl; derived = is_left (is_node (is_seq (any_in SimpleTarget f (plus_in f) refl refl (is_such d refl)) (is_seq (is_lexeme q) (is_such e refl)))) }
+by_other f (k ∷ j ∷ ks) (is_right d) = let x = by_other f (j ∷ ks) d in record { operator = x.operator; slots = x.slots; is_tree = x.is_tree; derived = is_right x.derived }
 
-  -- in targets that aren't wide no other operator gives a default
-  pub no_other : {ks ts us : Slots} {i j : ℕ} {ls rest : Lexemes} (ls' : List Kind) → never_eq ls' ≡ true → Takes rule (branches ls' (λ o. when (same_kind Eq o || f.wide) (with_default f o))) ks ts i ls us j rest → ⊥
-  no_other [] h d = elim d [ ]
-  no_other (k ∷ []) h (is_when c d) = narrow k (both_of h).0 c
-  no_other (k ∷ j ∷ ks) h (is_left (is_when c d)) = narrow k (both_of h).0 c
-  no_other (k ∷ j ∷ ks) h (is_right d) = no_other (j ∷ ks) (both_of h).1 d
+other_one : (f : Flags) {ts us : Slots} {i j : ℕ} {ls rest : Lexemes} → Takes rule (branches other_operators (with_default f)) end ts i ls us j rest → One (at Assignment (plus_in f)) i ls j rest
+unfolding rule rule_of
+other_one f {j = j} {ls = ls} d = let x = by_other f other_operators d in record { label = assigned_label x.operator ls j; slots = x.slots; derived = is_right (is_right (is_right (is_left (is_right x.derived)))) }
+
+-- items of a literal, before whatever slots stand behind them
+abbrev Items : Flags → ℕ → Lexemes → ℕ → Lexemes → Type 0
+Items f i ls j rest = (vs : Slots) → (ws : Slots) × Takes rule (literal_items f) end ws i ls vs j rest
+
+pub more_items : (f : Flags) {ts us vs : Slots} {i j k : ℕ} {ls mid rest : Lexemes} → Takes rule (literal_step f) end ts i ls us j mid → Takes rule (literal_items f) end us j mid vs k rest → Takes rule (literal_items f) end ts i ls vs k rest
+more_items f s (is_seq m l) = is_seq (is_many (is_left (is_seq s m))) l
+
+no_more : (f : Flags) {i : ℕ} {ls : Lexemes} → Items f i ls i ls
+no_more f = λ vs. (vs, is_seq (is_many (is_right is_nothing)) (is_right (is_right is_nothing)))
+
+one_item : (f : Flags) {i j : ℕ} {ls rest : Lexemes} → One (at Argument f) i ls j rest → Items f i ls j rest
+one_item f e = λ vs. (tree e.label e.slots vs, is_seq (is_many (is_right is_nothing)) (is_left (is_such e.derived refl)))
+
+with_comma : (f : Flags) {i j k : ℕ} {x : Lexeme} {ls mid rest : Lexemes} → One (at Argument f) i ls j (next x mid) → IsTrue (seen (is Comma) x) → Items f x.to mid k rest → Items f i ls k rest
+with_comma f e q t = λ vs. let y = t vs in (tree e.label e.slots y.0, more_items f (is_right (is_seq (is_such e.derived refl) (is_lexeme q))) y.1)
 
 -- ---- by induction over how large a derivation is
 
@@ -206,31 +223,40 @@ deep (is_kept q) = 0
 abbrev UpTo : Flags → ℕ → Type 0
 UpTo f n = (ts us : Slots) (i j : ℕ) (ls rest : Lexemes) (d : Takes rule (rule (at Target f)) end ts i ls us j rest) → deep d < n → One (at Assignment (plus_in f)) i ls j rest
 
-module _ (f : Flags) (w : f.wide ≡ false) (v : f.cover ≡ true) where
+module _ (f : Flags) (v : f.cover ≡ true) where
   module _ {n : ℕ} (up : UpTo f n) where
     element_at : {ts us : Slots} {i j : ℕ} {ls rest : Lexemes} (d : Takes rule (rule (at TargetElement f)) end ts i ls us j rest) → deep d < n → One (at Assignment (plus_in f)) i ls j rest
     unfolding rule rule_of
     element_at (is_left (is_such d h)) c = up _ _ _ _ _ _ d (omega arith)
-    element_at (is_right (is_left (is_when z (is_node (is_seq (is_such d h) (is_seq (is_lexeme q) e)))))) c = assigned_one f d q e
-    element_at (is_right (is_right d)) c = absurd (no_other f w (PlusEq ∷ MinusEq ∷ StarEq ∷ SlashEq ∷ PercentEq ∷ ShiftLeftEq ∷ ShiftRightEq ∷ ShiftRight3Eq ∷ PipeEq ∷ CaretEq ∷ AmpEq ∷ Amp2Eq ∷ Pipe2Eq ∷ Question2Eq ∷ Star2Eq ∷ []) refl d)
+    element_at (is_right (is_left (is_node (is_seq (is_such d h) (is_seq (is_lexeme q) e))))) c = assigned_one f d q e
+    element_at (is_right (is_right (is_when z d))) c = other_one f d
 
-    many_at : {ks ts us : Slots} {i j : ℕ} {ls rest : Lexemes} (d : Takes rule (many (target_step f)) ks ts i ls us j rest) → deep d < n → Some' (many (literal_step f)) i ls j rest
-    many_at (is_many (is_right is_nothing)) c = λ vs. (vs, is_many (is_right is_nothing))
-    many_at (is_many (is_left (is_seq (is_left (is_seq is_empty_slot (is_lexeme q))) m))) c = λ vs. let x = many_at m (omega arith) vs in (_, is_many (is_left (is_seq (is_left (is_node (is_lexeme q))) x.1)))
-    many_at (is_many (is_left (is_seq (is_right (is_seq (is_such d h) (is_lexeme q))) m))) c = λ vs. let x = many_at m (omega arith) vs in let e = plain_one f (element_at d (omega arith)) in (_, is_many (is_left (is_seq (is_right (is_seq (is_such e.derived refl) (is_lexeme q))) x.1)))
+    many_at : {ts us : Slots} {i j k : ℕ} {ls mid rest : Lexemes} (d : Takes rule (many (target_step f)) end ts i ls us j mid) → deep d < n → Items f j mid k rest → Items f i ls k rest
+    many_at (is_many (is_right is_nothing)) c t = t
+    many_at (is_many (is_left (is_seq (is_left (is_seq is_empty_slot (is_lexeme q))) m))) c t = λ vs. let y = many_at m (omega arith) t vs in (_, more_items f (is_left (is_node (is_lexeme q))) y.1)
+    many_at (is_many (is_left (is_seq (is_right (is_seq (is_such d h) (is_lexeme q))) m))) c t = with_comma f (plain_one f (element_at d (omega arith))) q (many_at m (omega arith) t)
 
-    last_at : {ks ts us : Slots} {i j : ℕ} {ls rest : Lexemes} (d : Takes rule (target_last f) ks ts i ls us j rest) → deep d < n → Some' (literal_last f) i ls j rest
-    last_at (is_left (is_such d h)) c = λ vs. let e = plain_one f (element_at d (omega arith)) in (_, is_left (is_such e.derived refl))
-    last_at (is_right (is_left (is_seq (is_node (is_seq (is_lexeme q) (is_such d h))) (is_right is_nothing)))) c = λ vs. let e = spread_one f q (up _ _ _ _ _ _ d (omega arith)) in (_, is_left (is_such e.derived refl))
-    last_at (is_right (is_left (is_seq (is_node r) (is_left (is_when z k))))) c = absurd (false≢true (sym w ∙ z))
-    last_at (is_right (is_right is_nothing)) c = λ vs. (vs, is_right (is_right is_nothing))
+    last_at : {ts us : Slots} {i j : ℕ} {ls rest : Lexemes} (d : Takes rule (target_last f) end ts i ls us j rest) → deep d < n → Items f i ls j rest
+    last_at (is_left (is_such d h)) c = one_item f (plain_one f (element_at d (omega arith)))
+    last_at (is_right (is_left (is_seq (is_node (is_seq (is_lexeme q) (is_such d h))) (is_right is_nothing)))) c = one_item f (spread_one f q (up _ _ _ _ _ _ d (omega arith)))
+    last_at (is_right (is_left (is_seq (is_node (is_seq (is_lexeme q) (is_such d h))) (is_left (is_when z (is_lexeme p)))))) c = with_comma f (spread_one f q (up _ _ _ _ _ _ d (omega arith))) p (no_more f)
+    last_at (is_right (is_right is_nothing)) c = no_more f
 
     array_at : {ts us : Slots} {i j : ℕ} {ls rest : Lexemes} (d : Takes rule (rule (at ArrayTarget f)) end ts i ls us j rest) → deep d < n → Arrayed f i ls j rest
     unfolding rule rule_of
     array_at (is_node (is_seq (is_lexeme q) (is_seq (is_seq m l) (is_lexeme p)))) c =
-        let y = last_at l (omega arith) end in
-        let x = many_at m (omega arith) y.0 in
-        by_array f q (is_seq (is_seq x.1 y.1) (is_lexeme p))
+        let x = many_at m (omega arith) (last_at l (omega arith)) end in
+        by_array f q (is_seq x.1 (is_lexeme p))
+
+    left_at : {ts us : Slots} {i j : ℕ} {ls rest : Lexemes} (d : Takes rule (left_line f) end ts i ls us j rest) → 3 + deep d < n → One (at Assignment (plus_in f)) i ls j rest
+    unfolding rule rule_of
+    left_at (is_left (is_such d h)) c = up _ _ _ _ _ _ (is_left (is_such d h)) (omega arith)
+    left_at (is_right (is_when z (is_left (is_such d h)))) c = up _ _ _ _ _ _ (is_right (is_left (is_such d h))) (omega arith)
+    left_at (is_right (is_when z (is_right (is_such d h)))) c = up _ _ _ _ _ _ (is_right (is_right (is_such d h))) (omega arith)
+
+    rest_at : {ts : Slots} {i j : ℕ} {ls rest : Lexemes} (d : Takes rule (rest_property f) end ts i ls end j rest) → 2 + deep d < n → (ws : Slots) × Takes rule (properties f) end ws i ls end j rest
+    rest_at (is_seq (is_node (is_seq (is_lexeme q) d)) (is_right is_nothing)) c = last_of_them f (spread_property f q (left_at d (omega arith)))
+    rest_at (is_seq (is_node (is_seq (is_lexeme q) d)) (is_left (is_when z (is_lexeme p)))) c = more_properties f (spread_property f q (left_at d (omega arith))) p (end, is_right is_nothing)
 
     property_at : {ts us : Slots} {i j : ℕ} {ls rest : Lexemes} (d : Takes rule (rule (at TargetProperty f)) end ts i ls us j rest) → deep d < n → One (at Property f) i ls j rest
     unfolding rule rule_of
@@ -246,7 +272,7 @@ module _ (f : Flags) (w : f.wide ≡ false) (v : f.cover ≡ true) where
     object_at : {ts us : Slots} {i j : ℕ} {ls rest : Lexemes} (d : Takes rule (rule (at ObjectTarget f)) end ts i ls us j rest) → deep d < n → Objected f i ls j rest
     unfolding rule rule_of
     object_at (is_node (is_seq (is_lexeme q) (is_seq (is_seq m (is_left (is_such d h))) (is_lexeme p)))) c = closed_object f q p (properties_at m (omega arith) (last_of_them f (property_at d (omega arith))))
-    object_at (is_node (is_seq (is_lexeme q) (is_seq (is_seq m (is_right (is_left r))) (is_lexeme p)))) c = closed_object f q p (properties_at m (omega arith) (rest_up f w r))
+    object_at (is_node (is_seq (is_lexeme q) (is_seq (is_seq m (is_right (is_left r))) (is_lexeme p)))) c = closed_object f q p (properties_at m (omega arith) (rest_at r (omega arith)))
     object_at (is_node (is_seq (is_lexeme q) (is_seq (is_seq m (is_right (is_right is_nothing))) (is_lexeme p)))) c = closed_object f q p (properties_at m (omega arith) (end, is_right is_nothing))
 
     one_deeper : UpTo f (suc n)

@@ -33,10 +33,6 @@ array_slots f = (symbol ArrayTarget f ◇ symbol ObjectTarget f) ▸ tok Eq ▸ 
 abbrev pub array_part : Flags → G
 array_part f = op assignment_expression Eq (array_slots f)
 
--- targets aren't taken in their wider form
-pub not_wide : {text : List ℕ} {f : Flags} {p : Parser} → At text f p → f.wide ≡ false
-not_wide a = ap (λ (g : Flags). g.wide) (sym a.flags_are)
-
 -- and expressions are read as a cover grammar
 pub is_cover : {text : List ℕ} {f : Flags} {p : Parser} → At text f p → f.cover ≡ true
 is_cover a = ap (λ (g : Flags). g.cover) (sym a.flags_are)
@@ -98,9 +94,9 @@ object_before_a_sign f l cs us h y q = admits (at Short f) (tree l cs us) y (sub
 pub before_others : {f : Flags} {ks vs : Slots} {l : Label} {cs : Slots} {i j : ℕ} {ls rest : Lexemes} → Takes rule (such (at Short f) always) end (tree l cs end) i ls end j rest → Takes rule (such (at Short f) always) ks (tree l cs vs) i ls vs j rest
 before_others (is_such d h) = is_such d h
 
-module _ {f : Flags} (w : f.wide ≡ false) (v : f.cover ≡ true) where
+module _ {f : Flags} (v : f.cover ≡ true) where
   pub literal : {ks ts us vs : Slots} {i j : ℕ} {ls rest : Lexemes} → Takes rule (symbol ArrayTarget f) ks ts i ls us j rest → Literal f ks vs i ls j rest
-  literal {ks} {vs = vs} (is_such d h) = let x = array_up f w v d in record { label = x.label; slots = x.slots; array = x.array; takes = anew ((of_short f).up (by_primary x.derived)) }
+  literal {ks} {vs = vs} (is_such d h) = let x = array_up f v d in record { label = x.label; slots = x.slots; array = x.array; takes = anew ((of_short f).up (by_primary x.derived)) }
     where
       anew : {l : Label} {cs : Slots} {i j : ℕ} {ls rest : Lexemes} → Takes rule (such (at Short f) always) end (tree l cs end) i ls end j rest → Takes rule (such (at Short f) always) ks (tree l cs vs) i ls vs j rest
       anew (is_such d h) = is_such d h
@@ -119,7 +115,7 @@ module _ {f : Flags} (w : f.wide ≡ false) (v : f.cover ≡ true) where
   -- nor an object target
   pub no_object_there : {text : List ℕ} {s s' : ℕ} {l : Label} {cs : Slots} {pass : Lexemes → Lexemes} → Stretch text (after (at Short f)) (such (at Short f) always) s nothing s' (tree l cs) pass → is_literal l.kind ≡ false → {ts : Slots} {j : ℕ} {ls : Lexemes} (y : Lexeme) → Lexes (Lex text) s ls → IsTrue (seen signs y) → Takes rule (symbol ObjectTarget f) end ts s ls end j (last y) → ⊥
   no_object_there r n {j = j} {ls} y m q (is_such d g) =
-      let x = object_up f w v d in
+      let x = object_up f v d in
       let z = r.goes.only (tree x.label x.slots end) end j ls (last y) m (before_others ((of_short f).up (by_primary x.derived))) (object_before_a_sign f x.label x.slots end x.object y q) in
       false≢true (sym n ∙ (sym (ap (λ (v : Label). is_literal v.kind) (label_is z.2)) ∙ object_literal x.object))
 
@@ -144,7 +140,7 @@ module _ {f : Flags} (w : f.wide ≡ false) (v : f.cover ≡ true) where
       where
         go : (ts vs : Slots) (k : ℕ) (ls rest : Lexemes) → Lexes (Lex text) s ls → Takes rule (array_slots f) end ts s ls vs k rest → ⊥
         go ts vs k ls rest l (is_seq {us = us} {j = j} {mid = mid} (is_left d) (is_seq (is_lexeme {x = y} q) b)) = let x = literal {vs = us} d in n.no (tree x.label x.slots us) us j ls mid l x.takes (before_a_sign x y (an_equals y q))
-        go ts vs k ls rest l (is_seq {us = us} {j = j} {mid = mid} (is_right (is_such d h)) (is_seq (is_lexeme {x = y} q) b)) = let x = object_up f w v d in n.no (tree x.label x.slots us) us j ls mid l (before_others ((of_short f).up (by_primary x.derived))) (object_before_a_sign f x.label x.slots us x.object y (an_equals y q))
+        go ts vs k ls rest l (is_seq {us = us} {j = j} {mid = mid} (is_right (is_such d h)) (is_seq (is_lexeme {x = y} q) b)) = let x = object_up f v d in n.no (tree x.label x.slots us) us j ls mid l (before_others ((of_short f).up (by_primary x.derived))) (object_before_a_sign f x.label x.slots us x.object y (an_equals y q))
 
     -- it was read as another tree; or no `=` stands behind it
     pub no_array_read : {s' : ℕ} {l : Label} {cs : Slots} {pass : Lexemes → Lexemes} → Stretch text (after (at Short f)) (such (at Short f) always) s nothing s' (tree l cs) pass → (is_literal l.kind ≡ false) ⊎ ((y : Lexeme) → Lex text s' y → IsTrue (seen (is Eq) y) → ⊥) → Fails rule (Lex text) X end (array_slots f) s
@@ -152,8 +148,8 @@ module _ {f : Flags} (w : f.wide ≡ false) (v : f.cover ≡ true) where
       where
         go : (ts vs : Slots) (k : ℕ) (ls rest : Lexemes) → Lexes (Lex text) s ls → Takes rule (array_slots f) end ts s ls vs k rest → ⊥
         go ts vs k ls rest m (is_seq {us = us} (is_left d) (is_seq (is_lexeme {x = y} q) b)) = let x = literal {ks = end} {vs = us} d in another {us = us} r h (array_literal x.label.kind x.array) m x.takes (before_a_sign x y (an_equals y q)) q
-        go ts vs k ls rest m (is_seq {us = us} (is_right (is_such d g)) (is_seq (is_lexeme {x = y} q) b)) = let x = object_up f w v d in another {us = us} r h (object_literal x.object) m (before_others ((of_short f).up (by_primary x.derived))) (object_before_a_sign f x.label x.slots us x.object y (an_equals y q)) q
+        go ts vs k ls rest m (is_seq {us = us} (is_right (is_such d g)) (is_seq (is_lexeme {x = y} q) b)) = let x = object_up f v d in another {us = us} r h (object_literal x.object) m (before_others ((of_short f).up (by_primary x.derived))) (object_before_a_sign f x.label x.slots us x.object y (an_equals y q)) q
 
 -- between two states
 pub no_array_part : {text : List ℕ} {f : Flags} {X : Test} {p q : Parser} → (x : Answer text f (at Short f) p q) → (is_literal x.label.kind ≡ false) ⊎ ((y : Lexeme) → Lex text q.prev_token_end y → IsTrue (seen (is Eq) y) → ⊥) → Fails rule (Lex text) X end (array_slots f) p.prev_token_end
-no_array_part x h = either_way x.verdict (λ y. no_array_read (not_wide x.at) (is_cover x.at) y h) (λ n. no_array_unread (not_wide x.at) (is_cover x.at) n)
+no_array_part x h = either_way x.verdict (λ y. no_array_read (is_cover x.at) y h) (λ n. no_array_unread (is_cover x.at) n)

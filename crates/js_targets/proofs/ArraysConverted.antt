@@ -42,7 +42,7 @@ shut_narrow text (Operator s ∷ ws) h = absurd h.0
 pub anew : {n : Symbol} {ks vs : Slots} {l : Label} {cs : Slots} {i j : ℕ} {ls rest : Lexemes} → Takes rule (such n always) end (tree l cs end) i ls end j rest → Takes rule (such n always) ks (tree l cs vs) i ls vs j rest
 anew (is_such d h) = is_such d h
 
-module _ (text : List ℕ) (f : Flags) (w : f.wide ≡ false) (v : f.cover ≡ true) where
+module _ (text : List ℕ) (f : Flags) (v : f.cover ≡ true) where
   -- a target, as an expression
   pub record Sourced (o : Bool) (ks us : Slots) (a : Label) (bs : Slots) (i : ℕ) (ls : Lexemes) (j : ℕ) (rest : Lexemes) : Type 0 where
     pub label : Label
@@ -50,19 +50,19 @@ module _ (text : List ℕ) (f : Flags) (w : f.wide ≡ false) (v : f.cover ≡ t
     pub kind : label.kind ≡ literal_kind o
     pub target : a ≡ relabelled (pattern_kind o) label
     pub covers : elements_in (in_literal o) slots ≡ Some bs
-    pub opened : Each (Narrow text) (places_in (in_literal o) slots)
+    pub opened : f.wide ≡ false → Each (Narrow text) (places_in (in_literal o) slots)
     pub takes : Takes rule (such (at Short f) always) ks (tree label slots us) i ls us j rest
 
   pub sourced : (o : Bool) {ks us : Slots} {a : Label} {bs : Slots} {i j : ℕ} {ls rest : Lexemes} → Lexes (Lex text) i ls → Takes rule (rule (at (target_name o) f)) end (tree a bs end) i ls end j rest → Sourced o ks us a bs i ls j rest
   sourced o {ks} {us} {a} {bs} m d =
-      let x = literal_back text f w v o d m in
+      let x = literal_back text f.wide f refl v o d m in
       record {
         label = x.label;
         slots = x.slots;
         kind = x.kind;
         target = label_is x.is_tree;
         covers = x.covers ∙ ap Some (sym (slots_are x.is_tree));
-        opened = shut_narrow text (places_in (in_literal o) x.slots) x.closed;
+        opened = λ g. shut_narrow text (places_in (in_literal o) x.slots) (x.closed g);
         takes = anew ((of_short f).up (by_primary x.derived));
       }
 
@@ -89,12 +89,12 @@ abbrev pub signs : Flags → Test
 signs f = plain (behind_target f.in_)
 
 -- what was read, and may be followed by an assignment operator, is the only one
-module _ {text : List ℕ} {f : Flags} (w : f.wide ≡ false) (v : f.cover ≡ true) {s s' : ℕ} {l : Label} {cs : Slots} {pass : Lexemes → Lexemes} (o : Bool) (z : Stretch text (after (at Short f)) (such (at Short f) always) s nothing s' (tree l cs) pass) (h : l.kind ≡ literal_kind o) where
+module _ {text : List ℕ} {f : Flags} (v : f.cover ≡ true) {s s' : ℕ} {l : Label} {cs : Slots} {pass : Lexemes → Lexemes} (o : Bool) (z : Stretch text (after (at Short f)) (such (at Short f) always) s nothing s' (tree l cs) pass) (h : l.kind ≡ literal_kind o) where
   -- a target that stands there is that of the literal
   record There (a : Label) (bs us : Slots) (vs : Slots) (ls : Lexemes) (k : ℕ) (rest : Lexemes) : Type 0 where
     target : a ≡ relabelled (pattern_kind o) l
     covers : elements_in (in_literal o) cs ≡ Some bs
-    opened : Each (Narrow text) (places_in (in_literal o) cs)
+    opened : f.wide ≡ false → Each (Narrow text) (places_in (in_literal o) cs)
     behind : Lexemes
     same : us ≡ vs
     lexed : Lexes (Lex text) s' behind
@@ -103,14 +103,14 @@ module _ {text : List ℕ} {f : Flags} (w : f.wide ≡ false) (v : f.cover ≡ t
 
   there : {a : Label} {bs vs : Slots} {k : ℕ} {ls rest : Lexemes} → Lexes (Lex text) s ls → Takes rule (rule (at (target_name o) f)) end (tree a bs end) s ls end k rest → IsTrue (seen (behind_target f.in_) (here rest)) → (us : Slots) × There a bs us vs ls k rest
   there {a} {bs} {vs} {k} {ls} {rest} m d q =
-      let x = sourced text f w v o {ks = end} {us = vs} m d in
+      let x = sourced text f v o {ks = end} {us = vs} m d in
       let y = z.goes.only (tree x.label x.slots vs) vs k ls rest m x.takes (sign_admitted o f x.label x.slots vs (here rest) x.kind q) in
       let e = ends y.4 in (
         y.0,
         record {
           target = x.target ∙ ap (relabelled (pattern_kind o)) (label_is y.2);
           covers = sym (ap (elements_in (in_literal o)) (slots_are y.2)) ∙ x.covers;
-          opened = subst (λ (ds : Slots). Each (Narrow text) (places_in (in_literal o) ds)) (slots_are y.2) x.opened;
+          opened = λ g. subst (λ (ds : Slots). Each (Narrow text) (places_in (in_literal o) ds)) (slots_are y.2) (x.opened g);
           behind = y.1;
           same = e.0;
           lexed = y.3;
@@ -120,12 +120,12 @@ module _ {text : List ℕ} {f : Flags} (w : f.wide ≡ false) (v : f.cover ≡ t
       )
 
   -- none stands there, where the literal is converted to none, or it is wider than one
-  pub no_target_there : (elements_in (in_literal o) cs ≡ None) ⊎ (Each (Narrow text) (places_in (in_literal o) cs) → ⊥) → Fails rule (Lex text) (signs f) end (such (at (target_name o) f) always) s
+  pub no_target_there : (elements_in (in_literal o) cs ≡ None) ⊎ ((f.wide ≡ false) × (Each (Narrow text) (places_in (in_literal o) cs) → ⊥)) → Fails rule (Lex text) (signs f) end (such (at (target_name o) f) always) s
   no_target_there n = record { no = λ ts vs k ls rest m d q. go ts vs k ls rest m d q }
     where
-      by : {a : Label} {bs us vs : Slots} {ls : Lexemes} {k : ℕ} {rest : Lexemes} → There a bs us vs ls k rest → (elements_in (in_literal o) cs ≡ None) ⊎ (Each (Narrow text) (places_in (in_literal o) cs) → ⊥) → ⊥
+      by : {a : Label} {bs us vs : Slots} {ls : Lexemes} {k : ℕ} {rest : Lexemes} → There a bs us vs ls k rest → (elements_in (in_literal o) cs ≡ None) ⊎ ((f.wide ≡ false) × (Each (Narrow text) (places_in (in_literal o) cs) → ⊥)) → ⊥
       by {bs = bs} x (inl e) = let c : None ≡ Some bs = sym e ∙ x.covers in cc
-      by x (inr g) = g x.opened
+      by x (inr g) = g.1 (x.opened g.0)
 
       go : (ts vs : Slots) (k : ℕ) (ls rest : Lexemes) → Lexes (Lex text) s ls → Takes rule (such (at (target_name o) f) always) end ts s ls vs k rest → Admits (signs f) ts (here rest) → ⊥
       go ts vs k ls rest m (is_such d c) q = by (there {vs = vs} m d q.0).1 n
@@ -136,7 +136,7 @@ module _ {text : List ℕ} {f : Flags} (w : f.wide ≡ false) (v : f.cover ≡ t
     where
       go : (ts vs : Slots) (k : ℕ) (ls rest : Lexemes) → Lexes (Lex text) s ls → Takes rule (such (at (target_name (not o)) f) always) end ts s ls vs k rest → Admits (signs f) ts (here rest) → ⊥
       go ts vs k ls rest m (is_such d c) q =
-          let x = sourced text f w v (not o) {ks = end} {us = vs} m d in
+          let x = sourced text f v (not o) {ks = end} {us = vs} m d in
           let y = z.goes.only (tree x.label x.slots vs) vs k ls rest m x.takes (sign_admitted (not o) f x.label x.slots vs (here rest) x.kind q.0) in
           other_kind o (sym x.kind ∙ (ap (λ (n : Label). n.kind) (label_is y.2) ∙ h))
 
@@ -203,8 +203,8 @@ module _ {text : List ℕ} {f : Flags} (w : f.wide ≡ false) (v : f.cover ≡ t
       by m (is_such d c) = literal_spots text u o h r b m ((of_short f).down (may_literal l.kind (is_literal_kind o l.kind h)) (is_such d refl))
 
 -- nothing was read there
-pub no_target_unread : {text : List ℕ} {f : Flags} (o : Bool) → f.wide ≡ false → f.cover ≡ true → {s : ℕ} → Underived text (at Short f) s → Fails rule (Lex text) (signs f) end (such (at (target_name o) f) always) s
-no_target_unread {text} {f} o w v {s} n = record { no = λ ts vs k ls rest m d q. go ts vs k ls rest m d q }
+pub no_target_unread : {text : List ℕ} {f : Flags} (o : Bool) → f.cover ≡ true → {s : ℕ} → Underived text (at Short f) s → Fails rule (Lex text) (signs f) end (such (at (target_name o) f) always) s
+no_target_unread {text} {f} o v {s} n = record { no = λ ts vs k ls rest m d q. go ts vs k ls rest m d q }
   where
     go : (ts vs : Slots) (k : ℕ) (ls rest : Lexemes) → Lexes (Lex text) s ls → Takes rule (such (at (target_name o) f) always) end ts s ls vs k rest → Admits (signs f) ts (here rest) → ⊥
-    go ts vs k ls rest m (is_such d c) q = let x = sourced text f w v o {ks = end} {us = vs} m d in n.no (tree x.label x.slots vs) vs k ls rest m x.takes (sign_admitted o f x.label x.slots vs (here rest) x.kind q.0)
+    go ts vs k ls rest m (is_such d c) q = let x = sourced text f v o {ks = end} {us = vs} m d in n.no (tree x.label x.slots vs) vs k ls rest m x.takes (sign_admitted o f x.label x.slots vs (here rest) x.kind q.0)

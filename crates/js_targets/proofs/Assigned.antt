@@ -183,15 +183,15 @@ is_sign o y h s = let z = and_parts (same_kind o y.kind) (not y.escaped) s in an
 pub unassigned : {text : List ℕ} {f : Flags} {p q : Parser} → OnlyOthers text f p.prev_token_end → Answer text f (at Short f) p q → ((y : Lexeme) → Lex text q.prev_token_end y → IsTrue (seen an_assign y) → ⊥) → Goes rule (Lex text) (after (at Assignment f)) end (rule (at Assignment f)) p.prev_token_end (such (at Conditional f) always) p.prev_token_end (λ us. us) (still 0)
 unassigned {f = f} {p = p} a x n = to_parts f p.prev_token_end a ▹ left (fails_alt (no_branch (assign_part f) assign_operators (λ o h. fails_node inside_full (no_assign_slots x (plain full) o h (λ y l s. n y l (is_sign o y h s))))) (fails_node inside_full (no_array_part x (inr (λ y l s. n y l (is_sign Eq y refl s))))))
 
-no_assignment : {text : List ℕ} {X : Test} (f : Flags) {s : ℕ} → f.wide ≡ false → f.cover ≡ true → Underived text (at Short f) s → Fails rule (Lex text) X end (alt (branches assign_operators (assign_part f)) (array_part f)) s
-no_assignment f {s} w v x = fails_alt (no_branch (assign_part f) assign_operators (λ o h. fails_node inside_full (part_fails (target_unread (of_short f) (assign_heads f) x) (before_sign f o h (plain full) s)))) (fails_node inside_full (no_array_unread w v x))
+no_assignment : {text : List ℕ} {X : Test} (f : Flags) {s : ℕ} → f.cover ≡ true → Underived text (at Short f) s → Fails rule (Lex text) X end (alt (branches assign_operators (assign_part f)) (array_part f)) s
+no_assignment f {s} v x = fails_alt (no_branch (assign_part f) assign_operators (λ o h. fails_node inside_full (part_fails (target_unread (of_short f) (assign_heads f) x) (before_sign f o h (plain full) s)))) (fails_node inside_full (no_array_unread v x))
 
 -- where neither a conditional expression nor a target begins, an arrow function is left
-pub only_arrow : {text : List ℕ} (f : Flags) {s : ℕ} → f.wide ≡ false → f.cover ≡ true → NoYield text f s → Fails rule (Lex text) (after (at Assignment f)) end (such (at Conditional f) always) s → Underived text (at Short f) s → Goes rule (Lex text) (after (at Assignment f)) end (rule (at Assignment f)) s (such (at Arrow' f) always) s (λ us. us) (still 0)
-only_arrow f {s} w v y c x = to_choice f s y ▹ (right c ▹ left (no_assignment f w v x))
+pub only_arrow : {text : List ℕ} (f : Flags) {s : ℕ} → f.cover ≡ true → NoYield text f s → Fails rule (Lex text) (after (at Assignment f)) end (such (at Conditional f) always) s → Underived text (at Short f) s → Goes rule (Lex text) (after (at Assignment f)) end (rule (at Assignment f)) s (such (at Arrow' f) always) s (λ us. us) (still 0)
+only_arrow f {s} v y c x = to_choice f s y ▹ (right c ▹ left (no_assignment f v x))
 
-pub nothing_assigned : {text : List ℕ} (f : Flags) {s : ℕ} → f.wide ≡ false → f.cover ≡ true → OnlyOthers text f s → Underived text (at Short f) s → Goes rule (Lex text) (after (at Assignment f)) end (rule (at Assignment f)) s (such (at Conditional f) always) s (λ us. us) (still 0)
-nothing_assigned f {s} w v a x = to_parts f s a ▹ left (no_assignment f w v x)
+pub nothing_assigned : {text : List ℕ} (f : Flags) {s : ℕ} → f.cover ≡ true → OnlyOthers text f s → Underived text (at Short f) s → Goes rule (Lex text) (after (at Assignment f)) end (rule (at Assignment f)) s (such (at Conditional f) always) s (λ us. us) (still 0)
+nothing_assigned f {s} v a x = to_parts f s a ▹ left (no_assignment f v x)
 
 abbrev an_assign_kind : Look
 an_assign_kind k w e = one_of_kinds assign_operators k

@@ -21,7 +21,7 @@ use Rattle.js_parsing.proofs.Paths.{Path, ◌⟼◌, by_symbol_as}
 use Rattle.js_parsing.proofs.Verdicts.{either_way}
 use Rattle.js_targets.specs.Taken.{NoTargetFrom, TargetTaken, behind_target, goes_through, target_name}
 use Rattle.js_targets.specs.Targets.{is_literal, is_object, target_of}
-use Rattle.js_targets.proofs.ArraysBeforeSigns.{is_cover, not_wide, target_no_literal}
+use Rattle.js_targets.proofs.ArraysBeforeSigns.{is_cover, target_no_literal}
 use Rattle.js_targets.proofs.ArraysConverted.{no_other_there, no_target_unread, sign_admitted, signs, sourced, targets_follow}
 use Rattle.js_targets.proofs.Covers.{of_derived, row_of_target, target_fails, target_path, target_unread}
 use Rattle.js_targets.proofs.Refused.{literal_no_target}
@@ -66,9 +66,9 @@ record AsShort (f : Flags) (us : Slots) (i : ℕ) (ls : Lexemes) (j : ℕ) (rest
   takes : Takes rule (such (at Short f) always) end (tree label slots us) i ls us j rest
   fits : (y : Lexeme) → IsTrue (seen (behind_target f.in_) y) → Admits (after (at Short f)) (tree label slots us) y
 
-module _ (text : List ℕ) (f : Flags) (w : f.wide ≡ false) (v : f.cover ≡ true) where
+module _ (text : List ℕ) (f : Flags) (v : f.cover ≡ true) where
   of_literal : (o : Bool) {us : Slots} {a : Label} {bs : Slots} {i j : ℕ} {ls rest : Lexemes} → Lexes (Lex text) i ls → Takes rule (rule (at (target_name o) f)) end (tree a bs end) i ls end j rest → AsShort f us i ls j rest
-  of_literal o {us} m d = let x = sourced text f w v o {ks = end} {us = us} m d in record { label = x.label; slots = x.slots; takes = x.takes; fits = λ y q. sign_admitted o f x.label x.slots us y x.kind q }
+  of_literal o {us} m d = let x = sourced text f v o {ks = end} {us = us} m d in record { label = x.label; slots = x.slots; takes = x.takes; fits = λ y q. sign_admitted o f x.label x.slots us y x.kind q }
 
   as_short : {ts us : Slots} {i j : ℕ} {ls rest : Lexemes} → Lexes (Lex text) i ls → Takes rule (such (at Target f) always) end ts i ls us j rest → AsShort f us i ls j rest
   unfolding rule rule_of
@@ -81,8 +81,8 @@ module _ (text : List ℕ) (f : Flags) (w : f.wide ≡ false) (v : f.cover ≡ t
 
 -- ---- where none was read
 
-pub none_unread : {text : List ℕ} {f : Flags} → f.wide ≡ false → f.cover ≡ true → {s : ℕ} → Underived text (at Short f) s → Fails rule (Lex text) (signs f) end (symbol Target f) s
-none_unread {f = f} w v n = none_of_three true (target_unread (of_short f) (target_heads f) n) (no_target_unread true w v n) (no_target_unread false w v n)
+pub none_unread : {text : List ℕ} {f : Flags} → f.cover ≡ true → {s : ℕ} → Underived text (at Short f) s → Fails rule (Lex text) (signs f) end (symbol Target f) s
+none_unread {f = f} v n = none_of_three true (target_unread (of_short f) (target_heads f) n) (no_target_unread true v n) (no_target_unread false v n)
 
 -- neither `in` nor `of` stands behind what was read
 pub none_before : {text : List ℕ} {f : Flags} {p q : Parser} → f.in_ ≡ false → (x : Answer text f (at Short f) p q) → ((y : Lexeme) → Lex text q.prev_token_end y → IsTrue (seen goes_through y) → ⊥) → NoTargetFrom text f p.prev_token_end
@@ -90,7 +90,7 @@ none_before {text} {f} {p} {q} i x n = record { no = λ ts vs k ls rest l d e. g
   where
     go : (ts vs : Slots) (k : ℕ) (ls rest : Lexemes) → Lexes (Lex text) p.prev_token_end ls → Takes rule (such (at Target f) always) end ts p.prev_token_end ls vs k rest → Admits (plain goes_through) ts (here rest) → ⊥
     go ts vs k ls rest l d e =
-        let u = as_short text f (not_wide x.at) (is_cover x.at) l d in
+        let u = as_short text f (is_cover x.at) l d in
         let a = u.fits (here rest) (goes_behind f i (here rest) e.0) in
         either_way x.verdict
         (λ z. let y = z.goes.only (tree u.label u.slots vs) vs k ls rest l u.takes a in n (here rest) (here_at (Lex text) rest (subst (λ (v : Lexemes). Lexes (Lex text) q.prev_token_end v) (ends y.4).2 y.3)) e.0)
@@ -104,7 +104,7 @@ module _ {text : List ℕ} {f : Flags} {p q : Parser} (x : Answer text f (at Sho
     where
       go : (ts vs : Slots) (k : ℕ) (ls rest : Lexemes) → Lexes (Lex text) p.prev_token_end ls → Takes rule (such (at (target_name o) f) always) end ts p.prev_token_end ls vs k rest → Admits (signs f) ts (here rest) → ⊥
       go ts vs k ls rest m (is_such d c) e =
-          let u = sourced text f (not_wide x.at) (is_cover x.at) o {ks = end} {us = vs} m d in
+          let u = sourced text f (is_cover x.at) o {ks = end} {us = vs} m d in
           let a = sign_admitted o f u.label u.slots vs (here rest) u.kind e.0 in
           either_way x.verdict
           (λ z. let y = z.goes.only (tree u.label u.slots vs) vs k ls rest m u.takes a in false≢true (sym n ∙ (sym (ap (λ (l : Label). is_literal l.kind) (label_is y.2)) ∙ is_literal_kind o u.label.kind u.kind)))
@@ -123,7 +123,7 @@ module _ {text : List ℕ} {f : Flags} {p q : Parser} (x : Answer text f (at Sho
   module _ (h : is_literal x.label.kind ≡ true) where
     -- no target of the other kind stands there
     pub no_other : Fails rule (Lex text) (signs f) end (such (at (target_name (not (is_object x.label.kind))) f) always) p.prev_token_end
-    no_other = either_way x.verdict (λ z. no_other_there (not_wide x.at) (is_cover x.at) (is_object x.label.kind) z (kind_of_literal x.label.kind h)) (λ n. no_target_unread (not (is_object x.label.kind)) (not_wide x.at) (is_cover x.at) n)
+    no_other = either_way x.verdict (λ z. no_other_there (is_cover x.at) (is_object x.label.kind) z (kind_of_literal x.label.kind h)) (λ n. no_target_unread (not (is_object x.label.kind)) (is_cover x.at) n)
 
     no_simple : Fails rule (Lex text) (signs f) end (symbol SimpleTarget f) p.prev_token_end
     no_simple = target_fails (of_short f) (target_heads f) x (literal_no_target x.label x.slots h)

@@ -7,7 +7,7 @@ use Rattle.js_base.specs.Kinds.{same_kind, one_of_kinds}
 use Rattle.js_base.proofs.KindLemmas.{kind_of_same}
 use Rattle.js_grammar.specs.Trees.{NodeKind, Op, Span, Label, Slots, end, hole, tree, Tree, no_op, init, assignment_expression, spread_element, function_expression, array_assignment_target, object_assignment_target, assignment_target_rest, assignment_target_with_default, assignment_target_property_property, append}
 use Rattle.js_grammar.specs.Grammar.{Lexeme, Lexemes, last, next, here, seen, is, such, when, nothing, never, empty_slot, ◌▸◌, ◌◇◌, Takes, is_nothing, is_lexeme, is_empty_slot, is_seq, is_left, is_right, is_when, is_ahead, is_many, is_such, is_node, Look}
-use Rattle.js_grammar.specs.Insertion.{assign_operators}
+use Rattle.js_grammar.specs.Insertion.{assign_operators, other_operators}
 use Rattle.js_grammar.specs.Lexed.{Lexes}
 use Rattle.js_grammar.specs.LexicalFaults.{Reached}
 use Rattle.js_grammar.specs.Parsing.{always}
@@ -311,28 +311,22 @@ as_default f {l} {cs} {us} {i} {j} {ls} {rest} x = subst (λ (s : Span). Takes r
     lowered (is_seq d e) = is_seq (any_in Target (plus_in f) f refl refl d) e
 
     made : Takes rule (symbol Target f ▸ tok Eq ▸ symbol Assignment (plus_in f)) end cs i ls end j rest → Takes rule (symbol TargetElement f) end (tree (record { kind = assignment_target_with_default; op = no_op; flags = 0; span = record { from = (here ls).from; to = j } }) cs us) i ls us j rest
-    made d = is_such (is_right (is_left (is_when refl (is_node d)))) refl
+    made d = is_such (is_right (is_left (is_node d))) refl
 
 -- in a wider form the operator is another one
-target_lowered : (f : Flags) {ts us : Slots} {i j : ℕ} {ls rest : Lexemes} → Takes rule (such (at SimpleTarget (plus_in f)) always) end ts i ls us j rest → Takes rule (symbol Target f) end ts i ls us j rest
+sides_lowered : (f : Flags) (k : Kind) {cs : Slots} {i j : ℕ} {ls rest : Lexemes} → Takes rule (a_slots (plus_in f) k) end cs i ls end j rest → Takes rule (symbol SimpleTarget f ▸ tok k ▸ symbol Assignment (plus_in f)) end cs i ls end j rest
+sides_lowered f k (is_seq d e) = is_seq (any_in SimpleTarget (plus_in f) f refl refl d) e
+
+wide_branch : (f : Flags) (ks : List Kind) → {l : Label} {cs us : Slots} {i j : ℕ} {ls rest : Lexemes} → Takes rule (branches ks (a_part (plus_in f))) end (tree l cs end) i ls end j rest → Takes rule (branches ks (with_default f)) end (tree (relabelled assignment_target_with_default l) cs us) i ls us j rest
+wide_branch f [] d = elim d [ ]
+wide_branch f (k ∷ []) (is_node d) = is_node (sides_lowered f k d)
+wide_branch f (k ∷ m ∷ ks) (is_left (is_node d)) = is_left (is_node (sides_lowered f k d))
+wide_branch f (k ∷ m ∷ ks) (is_right d) = is_right (wide_branch f (m ∷ ks) d)
+
+as_wide : (f : Flags) → f.wide ≡ true → {l : Label} {cs us : Slots} {i j : ℕ} {ls rest : Lexemes} → is_equals l.op ≡ false → Takes rule (branches assign_operators (a_part (plus_in f))) end (tree l cs end) i ls end j rest → Takes rule (symbol TargetElement f) end (tree (relabelled assignment_target_with_default l) cs us) i ls us j rest
 unfolding rule rule_of
-target_lowered f d = go (any_in SimpleTarget (plus_in f) f refl refl d)
-  where
-    go : {ts us : Slots} {i j : ℕ} {ls rest : Lexemes} → Takes rule (such (at SimpleTarget f) always) end ts i ls us j rest → Takes rule (symbol Target f) end ts i ls us j rest
-    go (is_such d c) = is_such (is_left (is_such d refl)) refl
-
-sides_lowered : (f : Flags) (k : Kind) {cs : Slots} {i j : ℕ} {ls rest : Lexemes} → Takes rule (a_slots (plus_in f) k) end cs i ls end j rest → Takes rule (symbol Target f ▸ tok k ▸ symbol Assignment (plus_in f)) end cs i ls end j rest
-sides_lowered f k (is_seq d e) = is_seq (target_lowered f d) e
-
-wide_branch : (f : Flags) → f.wide ≡ true → (ks : List Kind) → {l : Label} {cs us : Slots} {i j : ℕ} {ls rest : Lexemes} → Takes rule (branches ks (a_part (plus_in f))) end (tree l cs end) i ls end j rest → Takes rule (branches ks (λ o. when (same_kind Eq o || f.wide) (mk assignment_target_with_default (symbol Target f ▸ tok o ▸ symbol Assignment (plus_in f))))) end (tree (relabelled assignment_target_with_default l) cs us) i ls us j rest
-wide_branch f w [] d = elim d [ ]
-wide_branch f w (k ∷ []) (is_node d) = is_when (or_right (same_kind Eq k) f.wide w) (is_node (sides_lowered f k d))
-wide_branch f w (k ∷ m ∷ ks) (is_left (is_node d)) = is_left (is_when (or_right (same_kind Eq k) f.wide w) (is_node (sides_lowered f k d)))
-wide_branch f w (k ∷ m ∷ ks) (is_right d) = is_right (wide_branch f w (m ∷ ks) d)
-
-as_wide : (f : Flags) → f.wide ≡ true → {l : Label} {cs us : Slots} {i j : ℕ} {ls rest : Lexemes} → Takes rule (branches assign_operators (a_part (plus_in f))) end (tree l cs end) i ls end j rest → Takes rule (symbol TargetElement f) end (tree (relabelled assignment_target_with_default l) cs us) i ls us j rest
-unfolding rule rule_of
-as_wide f w d = is_such (is_right (wide_branch f w assign_operators d)) refl
+as_wide f w n (is_left (is_node d)) = absurd (false≢true (sym n))
+as_wide f w n (is_right d) = is_such (is_right (is_right (is_when w (wide_branch f other_operators d)))) refl
 
 pub places_simple : (o : Bool) (l : Label) (cs : Slots) (ws : List Widening) → is_spread l.kind ≡ false → is_assignment l.kind ≡ false → is_property l.kind ≡ false → is_literal l.kind ≡ false → places_of o l cs ws ≡ []
 places_simple o l cs ws s a q h = rw (s, h, q, a) refl
@@ -420,7 +414,7 @@ module _ (text : List ℕ) where
             record { ended = subst (λ (v : List Widening). Each (Fits text) v) (sym n) (tt, tt); takes = λ o. wider (subst (λ (v : List Widening). Taken text f v) n o) }
           where
             wider : Taken text f (Operator (made_span l.span) ∷ []) → Made f (is_literal l.kind) ds i ls us j rest
-            wider (inl w) = subst (λ (v : Slots). Made f (is_literal l.kind) v i ls us j rest) (some_is e) (with_default refl (as_wide f w (operated_line (plus_in f) d (other_operator l r h))))
+            wider (inl w) = subst (λ (v : Slots). Made f (is_literal l.kind) v i ls us j rest) (some_is e) (with_default refl (as_wide f w h (operated_line (plus_in f) d (other_operator l r h))))
             wider (inr m) = absurd m.0
 
         by : (a b g q h : Bool) → is_elision l.kind ≡ a → is_spread l.kind ≡ b → is_assignment l.kind ≡ g → is_property l.kind ≡ q → is_literal l.kind ≡ h → by_tests a b g q h l cs (elements_in (within l.kind) cs) us ≡ Some ds → One f l cs us ds i ls j rest

@@ -22,7 +22,7 @@ use Rattle.js_grammar.specs.Settings.{Goal}
 use Rattle.js_lex.specs.Reading.{cut, is_right_angle, Tells, GivesLexeme, GivesNone, GivesBehind, Outcome}
 use Rattle.js_lex.proofs.Again.{cut_same}
 use Rattle.js_cursor.specs.Parsers.{Parser}
-use Rattle.js_parsing.specs.Answers.{Grown, Verdict, clean, unclean}
+use Rattle.js_parsing.specs.Answers.{Grown, Verdict, clean, unclean, wider}
 use Rattle.js_parsing.specs.Lexemes.{Lex, other_goals}
 use Rattle.js_base.specs.Diagnostics.{class_of}
 use Rattle.js_parsing.specs.Classes.{IsEarly}
@@ -165,7 +165,7 @@ pub record ToldUpTo (places : List Widening) (old new : Parser) (from : ℕ) : T
   pub same : Same old new
   pub is : new ≡ record old { errors = new.errors }
   pub drops : Each (Narrow old.text) places → Each (Narrow old.text) (drop from places)
-  pub verdict : Verdict old.errors new.errors (Each (Narrow old.text) (drop from places) → Each (Narrow old.text) places) (Each (Narrow old.text) places → ⊥)
+  pub verdict : Verdict ⊥ old.errors new.errors (Each (Narrow old.text) (drop from places) → Each (Narrow old.text) places) (Each (Narrow old.text) places → ⊥)
   pub fits : Each (Fits old.text) (drop from places)
   pub spotted : Each (Spotted old.text) (drop from places)
 
@@ -204,14 +204,15 @@ module _ {places : List Widening} {old mid : Parser} {from : ℕ} {place : Widen
     same = subst (λ (p : Parser). Same old p) (sym t.1) z.same;
     is = subst (λ (p : Parser). p ≡ record old { errors = p.errors }) (sym t.1) z.is;
     drops = λ h. (narrows h).1;
-    verdict = subst (λ (p : Parser). Verdict old.errors p.errors (Each (Narrow old.text) (drop (from + 1) places) → Each (Narrow old.text) places) (Each (Narrow old.text) places → ⊥)) (sym t.1) (by z.verdict);
+    verdict = subst (λ (p : Parser). Verdict ⊥ old.errors p.errors (Each (Narrow old.text) (drop (from + 1) places) → Each (Narrow old.text) places) (Each (Narrow old.text) places → ⊥)) (sym t.1) (by z.verdict);
     fits = (subst (λ (xs : List Widening). Each (Fits old.text) xs) q z.fits).1;
     spotted = (subst (λ (xs : List Widening). Each (Spotted old.text) xs) q z.spotted).1;
   }
     where
-      by : Verdict old.errors mid.errors (Each (Narrow old.text) (drop from places) → Each (Narrow old.text) places) (Each (Narrow old.text) places → ⊥) → Verdict old.errors mid.errors (Each (Narrow old.text) (drop (from + 1) places) → Each (Narrow old.text) places) (Each (Narrow old.text) places → ⊥)
+      by : Verdict ⊥ old.errors mid.errors (Each (Narrow old.text) (drop from places) → Each (Narrow old.text) places) (Each (Narrow old.text) places → ⊥) → Verdict ⊥ old.errors mid.errors (Each (Narrow old.text) (drop (from + 1) places) → Each (Narrow old.text) places) (Each (Narrow old.text) places → ⊥)
       by (clean e h) = clean e (λ k. h (subst (λ (xs : List Widening). Each (Narrow old.text) xs) (sym q) (narrow_place t.0, k)))
       by (unclean g n) = unclean g n
+      by (wider w g n) = elim w [ ]
   places_next {new} w (inr t) = record {
     within = w;
     at = λ text f a. told_at t.1.2 (z.at text f a);
@@ -223,9 +224,10 @@ module _ {places : List Widening} {old mid : Parser} {from : ℕ} {place : Widen
     spotted = (subst (λ (xs : List Widening). Each (Spotted old.text) xs) q z.spotted).1;
   }
     where
-      grown : Verdict old.errors mid.errors (Each (Narrow old.text) (drop from places) → Each (Narrow old.text) places) (Each (Narrow old.text) places → ⊥) → Grown old.errors new.errors
+      grown : Verdict ⊥ old.errors mid.errors (Each (Narrow old.text) (drop from places) → Each (Narrow old.text) places) (Each (Narrow old.text) places → ⊥) → Grown old.errors new.errors
       grown (clean e h) = grown_then e (kept_one t.1.2)
       grown (unclean g n) = grown_both g (kept_one t.1.2)
+      grown (wider w g n) = elim w [ ]
 
 pub places_end : {places : List Widening} {old new : Parser} {from : ℕ} → ToldUpTo places old new from → length places ≤ from → PlacesTold places old new
 places_end {places} {old} {new} {from} z l = record { at = z.at; same = z.same; is = z.is; verdict = by z.verdict }
@@ -236,6 +238,7 @@ places_end {places} {old} {new} {from} z l = record { at = z.at; same = z.same; 
     none_left (x ∷ xs) zero l = absurd (omega arith)
     none_left (x ∷ xs) (suc n) l = none_left xs n (omega arith)
 
-    by : Verdict old.errors new.errors (Each (Narrow old.text) (drop from places) → Each (Narrow old.text) places) (Each (Narrow old.text) places → ⊥) → Verdict old.errors new.errors (Each (Narrow old.text) places) (Each (Narrow old.text) places → ⊥)
+    by : Verdict ⊥ old.errors new.errors (Each (Narrow old.text) (drop from places) → Each (Narrow old.text) places) (Each (Narrow old.text) places → ⊥) → Verdict ⊥ old.errors new.errors (Each (Narrow old.text) places) (Each (Narrow old.text) places → ⊥)
     by (clean e h) = clean e (h (subst (λ (xs : List Widening). Each (Narrow old.text) xs) (sym (none_left places from l)) tt))
     by (unclean g n) = unclean g n
+    by (wider w g n) = elim w [ ]

@@ -27,7 +27,7 @@ use Rattle.js_cursor.specs.Moves.{GivesUp}
 use Rattle.js_parsing.specs.Classes.{EndsParse}
 
 -- what is said where a call gave up
-pub refused : {text : List ℕ} {f : Flags} {p q : Parser} {C B F : Type 0} (r : Parser) (e : Stop) → At text f q → Same p q → Verdict p.errors q.errors C B → GivesUp EndsParse q r e → F → Stops p r e F
+pub refused : {text : List ℕ} {f : Flags} {p q : Parser} {W C B F : Type 0} (r : Parser) (e : Stop) → At text f q → Same p q → Verdict W p.errors q.errors C B → GivesUp EndsParse q r e → F → Stops p r e F
 refused {q = q} r e a s v h n = stops_behind r e s (λ g. grown_behind v g) (λ x. x) (gives_up EndsParse q r e a h (λ d u. u) n)
 
 pub array_is : (k : NodeKind) → is_array k ≡ true → k ≡ array_expression

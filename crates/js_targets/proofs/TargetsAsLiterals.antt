@@ -1,15 +1,16 @@
--- A target is derived as a literal whose elements are those of the target, over the same lexemes, and nowhere is this literal wider than a target (ECMA-262, 13.15.5).
-use Rattle.std.proofs.Common.{ℕ, zero, suc, ◌<◌, arith, ◌≡◌, Bool, true, false, not, cond, ◌&&◌, ◌||◌, IsTrue, List, [], ◌∷◌, ◌++◌, Option, Some, None, refl, sym, ap, subst, ◌∙◌}
+-- A target is derived as a literal whose elements are those of the target, over the same lexemes; where targets aren't wide, nowhere is this literal wider than a target (ECMA-262, 13.15.5).
+use Rattle.std.proofs.Common.{ℕ, zero, suc, ◌+◌, ◌<◌, arith, ◌≡◌, Bool, true, false, not, cond, ◌&&◌, ◌||◌, IsTrue, List, [], ◌∷◌, ◌++◌, Option, Some, None, refl, sym, ap, subst, ◌∙◌}
 use Rattle.std.proofs.lemmas.Bool.{false≢true, and_parts, or_left, or_right}
 use Rattle.js_base.specs.declared.kind.Kind.{Kind}
-use Rattle.js_base.specs.declared.kind.Kind.TheVariants.{Eq, Await, Yield, Colon, Comma, Dot3, RBrack, RCurly, PlusEq, MinusEq, StarEq, SlashEq, PercentEq, ShiftLeftEq, ShiftRightEq, ShiftRight3Eq, PipeEq, CaretEq, AmpEq, Amp2Eq, Pipe2Eq, Question2Eq, Star2Eq}
+use Rattle.js_base.specs.declared.kind.Kind.TheVariants.{Eq, Await, Yield, Colon, Comma, Dot3, RBrack, RCurly}
 use Rattle.js_base.specs.Kinds.{same_kind, one_of_kinds}
 use Rattle.js_base.proofs.KindLemmas.{kind_of_same}
 use Rattle.js_grammar.specs.Trees.{NodeKind, Op, Span, Label, Slots, end, hole, tree, Tree, of, no_op, init, identifier_reference, static_member_expression, computed_member_expression, private_field_expression, parenthesized_expression, array_expression, object_expression, assignment_expression, spread_element, array_assignment_target, object_assignment_target, assignment_target_rest, assignment_target_with_default, assignment_target_property_identifier, assignment_target_property_property}
 use Rattle.js_grammar.specs.Grammar.{Lexeme, Lexemes, next, here, seen, is, such, many, ◌▸◌, Takes, is_nothing, is_lexeme, is_empty_slot, is_seq, is_left, is_right, is_when, is_many, is_commas, is_such, is_node, is_ahead}
+use Rattle.js_grammar.specs.Insertion.{other_operators}
 use Rattle.js_grammar.specs.Lexed.{Lexes}
 use Rattle.js_grammar.specs.Parsing.{always}
-use Rattle.js_grammar.specs.Productions.{G, Flags, Symbol, at, tok, slot, plus_in, flag, computed_flag, shorthand_flag, Argument, Assignment, LeftHandSide, Primary, Property, Init, IdentifierReference, SimpleTarget, Target, ArrayTarget, ObjectTarget, TargetElement, TargetProperty}
+use Rattle.js_grammar.specs.Productions.{G, Flags, Symbol, at, tok, slot, plus_in, branches, flag, computed_flag, shorthand_flag, Argument, Assignment, LeftHandSide, Primary, Property, Init, IdentifierReference, SimpleTarget, Target, ArrayTarget, ObjectTarget, TargetElement, TargetProperty}
 use Rattle.js_grammar.specs.Productions.{sym as symbol}
 use Rattle.js_grammar.specs.Table.{rule, rule_of, name}
 use Rattle.js_grammar.proofs.Behind.{lexed_behind}
@@ -20,7 +21,7 @@ use Rattle.js_targets.specs.declared.widening.Widening.TheVariants.{Rest}
 use Rattle.js_targets.specs.Taken.{target_name}
 use Rattle.js_targets.specs.Targets.{Each, Closed, Shut, in_literal, within, is_literal, literal_kind, is_pattern, is_target, is_parens, target_in, target_of, relabelled, pattern_kind, before_all, before_value, followed, named_slot, elements_in, argument_places, places_of, places_in}
 use Rattle.js_targets.proofs.ArrayElements.{gap_label}
-use Rattle.js_targets.proofs.ArrayTargets.{target_step, target_last, literal_step, literal_last, no_other, target_property, last_property, properties, bound_word, deep}
+use Rattle.js_targets.proofs.ArrayTargets.{target_step, target_last, literal_step, literal_items, with_default, default_label, assigned_label, by_other, more_items, left_line, target_property, last_property, properties, bound_word, deep}
 use Rattle.js_parsing.proofs.FreeOfIn.{any_in}
 use Rattle.js_targets.proofs.LiteralsAsTargets.{all_of, rest_before, literal_before, simple_before, element_before}
 use Rattle.js_targets.proofs.Properties.{property_label, named}
@@ -75,7 +76,8 @@ target_kind (tree l cs (tree m ds us)) t e = absurd (cc)
 
 -- ---- sources
 
-module _ (text : List ℕ) where
+-- a text, and whether targets are wide
+module _ (text : List ℕ) (wide : Bool) where
   -- An element of a literal (with o: a property), or what a symbol derives: as an element it is the first of these slots.
   record Source (o : Bool) (n : Symbol) (ts us : Slots) (i : ℕ) (ls : Lexemes) (j : ℕ) (rest : Lexemes) : Type 0 where
     label : Label
@@ -85,26 +87,19 @@ module _ (text : List ℕ) where
     is_tree : ts ≡ tree target inside us
     derived : Takes rule (rule n) end (tree label slots end) i ls end j rest
     covers : (vs : Slots) → element_before label slots (elements_in (within label.kind) slots) vs ≡ Some (tree target inside vs)
-    closed : Each (Shut text) (places_of o label slots (places_in (within label.kind) slots))
+    closed : wide ≡ false → Each (Shut text) (places_of o label slots (places_in (within label.kind) slots))
 
   -- one whose target has no initialiser
   record Bare (f : Flags) (ts us : Slots) (i : ℕ) (ls : Lexemes) (j : ℕ) (rest : Lexemes) : Type 0 where
     source : Source false (at Assignment (plus_in f)) ts us i ls j rest
     is_target' : (is_target (source.target).kind || is_pattern (source.target).kind) ≡ true
 
-  -- elements before others
-  record Sources (a : G) (ts us : Slots) (i : ℕ) (ls : Lexemes) (j : ℕ) (rest : Lexemes) : Type 0 where
-    trees : Slots → Slots
-    derived : (vs : Slots) → Takes rule a end (trees vs) i ls vs j rest
-    covers : (vs : Slots) → elements_in (in_literal false) vs ≡ Some us → elements_in (in_literal false) (trees vs) ≡ Some ts
-    closed : (vs : Slots) → Each (Shut text) (places_in (in_literal false) vs) → Each (Shut text) (places_in (in_literal false) (trees vs))
-
-  -- the last of them; with o properties
+  -- elements, or with o properties
   record Last (o : Bool) (a : G) (ts : Slots) (i : ℕ) (ls : Lexemes) (j : ℕ) (rest : Lexemes) : Type 0 where
     slots : Slots
     derived : Takes rule a end slots i ls end j rest
     covers : elements_in (in_literal o) slots ≡ Some ts
-    closed : Each (Shut text) (places_in (in_literal o) slots)
+    closed : wide ≡ false → Each (Shut text) (places_in (in_literal o) slots)
 
   -- The target of an array, or with o of an object, as a literal.
   pub record Literal (o : Bool) (f : Flags) (ts us : Slots) (i : ℕ) (ls : Lexemes) (j : ℕ) (rest : Lexemes) : Type 0 where
@@ -114,7 +109,7 @@ module _ (text : List ℕ) where
     pub kind : label.kind ≡ literal_kind o
     pub is_tree : ts ≡ tree (relabelled (pattern_kind o) label) inside us
     pub covers : elements_in (in_literal o) slots ≡ Some inside
-    pub closed : Each (Shut text) (places_in (in_literal o) slots)
+    pub closed : wide ≡ false → Each (Shut text) (places_in (in_literal o) slots)
     pub derived : Takes rule (rule (at Primary f)) end (tree label slots end) i ls end j rest
 
   of_such : {n : Symbol} {l : Label} {cs : Slots} {i j : ℕ} {ls rest : Lexemes} → Takes rule (such n always) end (tree l cs end) i ls end j rest → Takes rule (rule n) end (tree l cs end) i ls end j rest
@@ -136,7 +131,7 @@ module _ (text : List ℕ) where
           is_tree = refl;
           derived = raised f x.derived;
           covers = λ vs. simple_element x.label x.slots t (elements_in (within x.label.kind) x.slots) vs x.has;
-          closed = subst (λ (rs : List Widening). Each (Shut text) rs) (sym n) tt;
+          closed = λ g. subst (λ (rs : List Widening). Each (Shut text) rs) (sym n) tt;
         };
         is_target' = or_left (is_target t.label.kind) _ (target_kind (tree x.label x.slots end) t x.has);
       }
@@ -164,7 +159,7 @@ module _ (text : List ℕ) where
       is_tree = x.is_tree;
       derived = raised f (by_primary x.derived);
       covers = λ vs. literal_element o x.label.kind x.label.op x.label.flags x.label.span x.slots x.inside vs x.kind x.covers;
-      closed = literal_shut o x.label x.slots x.kind x.closed;
+      closed = λ g. literal_shut o x.label x.slots x.kind (x.closed g);
     };
     is_target' = or_right (is_target (pattern_kind o)) _ (pattern_kinds o);
   }
@@ -187,7 +182,7 @@ module _ (text : List ℕ) where
     is_tree = refl;
     derived = by d;
     covers = λ vs. refl;
-    closed = tt;
+    closed = λ g. tt;
   }
     where
       by : {cs : Slots} {i j : ℕ} {ls rest : Lexemes} → Takes rule (symbol Target f ▸ tok Eq ▸ symbol Assignment (plus_in f)) end cs i ls end j rest → Takes rule (rule (at Assignment (plus_in f))) end (tree (record { kind = assignment_expression; op = of Eq; flags = 0; span = record { from = (here ls).from; to = j } }) cs end) i ls end j rest
@@ -195,27 +190,54 @@ module _ (text : List ℕ) where
       by (is_seq (is_such (is_right (is_left (is_such d c))) g) e) = is_right (is_right (is_right (is_right (is_node (is_seq (is_left (any_in ArrayTarget f (plus_in f) refl refl (is_such d refl))) e)))))
       by (is_seq (is_such (is_right (is_right (is_such d c))) g) e) = is_right (is_right (is_right (is_right (is_node (is_seq (is_right (any_in ObjectTarget f (plus_in f) refl refl (is_such d refl))) e)))))
 
+  -- a simple target and another operator
+  other_source : (f : Flags) → wide ≡ true → {l : Label} {cs us : Slots} {i j : ℕ} {ls rest : Lexemes} → Takes rule (branches other_operators (with_default f)) end (tree l cs end) i ls end j rest → Source false (at Assignment (plus_in f)) (tree l cs us) us i ls j rest
+  unfolding rule rule_of
+  other_source f h {us = us} {j = j} {ls = ls} d =
+      let x = by_other f other_operators d in
+      record {
+        label = assigned_label x.operator ls j;
+        slots = x.slots;
+        target = default_label ls j;
+        inside = x.slots;
+        is_tree = λ i. tree (label_is x.is_tree i) (slots_are x.is_tree i) us;
+        derived = is_right (is_right (is_right (is_left (is_right x.derived))));
+        covers = λ vs. refl;
+        closed = λ g. absurd (false≢true (sym g ∙ h));
+      }
+
   -- ---- elements
 
   before_by : (o : Bool) (l : Label) (cs vs us ts : Slots) → elements_in (in_literal o) vs ≡ Some us → element_before l cs (elements_in (within l.kind) cs) us ≡ Some ts → elements_in (in_literal o) (tree l cs vs) ≡ Some ts
   before_by o l cs vs us ts h e = ap (λ (r : Option Slots). before_all l cs (elements_in (within l.kind) cs) r) h ∙ e
 
-  -- an element with its comma
-  source_item : {f : Flags} {ts us : Slots} {i j : ℕ} {x : Lexeme} {ls rest : Lexemes} → IsTrue (seen (is Comma) x) → Source false (at Argument f) ts us i ls j (next x rest) → Sources (symbol Argument f ▸ tok Comma) ts us i ls x.to rest
-  source_item {us = us} q x = record {
-    trees = λ vs. tree x.label x.slots vs;
-    derived = λ vs. is_seq (is_such x.derived refl) (is_lexeme q);
-    covers = λ vs h. before_by false x.label x.slots vs us _ h (x.covers us ∙ ap Some (sym x.is_tree));
-    closed = λ vs h. all_of (Shut text) (places_of false x.label x.slots (places_in (within x.label.kind) x.slots)) (places_in (in_literal false) vs) x.closed h;
+  -- an element with its comma, or a gap, before others
+  item_before : {f : Flags} {ts us : Slots} {i j k : ℕ} {x : Lexeme} {ls mid rest : Lexemes} → IsTrue (seen (is Comma) x) → Source false (at Argument f) ts us i ls j (next x mid) → Last false (literal_items f) us x.to mid k rest → Last false (literal_items f) ts i ls k rest
+  item_before {f} {us = us} q y z = record {
+    slots = tree y.label y.slots z.slots;
+    derived = more_items f (is_right (is_seq (is_such y.derived refl) (is_lexeme q))) z.derived;
+    covers = before_by false y.label y.slots z.slots us _ z.covers (y.covers us ∙ ap Some (sym y.is_tree));
+    closed = λ g. all_of (Shut text) (places_of false y.label y.slots (places_in (within y.label.kind) y.slots)) (places_in (in_literal false) z.slots) (y.closed g) (z.closed g);
   }
 
-  last_item : {f : Flags} {ts : Slots} {i j : ℕ} {ls rest : Lexemes} → Source false (at Argument f) ts end i ls j rest → Last false (literal_last f) ts i ls j rest
+  gap_before : {f : Flags} {us : Slots} {i k : ℕ} {x : Lexeme} {ls rest : Lexemes} → IsTrue (seen (is Comma) x) → Last false (literal_items f) us x.to ls k rest → Last false (literal_items f) (hole us) i (next x ls) k rest
+  gap_before {f} {x = x} q z = record {
+    slots = tree (gap_label x) end z.slots;
+    derived = more_items f (is_left (is_node (is_lexeme q))) z.derived;
+    covers = ap (λ (r : Option Slots). before_all (gap_label x) end (Some end) r) z.covers;
+    closed = z.closed;
+  }
+
+  last_item : {f : Flags} {ts : Slots} {i j : ℕ} {ls rest : Lexemes} → Source false (at Argument f) ts end i ls j rest → Last false (literal_items f) ts i ls j rest
   last_item x = record {
     slots = tree x.label x.slots end;
-    derived = is_left (is_such x.derived refl);
+    derived = is_seq (is_many (is_right is_nothing)) (is_left (is_such x.derived refl));
     covers = x.covers end ∙ ap Some (sym x.is_tree);
-    closed = all_of (Shut text) (places_of false x.label x.slots (places_in (within x.label.kind) x.slots)) [] x.closed tt;
+    closed = λ g. all_of (Shut text) (places_of false x.label x.slots (places_in (within x.label.kind) x.slots)) [] (x.closed g) tt;
   }
+
+  no_item : {f : Flags} {i : ℕ} {ls : Lexemes} → Last false (literal_items f) end i ls i ls
+  no_item = record { slots = end; derived = is_seq (is_many (is_right is_nothing)) (is_right (is_right is_nothing)); covers = refl; closed = λ g. tt }
 
   rest_by : (l m : Label) (ds : Slots) → (is_target m.kind || is_pattern m.kind) ≡ true → rest_before l (Some (tree m ds end)) end ≡ Some (tree (relabelled assignment_target_rest l) (tree m ds end) end)
   rest_by l m ds h = rw h refl
@@ -230,33 +252,43 @@ module _ (text : List ℕ) where
   rest_covers : (o : Bool) (p : Span) {f : Flags} {ts : Slots} {i j : ℕ} {ls rest : Lexemes} (b : Bare f ts end i ls j rest) → elements_in (in_literal o) (tree (spread_at p) (argument b) end) ≡ Some (tree (relabelled assignment_target_rest (spread_at p)) ts end)
   rest_covers o p b = let y = b.source in ap (λ (r : Option Slots). rest_before (spread_at p) r end) (y.covers end) ∙ (rest_by (spread_at p) y.target y.inside b.is_target' ∙ ap (λ (v : Slots). Some (tree (relabelled assignment_target_rest (spread_at p)) v end)) (sym y.is_tree))
 
-  rest_shut : (o : Bool) (p : Span) {f : Flags} {ts : Slots} {i j : ℕ} {ls rest : Lexemes} (b : Bare f ts end i ls j rest) → Closed text p.to → Each (Shut text) (argument_places o (argument b)) → Each (Shut text) (places_in (in_literal o) (tree (spread_at p) (argument b) end))
-  rest_shut o p b k h =
+  rest_shut : (o : Bool) (p : Span) {f : Flags} {ts : Slots} {i j : ℕ} {ls rest : Lexemes} (b : Bare f ts end i ls j rest) → wide ≡ false → Closed text p.to → Each (Shut text) (argument_places o (argument b)) → Each (Shut text) (places_in (in_literal o) (tree (spread_at p) (argument b) end))
+  rest_shut o p b g k h =
       let y = b.source in
       let ws = places_in (in_literal false) (argument b) in
       let vs = argument_places o (argument b) in
       let rs = Rest (record { start = p.from; end = p.to }) ∷ [] in
-      all_of (Shut text) (ws ++ (vs ++ rs)) [] (all_of (Shut text) ws (vs ++ rs) (all_of (Shut text) (places_of false y.label y.slots (places_in (within y.label.kind) y.slots)) [] y.closed tt) (all_of (Shut text) vs rs h (k, tt))) tt
+      all_of (Shut text) (ws ++ (vs ++ rs)) [] (all_of (Shut text) ws (vs ++ rs) (all_of (Shut text) (places_of false y.label y.slots (places_in (within y.label.kind) y.slots)) [] (y.closed g) tt) (all_of (Shut text) vs rs h (k, tt))) tt
 
-  rest_last : {f : Flags} {ts : Slots} {i j : ℕ} {x : Lexeme} {ls rest : Lexemes} → IsTrue (seen (is Dot3) x) → Closed text j → Bare f ts end x.to ls j rest → Last false (literal_last f) (tree (record { kind = assignment_target_rest; op = no_op; flags = 0; span = record { from = x.from; to = j } }) ts end) i (next x ls) j rest
+  rest_last : {f : Flags} {ts : Slots} {i j : ℕ} {x : Lexeme} {ls rest : Lexemes} → IsTrue (seen (is Dot3) x) → Closed text j → Bare f ts end x.to ls j rest → Last false (literal_items f) (tree (record { kind = assignment_target_rest; op = no_op; flags = 0; span = record { from = x.from; to = j } }) ts end) i (next x ls) j rest
   unfolding rule rule_of
   rest_last {j = j} {x} q k b = record {
     slots = tree (record { kind = spread_element; op = no_op; flags = 0; span = record { from = x.from; to = j } }) (argument b) end;
-    derived = is_left (is_such (is_right (is_node (is_seq (is_lexeme q) (is_such (b.source).derived refl)))) refl);
+    derived = is_seq (is_many (is_right is_nothing)) (is_left (is_such (is_right (is_node (is_seq (is_lexeme q) (is_such (b.source).derived refl)))) refl));
     covers = rest_covers false (record { from = x.from; to = j }) b;
-    closed = rest_shut false (record { from = x.from; to = j }) b k tt;
+    closed = λ g. rest_shut false (record { from = x.from; to = j }) b g k tt;
+  }
+
+  -- where targets are wide, with a comma behind it
+  rest_with_comma : {f : Flags} {ts : Slots} {i j : ℕ} {x y : Lexeme} {ls rest : Lexemes} → wide ≡ true → IsTrue (seen (is Dot3) x) → IsTrue (seen (is Comma) y) → Bare f ts end x.to ls j (next y rest) → Last false (literal_items f) (tree (record { kind = assignment_target_rest; op = no_op; flags = 0; span = record { from = x.from; to = j } }) ts end) i (next x ls) y.to rest
+  unfolding rule rule_of
+  rest_with_comma {f} {j = j} {x} h q c b = record {
+    slots = tree (record { kind = spread_element; op = no_op; flags = 0; span = record { from = x.from; to = j } }) (argument b) end;
+    derived = more_items f (is_right (is_seq (is_such (is_right (is_node (is_seq (is_lexeme q) (is_such (b.source).derived refl)))) refl) (is_lexeme c))) (is_seq (is_many (is_right is_nothing)) (is_right (is_right is_nothing)));
+    covers = rest_covers false (record { from = x.from; to = j }) b;
+    closed = λ g. absurd (false≢true (sym g ∙ h));
   }
 
   no_argument_shut : (l : Label) (cs : Slots) → is_literal l.kind ≡ false → Each (Shut text) (argument_places true (tree l cs end))
   no_argument_shut l cs h = rw h tt
 
-  rest_property : {f : Flags} {ts : Slots} {i j : ℕ} {x : Lexeme} {ls rest : Lexemes} → IsTrue (seen (is Dot3) x) → Closed text j → (b : Bare f ts end x.to ls j rest) → is_literal (b.source).label.kind ≡ false → Last true (properties f) (tree (record { kind = assignment_target_rest; op = no_op; flags = 0; span = record { from = x.from; to = j } }) ts end) i (next x ls) j rest
+  rest_property : {f : Flags} {ts : Slots} {i j : ℕ} {x : Lexeme} {ls rest : Lexemes} → IsTrue (seen (is Dot3) x) → Closed text j → (b : Bare f ts end x.to ls j rest) → (wide ≡ false → is_literal (b.source).label.kind ≡ false) → Last true (properties f) (tree (record { kind = assignment_target_rest; op = no_op; flags = 0; span = record { from = x.from; to = j } }) ts end) i (next x ls) j rest
   unfolding rule rule_of
   rest_property {j = j} {x} q k b h = record {
     slots = tree (record { kind = spread_element; op = no_op; flags = 0; span = record { from = x.from; to = j } }) (argument b) end;
     derived = is_left (is_commas (is_seq (is_such (is_right (is_right (is_node (is_seq (is_lexeme q) (is_such (b.source).derived refl))))) refl) (is_right is_nothing)));
     covers = rest_covers true (record { from = x.from; to = j }) b;
-    closed = rest_shut true (record { from = x.from; to = j }) b k (no_argument_shut (b.source).label (b.source).slots h);
+    closed = λ g. rest_shut true (record { from = x.from; to = j }) b g k (no_argument_shut (b.source).label (b.source).slots (h g));
   }
 
   -- ---- properties
@@ -266,12 +298,21 @@ module _ (text : List ℕ) where
   property_on d q (is_left e) = is_left (is_commas (is_seq (is_such d refl) (is_left (is_seq (is_lexeme q) (is_left e)))))
   property_on d q (is_right is_nothing) = is_left (is_commas (is_seq (is_such d refl) (is_left (is_seq (is_lexeme q) (is_right is_nothing)))))
 
+  rest_property_with_comma : {f : Flags} {ts : Slots} {i j : ℕ} {x y : Lexeme} {ls rest : Lexemes} → wide ≡ true → IsTrue (seen (is Dot3) x) → IsTrue (seen (is Comma) y) → Bare f ts end x.to ls j (next y rest) → Last true (properties f) (tree (record { kind = assignment_target_rest; op = no_op; flags = 0; span = record { from = x.from; to = j } }) ts end) i (next x ls) y.to rest
+  unfolding rule rule_of
+  rest_property_with_comma {j = j} {x} h q c b = record {
+    slots = tree (record { kind = spread_element; op = no_op; flags = 0; span = record { from = x.from; to = j } }) (argument b) end;
+    derived = property_on (is_right (is_right (is_node (is_seq (is_lexeme q) (is_such (b.source).derived refl))))) c (is_right is_nothing);
+    covers = rest_covers true (record { from = x.from; to = j }) b;
+    closed = λ g. absurd (false≢true (sym g ∙ h));
+  }
+
   one_property : {f : Flags} {ts us : Slots} {i j k : ℕ} {x : Lexeme} {ls mid rest : Lexemes} → Source true (at Property f) ts us i ls j (next x mid) → IsTrue (seen (is Comma) x) → Last true (properties f) us x.to mid k rest → Last true (properties f) ts i ls k rest
   one_property {us = us} y q z = record {
     slots = tree y.label y.slots z.slots;
     derived = property_on y.derived q z.derived;
     covers = before_by true y.label y.slots z.slots us _ z.covers (y.covers us ∙ ap Some (sym y.is_tree));
-    closed = all_of (Shut text) (places_of true y.label y.slots (places_in (within y.label.kind) y.slots)) (places_in (in_literal true) z.slots) y.closed z.closed;
+    closed = λ g. all_of (Shut text) (places_of true y.label y.slots (places_in (within y.label.kind) y.slots)) (places_in (in_literal true) z.slots) (y.closed g) (z.closed g);
   }
 
   property_alone : {f : Flags} {ts : Slots} {i j : ℕ} {ls rest : Lexemes} → Source true (at Property f) ts end i ls j rest → Last true (properties f) ts i ls j rest
@@ -279,11 +320,11 @@ module _ (text : List ℕ) where
     slots = tree y.label y.slots end;
     derived = is_left (is_commas (is_seq (is_such y.derived refl) (is_right is_nothing)));
     covers = y.covers end ∙ ap Some (sym y.is_tree);
-    closed = all_of (Shut text) (places_of true y.label y.slots (places_in (within y.label.kind) y.slots)) [] y.closed tt;
+    closed = λ g. all_of (Shut text) (places_of true y.label y.slots (places_in (within y.label.kind) y.slots)) [] (y.closed g) tt;
   }
 
   no_property : {f : Flags} {i : ℕ} {ls : Lexemes} → Last true (properties f) end i ls i ls
-  no_property = record { slots = end; derived = is_right is_nothing; covers = refl; closed = tt }
+  no_property = record { slots = end; derived = is_right is_nothing; covers = refl; closed = λ g. tt }
 
   -- a name alone, with an initialiser or without one
   shorthand_source : (f : Flags) → f.cover ≡ true → {cs us : Slots} {i j : ℕ} {ls rest : Lexemes} → Takes rule (symbol IdentifierReference f ▸ slot (symbol Init (plus_in f))) end cs i ls end j rest → Source true (at Property f) (tree (record { kind = assignment_target_property_identifier; op = no_op; flags = 0; span = record { from = (here ls).from; to = j } }) cs us) us i ls j rest
@@ -296,7 +337,7 @@ module _ (text : List ℕ) where
     is_tree = refl;
     derived = is_left (is_node (is_seq (is_ahead (is_such (is_node (is_lexeme (bound_word x.kind (not (same_kind Yield x.kind && f.yield_)) (not (same_kind Await x.kind && f.await_)) t))) refl)) (is_seq (is_such (is_node (is_lexeme t)) refl) (is_left (is_when v (is_such d refl))))));
     covers = λ vs. refl;
-    closed = tt;
+    closed = λ g. tt;
   }
   shorthand_source f v {j = j} {ls = ls} (is_seq (is_such (is_node (is_lexeme {x = x} t)) h) (is_right is_empty_slot)) = record {
     label = property_label init shorthand_flag ls j;
@@ -306,7 +347,7 @@ module _ (text : List ℕ) where
     is_tree = refl;
     derived = is_left (is_node (is_seq (is_ahead (is_such (is_node (is_lexeme (bound_word x.kind (not (same_kind Yield x.kind && f.yield_)) (not (same_kind Await x.kind && f.await_)) t))) refl)) (is_seq (is_such (is_node (is_lexeme t)) refl) (is_right is_nothing))));
     covers = λ vs. refl;
-    closed = tt;
+    closed = λ g. tt;
   }
 
   -- a name and a target
@@ -328,7 +369,7 @@ module _ (text : List ℕ) where
         is_tree = ap (λ (v : Slots). tree (value_label false ls k) v us) (z.is ∙ ap (λ (v : Slots). tree z.label z.slots v) y.is_tree);
         derived = is_right (is_left (is_left (is_left (is_node (is_seq (z.derived (tree y.label y.slots end)) (is_seq (is_lexeme q) (is_such y.derived refl)))))));
         covers = λ vs. ap (λ (r : Option Slots). named_before (property_label init 0 ls k) z.label z.slots y.label y.slots r vs) (y.covers end);
-        closed = all_of (Shut text) (places_of false y.label y.slots (places_in (within y.label.kind) y.slots)) [] y.closed tt;
+        closed = λ g. all_of (Shut text) (places_of false y.label y.slots (places_in (within y.label.kind) y.slots)) [] (y.closed g) tt;
       }
   value_source f true {us = us} {k = k} {ls = ls} n q y =
       let z = named true f n in
@@ -340,7 +381,7 @@ module _ (text : List ℕ) where
         is_tree = ap (λ (v : Slots). tree (value_label true ls k) v us) (z.is ∙ ap (λ (v : Slots). tree z.label z.slots v) y.is_tree);
         derived = is_right (is_left (is_right (is_left (is_node (is_seq (z.derived (tree y.label y.slots end)) (is_seq (is_lexeme q) (is_such y.derived refl)))))));
         covers = λ vs. ap (λ (r : Option Slots). named_before (property_label init 4 ls k) z.label z.slots y.label y.slots r vs) (y.covers end);
-        closed = all_of (Shut text) (places_of false y.label y.slots (places_in (within y.label.kind) y.slots)) [] y.closed tt;
+        closed = λ g. all_of (Shut text) (places_of false y.label y.slots (places_in (within y.label.kind) y.slots)) [] (y.closed g) tt;
       }
 
   -- ---- the law
@@ -358,57 +399,40 @@ module _ (text : List ℕ) where
   abbrev UpTo : Flags → ℕ → Type 0
   UpTo f n = (l : Label) (cs us : Slots) (i j : ℕ) (ls rest : Lexemes) (d : Takes rule (rule (at Target f)) end (tree l cs end) i ls end j rest) → deep d < n → Lexes (Lex text) i ls → Bare f (tree l cs us) us i ls j rest
 
-  module _ (f : Flags) (w : f.wide ≡ false) (v : f.cover ≡ true) where
+  module _ (f : Flags) (w : f.wide ≡ wide) (v : f.cover ≡ true) where
     module _ {n : ℕ} (up : UpTo f n) where
       element_back : {l : Label} {cs us : Slots} {i j : ℕ} {ls rest : Lexemes} (d : Takes rule (rule (at TargetElement f)) end (tree l cs end) i ls end j rest) → deep d < n → Lexes (Lex text) i ls → Source false (at Assignment (plus_in f)) (tree l cs us) us i ls j rest
       unfolding rule rule_of
       element_back (is_left (is_such d h)) o c = (up _ _ _ _ _ _ _ d (omega arith) c).source
-      element_back (is_right (is_left (is_when z (is_node d)))) o c = with_initialiser f d
-      element_back (is_right (is_right d)) o c = absurd (no_other f w (PlusEq ∷ MinusEq ∷ StarEq ∷ SlashEq ∷ PercentEq ∷ ShiftLeftEq ∷ ShiftRightEq ∷ ShiftRight3Eq ∷ PipeEq ∷ CaretEq ∷ AmpEq ∷ Amp2Eq ∷ Pipe2Eq ∷ Question2Eq ∷ Star2Eq ∷ []) refl d)
+      element_back (is_right (is_left (is_node d))) o c = with_initialiser f d
+      element_back (is_right (is_right (is_when z d))) o c = other_source f (sym w ∙ z) d
 
-      many_back : {ks ts us : Slots} {i j : ℕ} {ls rest : Lexemes} (d : Takes rule (many (target_step f)) ks ts i ls us j rest) → deep d < n → Lexes (Lex text) i ls → Sources (many (literal_step f)) ts us i ls j rest
-      many_back (is_many (is_right is_nothing)) o c = record { trees = λ vs. vs; derived = λ vs. is_many (is_right is_nothing); covers = λ vs h. h; closed = λ vs h. h }
-      many_back (is_many (is_left (is_seq (is_left (is_seq is_empty_slot (is_lexeme {x = z} q))) m))) o c =
-          let x = many_back m (omega arith) c.1 in
-          record {
-            trees = λ vs. tree (gap_label z) end (x.trees vs);
-            derived = λ vs. is_many (is_left (is_seq (is_left (is_node (is_lexeme q))) (x.derived vs)));
-            covers = λ vs h. ap (λ (r : Option Slots). before_all (gap_label z) end (Some end) r) (x.covers vs h);
-            closed = λ vs h. x.closed vs h;
-          }
-      many_back (is_many (is_left (is_seq (is_right (is_seq (is_such d h) (is_lexeme q))) m))) o c =
-          let b = lexed_behind (Lex text) d c in
-          let x = many_back m (omega arith) b.1 in
-          let y = source_item q (as_argument f (element_back d (omega arith) c)) in
-          record {
-            trees = λ vs. y.trees (x.trees vs);
-            derived = λ vs. is_many (is_left (is_seq (is_right (y.derived (x.trees vs))) (x.derived vs)));
-            covers = λ vs h. y.covers (x.trees vs) (x.covers vs h);
-            closed = λ vs h. y.closed (x.trees vs) (x.closed vs h);
-          }
+      many_back : {ts us : Slots} {i j k : ℕ} {ls mid rest : Lexemes} (d : Takes rule (many (target_step f)) end ts i ls us j mid) → deep d < n → Lexes (Lex text) i ls → Last false (literal_items f) us j mid k rest → Last false (literal_items f) ts i ls k rest
+      many_back (is_many (is_right is_nothing)) o c y = y
+      many_back (is_many (is_left (is_seq (is_left (is_seq is_empty_slot (is_lexeme q))) m))) o c y = gap_before q (many_back m (omega arith) c.1 y)
+      many_back (is_many (is_left (is_seq (is_right (is_seq (is_such d h) (is_lexeme q))) m))) o c y = let b = lexed_behind (Lex text) d c in item_before q (as_argument f (element_back d (omega arith) c)) (many_back m (omega arith) b.1 y)
 
-      last_back : {ks ts : Slots} {i j : ℕ} {ls rest : Lexemes} (d : Takes rule (target_last f) ks ts i ls end j rest) → deep d < n → Lexes (Lex text) i ls → Closed text j → Last false (literal_last f) ts i ls j rest
+      last_back : {ts : Slots} {i j : ℕ} {ls rest : Lexemes} (d : Takes rule (target_last f) end ts i ls end j rest) → deep d < n → Lexes (Lex text) i ls → Closed text j → Last false (literal_items f) ts i ls j rest
       last_back (is_left (is_such d h)) o c k = last_item (as_argument f (element_back d (omega arith) c))
       last_back (is_right (is_left (is_seq (is_node (is_seq (is_lexeme q) (is_such d h))) (is_right is_nothing)))) o c k = rest_last q k (up _ _ _ _ _ _ _ d (omega arith) c.1)
-      last_back (is_right (is_left (is_seq (is_node r) (is_left (is_when z y))))) o c k = absurd (false≢true (sym w ∙ z))
-      last_back (is_right (is_right is_nothing)) o c k = record { slots = end; derived = is_right (is_right is_nothing); covers = refl; closed = tt }
+      last_back (is_right (is_left (is_seq (is_node (is_seq (is_lexeme q) (is_such d h))) (is_left (is_when z (is_lexeme p)))))) o c k = rest_with_comma (sym w ∙ z) q p (up _ _ _ _ _ _ _ d (omega arith) c.1)
+      last_back (is_right (is_right is_nothing)) o c k = no_item
 
       array_at : {ts us : Slots} {i j : ℕ} {ls rest : Lexemes} (d : Takes rule (rule (at ArrayTarget f)) end ts i ls us j rest) → deep d < n → Lexes (Lex text) i ls → Literal false f ts us i ls j rest
       unfolding rule rule_of
       array_at (is_node (is_seq (is_lexeme q) (is_seq (is_seq m l) (is_lexeme p)))) o c =
           let b = lexed_behind (Lex text) m c.1 in
           let g = lexed_behind (Lex text) l b in
-          let y = last_back l (omega arith) b (bracket_behind _ p g) in
-          let x = many_back m (omega arith) c.1 in
+          let y = many_back m (omega arith) c.1 (last_back l (omega arith) b (bracket_behind _ p g)) in
           record {
             label = _;
-            slots = x.trees y.slots;
+            slots = y.slots;
             inside = _;
             kind = refl;
             is_tree = refl;
-            covers = x.covers y.slots y.covers;
-            closed = x.closed y.slots y.closed;
-            derived = by_brackets (is_node (is_seq (is_lexeme q) (is_seq (is_seq (x.derived y.slots) y.derived) (is_lexeme p))));
+            covers = y.covers;
+            closed = y.closed;
+            derived = by_brackets (is_node (is_seq (is_lexeme q) (is_seq y.derived (is_lexeme p))));
           }
 
       property_back : {l : Label} {cs us : Slots} {i j : ℕ} {ls rest : Lexemes} (d : Takes rule (rule (at TargetProperty f)) end (tree l cs end) i ls end j rest) → deep d < n → Lexes (Lex text) i ls → Source true (at Property f) (tree l cs us) us i ls j rest
@@ -422,12 +446,17 @@ module _ (text : List ℕ) where
       properties_back (is_many (is_left (is_seq (is_left z) m))) o c y = elim z [ ]
       properties_back (is_many (is_left (is_seq (is_right (is_seq (is_such d h) (is_lexeme q))) m))) o c y = let b = lexed_behind (Lex text) d c in one_property (property_back d (omega arith) c) q (properties_back m (omega arith) b.1 y)
 
-      last_property_back : {ts : Slots} {i j : ℕ} {ls rest : Lexemes} (d : Takes rule (last_property f) end ts i ls end j rest) → deep d < n → Lexes (Lex text) i ls → Closed text j → Last true (properties f) ts i ls j rest
-      unfolding simple_bare
+      -- what is left of the properties, a literal among it where targets are wide
+      left_back : {ts : Slots} {i j : ℕ} {ls rest : Lexemes} (d : Takes rule (left_line f) end ts i ls end j rest) → 3 + deep d < n → Lexes (Lex text) i ls → (b : Bare f ts end i ls j rest) × (wide ≡ false → is_literal (b.source).label.kind ≡ false)
+      unfolding rule rule_of simple_bare
+      left_back (is_left (is_such {l = l} {cs = cs} d h)) o c = let x = target_left_hand_side (record { label = l; slots = cs }) d in (simple_bare f (record { label = l; slots = cs }) d, λ g. target_no_literal x.label x.slots (record { label = l; slots = cs }) x.has)
+      left_back (is_right (is_when z (is_left (is_such d h)))) o c = (up _ _ _ _ _ _ _ (is_right (is_left (is_such d h))) (omega arith) c, λ g. absurd (false≢true (sym g ∙ (sym w ∙ z))))
+      left_back (is_right (is_when z (is_right (is_such d h)))) o c = (up _ _ _ _ _ _ _ (is_right (is_right (is_such d h))) (omega arith) c, λ g. absurd (false≢true (sym g ∙ (sym w ∙ z))))
+
+      last_property_back : {ts : Slots} {i j : ℕ} {ls rest : Lexemes} (d : Takes rule (last_property f) end ts i ls end j rest) → 2 + deep d < n → Lexes (Lex text) i ls → Closed text j → Last true (properties f) ts i ls j rest
       last_property_back (is_left (is_such d h)) o c k = property_alone (property_back d (omega arith) c)
-      last_property_back (is_right (is_left (is_seq (is_node (is_seq (is_lexeme q) (is_left (is_such {l = l} {cs = cs} d h)))) (is_right is_nothing)))) o c k = let x = target_left_hand_side (record { label = l; slots = cs }) d in rest_property q k (simple_bare f (record { label = l; slots = cs }) d) (target_no_literal x.label x.slots (record { label = l; slots = cs }) x.has)
-      last_property_back (is_right (is_left (is_seq (is_node (is_seq (is_lexeme q) (is_right (is_when z d)))) r))) o c k = absurd (false≢true (sym w ∙ z))
-      last_property_back (is_right (is_left (is_seq r (is_left (is_when z d))))) o c k = absurd (false≢true (sym w ∙ z))
+      last_property_back (is_right (is_left (is_seq (is_node (is_seq (is_lexeme q) d)) (is_right is_nothing)))) o c k = let b = left_back d (omega arith) c.1 in rest_property q k b.0 b.1
+      last_property_back (is_right (is_left (is_seq (is_node (is_seq (is_lexeme q) d)) (is_left (is_when z (is_lexeme p)))))) o c k = rest_property_with_comma (sym w ∙ z) q p (left_back d (omega arith) c.1).0
       last_property_back (is_right (is_right is_nothing)) o c k = no_property
 
       object_at : {ts us : Slots} {i j : ℕ} {ls rest : Lexemes} (d : Takes rule (rule (at ObjectTarget f)) end ts i ls us j rest) → deep d < n → Lexes (Lex text) i ls → Literal true f ts us i ls j rest

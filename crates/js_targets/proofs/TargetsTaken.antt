@@ -26,7 +26,7 @@ use Rattle.js_tree.proofs.HoldingLemmas.{Keeps-trans, Keeps-longer}
 use Rattle.js_cursor.specs.Parsers.{Parser}
 use Rattle.js_cursor.specs.Places.{goal}
 use Rattle.js_cursor.specs.declared.stop.Stop.{Stop}
-use Rattle.js_parsing.specs.Answers.{Grown, Numbered, Stops, Stretch, Underived, Verdict, clean, unclean}
+use Rattle.js_parsing.specs.Answers.{Grown, Numbered, Stops, Stretch, Underived, Verdict, clean, unclean, wider}
 use Rattle.js_parsing.specs.Lexemes.{Lex, read_kinds, spot}
 use Rattle.js_parsing.specs.Stands.{StandsHere}
 use Rattle.js_targets.specs.Taken.{EndsTarget, PlacesTold, TargetTaken, behind_target, target_name, no_target_at, refusal_at}
@@ -39,7 +39,7 @@ use Rattle.js_parsing.specs.Told.{unrelated_at}
 use Rattle.js_targets.proofs.LiteralsAsTargets.{one_of_each}
 use Rattle.js_targets.proofs.PlacesTold.{spread_marked}
 use Rattle.js_targets.proofs.Refused.{literal_no_target}
-use Rattle.js_targets.proofs.ArraysBeforeSigns.{is_cover, not_wide}
+use Rattle.js_targets.proofs.ArraysBeforeSigns.{is_cover}
 use Rattle.js_targets.proofs.ArraysConverted.{signs, targets_follow, no_target_there, no_target_unread, target_there, ended_there, loose_there, spots_there, none_derived}
 use Rattle.js_targets.proofs.Assigned.{an_assign, assigns}
 use Rattle.js_targets.proofs.Refused.{no_target}
@@ -53,7 +53,7 @@ use Rattle.js_parsing.proofs.Signs.{none_kept, plain_of}
 use Rattle.js_targets.proofs.Refused.{refused}
 use Rattle.js_targets.proofs.ReusedNodes.{below_in}
 use Rattle.js_targets.proofs.Targets.{kind_of_literal, of_short}
-use Rattle.js_parsing.proofs.Verdicts.{and_then, either_way}
+use Rattle.js_parsing.proofs.Verdicts.{either_way, grown_both, grown_then}
 use Rattle.js_parsing.specs.Classes.{EndsParse}
 use Rattle.js_cursor.specs.Moves.{GivesUp}
 
@@ -86,6 +86,17 @@ assign_covered : (b : Bool) → covers an_assign (behind_target b) ≡ true
 unfolding covers
 assign_covered true = refl
 assign_covered false = refl
+
+-- What its places say of a target that a literal is: where targets are wide it is one whatever they are.
+with_places : {K : Type 0} {p q r : List K} {C B N X Y : Type 0} (b : Bool) → Verdict (b ≡ true) p q C B → Verdict ⊥ q r N (N → ⊥) → (C → (b ≡ true) ⊎ N → X) → (B → Y) → (C → b ≡ false → (N → ⊥) → Y) → Verdict (b ≡ true) p r X Y
+with_places {p = p} b (clean e c) (clean g n) t u w = clean (g ∙ e) (t c (inr n))
+with_places {p = p} b (unclean a d) (clean g n) t u w = unclean (subst (λ (ds : List _). Grown p ds) (sym g) a) (u d)
+with_places {p = p} b (wider i a c) (clean g n) t u w = wider i (subst (λ (ds : List _). Grown p ds) (sym g) a) (t c (inr n))
+with_places true (clean e c) (unclean g n) t u w = wider refl (grown_then e g) (t c (inl refl))
+with_places false (clean e c) (unclean g n) t u w = unclean (grown_then e g) (w c refl n)
+with_places b (unclean a d) (unclean g n) t u w = unclean (grown_both a g) (u d)
+with_places b (wider i a c) (unclean g n) t u w = wider i (grown_both a g) (t c (inl i))
+with_places b v (wider x g n) t u w = elim x [ ]
 
 pub assign_behind : (b : Bool) (y : Lexeme) → IsTrue (seen an_assign y) → IsTrue (seen (behind_target b) y)
 assign_behind b y h = covered an_assign (behind_target b) (assign_covered b) y.kind y.newline y.escaped h
@@ -152,11 +163,11 @@ module _ {text : List ℕ} {f : Flags} {p q : Parser} {left : NodeId} (a : At te
             within = (subst (λ (v : List ℕ). IsCharBoundary v q.prev_token_end) x.answer.at.text_is x.answer.at.at.between).0;
             begins_between = subst (λ (v : ℕ). IsCharBoundary text v) (sym d) (subst (λ (v : List ℕ). IsCharBoundary v p.token.span.start) a.text_is a.at.lies.starts_whole);
             ends_between = subst (λ (v : List ℕ). IsCharBoundary v q.prev_token_end) x.answer.at.text_is x.answer.at.at.between;
-            stands = (inr (underived_there x.answer a z y l f Target (record { start = start; end = q.prev_token_end }) d refl (λ t g. no_target f (λ t g. none_derived (not_wide a) (is_cover a) (is_object x.answer.label.kind) z shape e true y m sign_there.2 g) (λ t g. no_simple_there x.answer a z y l (of_short f) (literal_no_target x.answer.label x.answer.slots h) follows t g) (λ t g. none_derived (not_wide a) (is_cover a) (is_object x.answer.label.kind) z shape e false y m sign_there.2 g) t g)), (refl, refl));
+            stands = (inr (underived_there x.answer a z y l f Target (record { start = start; end = q.prev_token_end }) d refl (λ t g. no_target f (λ t g. none_derived (is_cover a) (is_object x.answer.label.kind) z shape e true y m sign_there.2 g) (λ t g. no_simple_there x.answer a z y l (of_short f) (literal_no_target x.answer.label x.answer.slots h) follows t g) (λ t g. none_derived (is_cover a) (is_object x.answer.label.kind) z shape e false y m sign_there.2 g) t g)), (refl, refl));
           }
 
   no_target_fails : elements_in (in_literal (is_object x.answer.label.kind)) x.answer.slots ≡ None → Fails rule (Lex text) (signs f) end (such (at (target_name (is_object x.answer.label.kind)) f) always) p.prev_token_end
-  no_target_fails e = either_way x.answer.verdict (λ z. no_target_there (not_wide a) (is_cover a) (is_object x.answer.label.kind) z shape (inl e)) (λ n. no_target_unread (is_object x.answer.label.kind) (not_wide a) (is_cover a) n)
+  no_target_fails e = either_way x.answer.verdict (λ z. no_target_there (is_cover a) (is_object x.answer.label.kind) z shape (inl e)) (λ n. no_target_unread (is_object x.answer.label.kind) (is_cover a) n)
 
   -- ---- behind the conversion
 
@@ -185,7 +196,7 @@ module _ {text : List ℕ} {f : Flags} {p q : Parser} {left : NodeId} (a : At te
         untargeted = subst (λ (z : Parser). Mark (goal z) z.text (no_target_at start z.prev_token_end)) (sym e1) (untargeted_marked (none_there v).1 start d m)
 
         spread : (s : Span) → IsIn (places_in (in_literal (is_object x.answer.label.kind)) x.answer.slots) (Rest s) → Mark (goal q1) q1.text (unrelated_at SpreadLastElement s)
-        spread s i = subst (λ (t : List ℕ). Mark (goal q1) t (unrelated_at SpreadLastElement s)) (sym text_is) (spread_marked (goal q1) s (one_of_each (Spotted text) (places_in (in_literal (is_object x.answer.label.kind)) x.answer.slots) (Rest s) i (spots_there (not_wide a) (is_cover a) (is_object x.answer.label.kind) (none_kept x.answer.verdict m) shape utf8_there reached_there between_there sign_there.0 sign_there.1)))
+        spread s i = subst (λ (t : List ℕ). Mark (goal q1) t (unrelated_at SpreadLastElement s)) (sym text_is) (spread_marked (goal q1) s (one_of_each (Spotted text) (places_in (in_literal (is_object x.answer.label.kind)) x.answer.slots) (Rest s) i (spots_there (is_cover a) (is_object x.answer.label.kind) (none_kept x.answer.verdict m) shape utf8_there reached_there between_there sign_there.0 sign_there.1)))
 
         by : (o : Option Span) → (o ≡ None) ⊎ ((s : Span) × (o ≡ Some s) × IsIn (places_in (in_literal (is_object x.answer.label.kind)) x.answer.slots) (Rest s)) → Mark (goal q1) q1.text (refusal_at start q1.prev_token_end o)
         by None b = untargeted
@@ -213,16 +224,16 @@ module _ {text : List ℕ} {f : Flags} {p q : Parser} {left : NodeId} (a : At te
 
       -- its places, where nothing was told
       pub places_fit : length q.errors ≡ length p.errors → Each (Fits q1.text) notes.places
-      places_fit n = subst (λ (t : List ℕ). Each (Fits t) notes.places) (sym told_text) (subst (λ (ws : List Widening). Each (Fits text) ws) (sym places_are) (ended_there (not_wide a) (is_cover a) (is_object x.answer.label.kind) (none_kept x.answer.verdict n) shape parts.0 parts.1 utf8_there reached_there between_there sign_there.0 sign_there.1))
+      places_fit n = subst (λ (t : List ℕ). Each (Fits t) notes.places) (sym told_text) (subst (λ (ws : List Widening). Each (Fits text) ws) (sym places_are) (ended_there (is_cover a) (is_object x.answer.label.kind) (none_kept x.answer.verdict n) shape parts.0 parts.1 utf8_there reached_there between_there sign_there.0 sign_there.1))
 
       pub places_spotted : length q.errors ≡ length p.errors → Each (Spotted q1.text) notes.places
-      places_spotted n = subst (λ (t : List ℕ). Each (Spotted t) notes.places) (sym told_text) (subst (λ (ws : List Widening). Each (Spotted text) ws) (sym places_are) (spots_there (not_wide a) (is_cover a) (is_object x.answer.label.kind) (none_kept x.answer.verdict n) shape utf8_there reached_there between_there sign_there.0 sign_there.1))
+      places_spotted n = subst (λ (t : List ℕ). Each (Spotted t) notes.places) (sym told_text) (subst (λ (ws : List Widening). Each (Spotted text) ws) (sym places_are) (spots_there (is_cover a) (is_object x.answer.label.kind) (none_kept x.answer.verdict n) shape utf8_there reached_there between_there sign_there.0 sign_there.1))
 
       target_held : Holds q1.nodes (length p.nodes) (length q1.nodes) target.0 (relabelled (pattern_kind (is_object x.answer.label.kind)) x.answer.label) parts.0
       target_held = held_of (x.holds).within (Keeps-longer x.keeps) (Keeps-longer made.keeps) (subst (λ (ts : Slots). Slotted q.nodes q1.nodes (x.holds).numbers (Some target ∷ []) ts) parts.2 made.slotted)
 
       -- with a verdict of the state behind
-      taken : {r : Parser} → r ≡ record q1 { errors = r.errors } → At text f r → Same q1 r → Verdict p.errors r.errors (Stretch text (signs f) (such (at (target_name (is_object x.answer.label.kind)) f) always) p.prev_token_end nothing q.prev_token_end (tree (relabelled (pattern_kind (is_object x.answer.label.kind)) x.answer.label) parts.0) x.answer.pass) (Fails rule (Lex text) (signs f) end (such (at (target_name (is_object x.answer.label.kind)) f) always) p.prev_token_end) → TargetTaken (is_object x.answer.label.kind) text f p q r target
+      taken : {r : Parser} → r ≡ record q1 { errors = r.errors } → At text f r → Same q1 r → Verdict (f.wide ≡ true) p.errors r.errors (Stretch text (signs f) (such (at (target_name (is_object x.answer.label.kind)) f) always) p.prev_token_end nothing q.prev_token_end (tree (relabelled (pattern_kind (is_object x.answer.label.kind)) x.answer.label) parts.0) x.answer.pass) (Fails rule (Lex text) (signs f) end (such (at (target_name (is_object x.answer.label.kind)) f) always) p.prev_token_end) → TargetTaken (is_object x.answer.label.kind) text f p q r target
       taken {r} e b s g =
           let place : r.prev_token_end ≡ q.prev_token_end = ap (λ (z : Parser). z.prev_token_end) e ∙ ap (λ (z : Parser). z.prev_token_end) e1 in
           let same : Same p q1 = subst (λ (z : Parser). Same p z) (sym e1) (same_with q1.nodes x.answer.same (Keeps-trans x.keeps made.keeps) (λ b h. made.lies q.text h)) in
@@ -237,24 +248,25 @@ module _ {text : List ℕ} {f : Flags} {p q : Parser} {left : NodeId} (a : At te
             slots = parts.0;
             pass = x.answer.pass;
             walked = walked_to (sym (ap spot e ∙ ap spot e1)) x.answer.walked;
-            loosely = λ n y l. subst (λ (v : ℕ). Derives rule (at (target_name (is_object x.answer.label.kind)) (loose f)) (record { label = relabelled (pattern_kind (is_object x.answer.label.kind)) x.answer.label; slots = parts.0 }) p.prev_token_end (x.answer.pass (last y)) v (last y)) (sym place) (loose_there (not_wide a) (is_cover a) (is_object x.answer.label.kind) (none_kept x.answer.verdict n) shape parts.0 parts.1 utf8_there reached_there between_there y (subst (λ (v : ℕ). Lex text v y) place l));
-            verdict = subst (λ (v : ℕ). Verdict p.errors r.errors (Stretch text (signs f) (such (at (target_name (is_object x.answer.label.kind)) f) always) p.prev_token_end nothing v (tree (relabelled (pattern_kind (is_object x.answer.label.kind)) x.answer.label) parts.0) x.answer.pass) (Fails rule (Lex text) (signs f) end (such (at (target_name (is_object x.answer.label.kind)) f) always) p.prev_token_end)) (sym place) g;
+            loosely = λ n y l. subst (λ (v : ℕ). Derives rule (at (target_name (is_object x.answer.label.kind)) (loose f)) (record { label = relabelled (pattern_kind (is_object x.answer.label.kind)) x.answer.label; slots = parts.0 }) p.prev_token_end (x.answer.pass (last y)) v (last y)) (sym place) (loose_there (is_cover a) (is_object x.answer.label.kind) (none_kept x.answer.verdict n) shape parts.0 parts.1 utf8_there reached_there between_there y (subst (λ (v : ℕ). Lex text v y) place l));
+            verdict = subst (λ (v : ℕ). Verdict (f.wide ≡ true) p.errors r.errors (Stretch text (signs f) (such (at (target_name (is_object x.answer.label.kind)) f) always) p.prev_token_end nothing v (tree (relabelled (pattern_kind (is_object x.answer.label.kind)) x.answer.label) parts.0) x.answer.pass) (Fails rule (Lex text) (signs f) end (such (at (target_name (is_object x.answer.label.kind)) f) always) p.prev_token_end)) (sym place) g;
             holds = subst (λ (ns : List Node). Holds ns (length p.nodes) (length ns) target.0 (relabelled (pattern_kind (is_object x.answer.label.kind)) x.answer.label) parts.0) (sym nodes) target_held;
             keeps = subst (λ (ns : List Node). Keeps p.nodes ns) (sym nodes) (Keeps-trans x.keeps made.keeps);
           }
 
       -- its places were looked at
       pub taken_told : {r : Parser} → PlacesTold notes.places q1 r → TargetTaken (is_object x.answer.label.kind) text f p q r target
-      taken_told {r} t = taken t.is (t.at text f (converted_at e1)) t.same (and_then x.answer.verdict (subst (λ (ds : List Diagnostic). Verdict ds r.errors (Each (Narrow text) (places_in (in_literal (is_object x.answer.label.kind)) x.answer.slots)) (Each (Narrow text) (places_in (in_literal (is_object x.answer.label.kind)) x.answer.slots) → ⊥)) (ap (λ (z : Parser). z.errors) e1) it)
-          (λ z o. target_there (not_wide a) (is_cover a) (is_object x.answer.label.kind) z shape parts.0 parts.1 utf8_there reached_there between_there o) (λ n. no_target_unread (is_object x.answer.label.kind) (not_wide a) (is_cover a) n) (λ z n. no_target_there (not_wide a) (is_cover a) (is_object x.answer.label.kind) z shape (inr n)))
+      taken_told {r} t = taken t.is (t.at text f (converted_at e1)) t.same (with_places f.wide x.answer.verdict (subst (λ (ds : List Diagnostic). Verdict ⊥ ds r.errors (Each (Narrow text) (places_in (in_literal (is_object x.answer.label.kind)) x.answer.slots)) (Each (Narrow text) (places_in (in_literal (is_object x.answer.label.kind)) x.answer.slots) → ⊥)) (ap (λ (z : Parser). z.errors) e1) it)
+          (λ z o. target_there (is_cover a) (is_object x.answer.label.kind) z shape parts.0 parts.1 utf8_there reached_there between_there o) (λ n. no_target_unread (is_object x.answer.label.kind) (is_cover a) n) (λ z w n. no_target_there (is_cover a) (is_object x.answer.label.kind) z shape (inr (w, n))))
         where
-          it : Verdict q1.errors r.errors (Each (Narrow text) (places_in (in_literal (is_object x.answer.label.kind)) x.answer.slots)) (Each (Narrow text) (places_in (in_literal (is_object x.answer.label.kind)) x.answer.slots) → ⊥)
-          it = subst (λ (ws : List Widening). Verdict q1.errors r.errors (Each (Narrow text) ws) (Each (Narrow text) ws → ⊥)) places_are (subst (λ (v : List ℕ). Verdict q1.errors r.errors (Each (Narrow v) notes.places) (Each (Narrow v) notes.places → ⊥)) told_text t.verdict)
+          it : Verdict ⊥ q1.errors r.errors (Each (Narrow text) (places_in (in_literal (is_object x.answer.label.kind)) x.answer.slots)) (Each (Narrow text) (places_in (in_literal (is_object x.answer.label.kind)) x.answer.slots) → ⊥)
+          it = subst (λ (ws : List Widening). Verdict ⊥ q1.errors r.errors (Each (Narrow text) ws) (Each (Narrow text) ws → ⊥)) places_are (subst (λ (v : List ℕ). Verdict ⊥ q1.errors r.errors (Each (Narrow v) notes.places) (Each (Narrow v) notes.places → ⊥)) told_text t.verdict)
 
       -- a diagnostic was kept before
       pub taken_kept : (length q1.errors ≡ length p.errors → ⊥) → TargetTaken (is_object x.answer.label.kind) text f p q q1 target
       taken_kept n = taken refl (converted_at e1) same_itself (by x.answer.verdict)
         where
-          by : Verdict p.errors q.errors (Stretch text (after (at Short f)) (such (at Short f) always) p.prev_token_end nothing q.prev_token_end (tree x.answer.label x.answer.slots) x.answer.pass) (Underived text (at Short f) p.prev_token_end) → Verdict p.errors q1.errors (Stretch text (signs f) (such (at (target_name (is_object x.answer.label.kind)) f) always) p.prev_token_end nothing q.prev_token_end (tree (relabelled (pattern_kind (is_object x.answer.label.kind)) x.answer.label) parts.0) x.answer.pass) (Fails rule (Lex text) (signs f) end (such (at (target_name (is_object x.answer.label.kind)) f) always) p.prev_token_end)
+          by : Verdict (f.wide ≡ true) p.errors q.errors (Stretch text (after (at Short f)) (such (at Short f) always) p.prev_token_end nothing q.prev_token_end (tree x.answer.label x.answer.slots) x.answer.pass) (Underived text (at Short f) p.prev_token_end) → Verdict (f.wide ≡ true) p.errors q1.errors (Stretch text (signs f) (such (at (target_name (is_object x.answer.label.kind)) f) always) p.prev_token_end nothing q.prev_token_end (tree (relabelled (pattern_kind (is_object x.answer.label.kind)) x.answer.label) parts.0) x.answer.pass) (Fails rule (Lex text) (signs f) end (such (at (target_name (is_object x.answer.label.kind)) f) always) p.prev_token_end)
           by (clean g z) = absurd (n (ap (λ (w : Parser). length w.errors) e1 ∙ ap length g))
-          by (unclean g u) = unclean (subst (λ (ds : List Diagnostic). Grown p.errors ds) (sym (ap (λ (z : Parser). z.errors) e1)) g) (no_target_unread (is_object x.answer.label.kind) (not_wide a) (is_cover a) u)
+          by (unclean g u) = unclean (subst (λ (ds : List Diagnostic). Grown p.errors ds) (sym (ap (λ (z : Parser). z.errors) e1)) g) (no_target_unread (is_object x.answer.label.kind) (is_cover a) u)
+          by (wider w g z) = wider w (subst (λ (ds : List Diagnostic). Grown p.errors ds) (sym (ap (λ (z : Parser). z.errors) e1)) g) (target_there (is_cover a) (is_object x.answer.label.kind) z shape parts.0 parts.1 utf8_there reached_there between_there (inl w))

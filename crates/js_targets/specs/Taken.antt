@@ -76,7 +76,7 @@ pub record PlacesTold (places : List Widening) (old new : Parser) : Type 0 where
   pub at : (text : List ℕ) (f : Flags) → At text f old → At text f new
   pub same : Same old new
   pub is : new ≡ record old { errors = new.errors }
-  pub verdict : Verdict old.errors new.errors (Each (Narrow old.text) places) (Each (Narrow old.text) places → ⊥)
+  pub verdict : Verdict ⊥ old.errors new.errors (Each (Narrow old.text) places) (Each (Narrow old.text) places → ⊥)
 
 -- An array or object literal was read up to this state, by a call before which so many diagnostics were kept.
 pub record LiteralRead (start : ℕ) (id : NodeId) (kept : ℕ) (q : Parser) : Type 0 where
@@ -93,7 +93,7 @@ pub record LiteralRead (start : ℕ) (id : NodeId) (kept : ℕ) (q : Parser) : T
 abbrev pub target_name : Bool → Name
 target_name in_object = cond in_object ObjectTarget ArrayTarget
 
--- It was converted to a target, which is read from the state `first` on. Clean: it is the only one there; unclean: there is none. Where nothing was told while the literal was read, its lexemes derive this target in the wider form, in which a comma may stand behind a rest and another operator before an initialiser.
+-- It was converted to a target, which is read from the state `first` on. Clean: it is the only one there; unclean: there is none. In the wider form it may be the only one though something was told: a comma behind a rest, a literal as an object's rest, or another operator before an initialiser. Where nothing was told while the literal was read, its lexemes derive this target in the wider form, in which a comma may stand behind a rest and another operator before an initialiser.
 pub record TargetTaken (in_object : Bool) (text : List ℕ) (f : Flags) (first old new : Parser) (id : NodeId) : Type 0 where
   pub stands_at : At text f new
   pub same : Same first new
@@ -104,7 +104,7 @@ pub record TargetTaken (in_object : Bool) (text : List ℕ) (f : Flags) (first o
   pub slots : Slots
   pub pass : Lexemes → Lexemes
   pub walked : Walked text (spot first) (spot new) pass
-  pub verdict : Verdict first.errors new.errors (Stretch text (plain (behind_target f.in_)) (such (at (target_name in_object) f) always) first.prev_token_end nothing new.prev_token_end (tree label slots) pass) (Fails rule (Lex text) (plain (behind_target f.in_)) no_slots (such (at (target_name in_object) f) always) first.prev_token_end)
+  pub verdict : Verdict (f.wide ≡ true) first.errors new.errors (Stretch text (plain (behind_target f.in_)) (such (at (target_name in_object) f) always) first.prev_token_end nothing new.prev_token_end (tree label slots) pass) (Fails rule (Lex text) (plain (behind_target f.in_)) no_slots (such (at (target_name in_object) f) always) first.prev_token_end)
   pub loosely : length old.errors ≡ length first.errors → (y : Lexeme) → Lex text new.prev_token_end y → Derives rule (at (target_name in_object) (loose f)) (record { label = label; slots = slots }) first.prev_token_end (pass (last y)) new.prev_token_end (last y)
   pub holds : Holds new.nodes (length first.nodes) (length new.nodes) id.0 label slots
   pub keeps : KeepsNodes first.nodes new.nodes

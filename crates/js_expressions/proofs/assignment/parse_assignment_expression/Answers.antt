@@ -1,11 +1,11 @@
-use Rattle.js_expressions.proofs.HeadOperands.{head_stopped, operand_unmoved, refused_operand, told_none}
+use Rattle.js_expressions.proofs.HeadOperands.{head_stopped, operand_unmoved, refused, refused_operand, refused_so, told_none}
 use Rattle.std.proofs.Common.{arith, ap, inl, sym, ◌∙◌, length}
 use Rattle.std.proofs.lemmas.Bool.{false≢true}
 use Rattle.std.proofs.lemmas.Result.{err_from_is_err_and}
 use Rattle.std.specs.Prelude.{Ok, Err}
 use Rattle.js_tree.proofs.HoldingLemmas.{Holds-below}
 use Rattle.js_grammar.specs.Productions.{at, Assignment}
-use Rattle.js_expressions.proofs.Arrows.{before_at, before_further, before_same, from_unmoved, none_found, refused, refused_so, only_operand, some_found}
+use Rattle.js_expressions.proofs.Arrows.{before_at, before_further, before_same, from_unmoved, none_found, only_operand, some_found}
 use Rattle.js_parsing.proofs.Moving.{standing}
 use Rattle.js_parsing.proofs.Nesting.{nests_later, later_room}
 use Rattle.js_expressions.proofs.Yields.{yield_no_target}
@@ -70,13 +70,14 @@ parse_arrow_function_expression-requires-2-clause-start g c =
     let x = (c.in_ok-operand.ensures.answers _ _ (u.at _ _ c.requires.at)).answer.further in let b = u.start in let s = c.cur_start-start.ensures in omega arith
 
 pub parse_arrow_function_expression-requires-2-clause-arrow : goal.parse_arrow_function_expression-requires-2-clause-arrow
-parse_arrow_function_expression-requires-2-clause-arrow g c = (refused_so _ c.parse_assignment_without_arrow.new.p c.if-not-is_refused_head.false c.is_refused_head.ensures).1
+parse_arrow_function_expression-requires-2-clause-arrow g c = (refused_so _ _ c.parse_assignment_without_arrow.new.p c.if-not-is_refused_head.false c.is_refused_head.ensures).1
 
 pub returns-clause-answers : goal.returns-clause-answers
 returns-clause-answers g c = λ text f a.
     let u = (none_found _ c.parse_arrow_head.new.p _ c.in_default.is c.in_ok-head.ensures).0 in
     let x = from_unmoved text f (at Assignment f) _ (Ok _) u (c.in_ok-operand.ensures.answers text f (u.at text f a)) in
-    c.parse_arrow_function_expression-2.ensures.answers text f c.args.p.now a c.cur_start-start.ensures (refused x (λ e. (refused_so _ c.parse_assignment_without_arrow.new.p c.if-not-is_refused_head.false c.is_refused_head.ensures).0 (e ∙ sym (c.kept_so_far-kept.ensures ∙ ap length u.kept))))
+    let r = refused_so _ _ c.parse_assignment_without_arrow.new.p c.if-not-is_refused_head.false c.is_refused_head.ensures in
+    c.parse_arrow_function_expression-2.ensures.answers text f c.args.p.now a c.cur_start-start.ensures (refused x (λ e. r.0 (e ∙ sym (c.kept_so_far-kept.ensures ∙ ap length u.kept))) r.1 r.2)
 
 pub returns-in_err-head-clause-answers : goal.returns-in_err-head-clause-answers
 returns-in_err-head-clause-answers g c = λ text f a. let p = err_from_is_err_and c.from_residual.result c.from_residual.ensures.1 in rw (p.1, p.2) (c.in_err-head.ensures.0 text f a)
@@ -102,7 +103,7 @@ pub returns-clause-operand : goal.returns-clause-operand
 returns-clause-operand g c = λ text f a i.
     let u = (none_found _ c.parse_arrow_head.new.p _ c.in_default.is c.in_ok-head.ensures).0 in
     let o = operand_unmoved text f _ (Ok _) u (c.in_ok-operand.ensures.operand text f (u.at text f a) i) in
-    refused_operand i _ _ a o (λ e. (refused_so _ c.parse_assignment_without_arrow.new.p c.if-not-is_refused_head.false c.is_refused_head.ensures).0 (e ∙ sym (c.kept_so_far-kept.ensures ∙ ap length u.kept))) c.parse_arrow_function_expression-2.ensures.node
+    refused_operand i _ _ o (refused_so _ _ c.parse_assignment_without_arrow.new.p c.if-not-is_refused_head.false c.is_refused_head.ensures).1 c.parse_arrow_function_expression-2.ensures.node
 
 pub parse_yield_expression-requires-clause-word : goal.parse_yield_expression-requires-clause-word
 parse_yield_expression-requires-clause-word g c = c.begins_yield.ensures.0 c.if-begins_yield.true

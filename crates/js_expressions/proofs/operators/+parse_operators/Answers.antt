@@ -1,33 +1,32 @@
 use Rattle.std.proofs.Common.{sym, arith, subst, ℕ, ◌+◌, ◌-◌, ◌≤◌, Ok, true}
 use Rattle.std.proofs.lemmas.Result.{err_from_is_err_and}
 use Rattle.js_grammar.specs.Levels.{level_at}
-use Rattle.js_parsing.specs.States.{flags_of}
 use Rattle.js_base.specs.declared.kind.Kind.{Kind}
 use Rattle.js_parsing.specs.Operators.{power_of}
 use Rattle.js_parsing.specs.Answers.{Underived}
 use Rattle.js_parsing.proofs.Moving.{standing, stops_so, stops_behind}
 use Rattle.js_parsing.proofs.Nesting.{nests_later}
-use Rattle.js_expressions.proofs.Operations.{fails_at_level, operand_init, next_level, as_next, right_less, smaller, made_link, small, is_operator, not_last, same_so, grown_so, step_fails, start_before, operand_step, operands_answer, fixed}
+use Rattle.js_expressions.proofs.Operations.{fails_at_level, operand_init, next_level, as_next, right_less, smaller, made_link, small, is_operator, not_last, same_so, grown_so, step_fails, start_before, operand_step, operands_answer}
 use Rattle.js_expressions.proofs.operators.+parse_operators.Goals as goal
 
 pub returns-in_err-left : goal.returns-in_err-left
 returns-in_err-left t n c = λ text f a. let p = err_from_is_err_and c.from_residual.result c.from_residual.ensures.1 in rw (p.1, p.2) (stops_so _ _ _ (λ z. fails_at_level (c.args.least - 5) (let h = c.requires.high in omega arith) z) (c.in_err-left.ensures text f a))
 
 pub operators-init : goal.operators-init
-operators-init t n c = operand_init (let h = c.requires.high in omega arith) c.requires.at (c.in_ok-left.ensures _ _ c.requires.at)
+operators-init t n c = λ text f a. operand_init (let h = c.requires.high in omega arith) a (c.in_ok-left.ensures text f a)
 
 pub advance-requires-clause-at : goal.advance-requires-clause-at
-advance-requires-clause-at t n c = standing (c.in_ok-power.ensures _ _ c.operators.invariant.at).at
+advance-requires-clause-at t n c = standing (c.in_ok-power.ensures _ _ (c.operators.invariant _ _ c.requires.at).at).at
 
 pub advance-requires-clause-whole : goal.advance-requires-clause-whole
-advance-requires-clause-whole t n c = let s = c.operators.invariant in let o = c.in_ok-power.ensures _ _ s.at in (o.uncut, not_last s o (let h = c.if-power-least.false in let l = c.requires.low in omega arith))
+advance-requires-clause-whole t n c = let s = c.operators.invariant _ _ c.requires.at in let o = c.in_ok-power.ensures _ _ s.at in (o.uncut, not_last s o (let h = c.if-power-least.false in let l = c.requires.low in omega arith))
 
 pub overflow_add-power : goal.overflow_add-power
-overflow_add-power t n c = let s = c.operators.invariant in let o = c.in_ok-power.ensures _ _ s.at in let k = small s o (let h = c.if-power-least.false in let l = c.requires.low in omega arith) in omega arith
+overflow_add-power t n c = let s = c.operators.invariant _ _ c.requires.at in let o = c.in_ok-power.ensures _ _ s.at in let k = small s o (let h = c.if-power-least.false in let l = c.requires.low in omega arith) in omega arith
 
 pub parse_operators-requires : goal.parse_operators-requires
 parse_operators-requires t n c = λ κs ls.
-    let s = c.operators.invariant in
+    let s = c.operators.invariant _ _ c.requires.at in
     let o = c.in_ok-power.ensures _ _ s.at in
     let h : c.args.least - 5 + 5 ≤ c.in_ok-power.power = (let k = c.if-power-least.false in let l = c.requires.low in omega arith) in
     let d = c.in_ok-advance.ensures _ _ o.at in
@@ -37,15 +36,15 @@ parse_operators-requires t n c = λ κs ls.
 pub returns-in_err-right : goal.returns-in_err-right
 returns-in_err-right t n c = λ text f a.
     let p = err_from_is_err_and c.from_residual-in_err-right.result c.from_residual-in_err-right.ensures.1 in
-    let s = c.operators.invariant in
+    let s = c.operators.invariant text f a in
     let o = c.in_ok-power.ensures _ _ s.at in
     let h : c.args.least - 5 + 5 ≤ c.in_ok-power.power = (let k = c.if-power-least.false in let l = c.requires.low in omega arith) in
     let d = c.in_ok-advance.ensures _ _ o.at in
-    fixed (λ g. level_at g (c.args.least - 5)) _ _ a (rw (p.1, p.2) (stops_behind _ _ (same_so s o h d) (λ g. grown_so s o h d g) (λ z. step_fails s o h d (subst (λ (n : ℕ). Underived c.args.p.now.text (level_at (flags_of c.args.p.now) n) c.advance.new.p.prev_token_end) (next_level s o h) z)) (c.in_err-right.ensures _ _ d.at)))
+    (rw (p.1, p.2) (stops_behind _ _ (same_so s o h d) (λ g. grown_so s o h d g) (λ z. step_fails s o h d (subst (λ (n : ℕ). Underived text (level_at f n) c.advance.new.p.prev_token_end) (next_level s o h) z)) (c.in_err-right.ensures _ _ d.at)))
 
 pub make_operation-requires-clause-start : goal.make_operation-requires-clause-start
 make_operation-requires-clause-start t n c =
-    let s = c.operators.invariant in
+    let s = c.operators.invariant _ _ c.requires.at in
     let o = c.in_ok-power.ensures _ _ s.at in
     let h : c.args.least - 5 + 5 ≤ c.in_ok-power.power = (let k = c.if-power-least.false in let l = c.requires.low in omega arith) in
     let d = c.in_ok-advance.ensures _ _ o.at in
@@ -53,22 +52,22 @@ make_operation-requires-clause-start t n c =
 
 pub make_operation-requires-clause-operator : goal.make_operation-requires-clause-operator
 make_operation-requires-clause-operator t n c =
-    let s = c.operators.invariant in
+    let s = c.operators.invariant _ _ c.requires.at in
     let o = c.in_ok-power.ensures _ _ s.at in
     let h : c.args.least - 5 + 5 ≤ c.in_ok-power.power = (let k = c.if-power-least.false in let l = c.requires.low in omega arith) in
     subst (λ (k : Kind). 1 ≤ power_of true k) (sym c.cur_kind-operator.ensures) (is_operator s o h)
 
 pub operators-smaller : goal.operators-smaller
 operators-smaller t n c =
-    let s = c.operators.invariant in
+    let s = c.operators.invariant _ _ c.requires.at in
     let o = c.in_ok-power.ensures _ _ s.at in
     let h : c.args.least - 5 + 5 ≤ c.in_ok-power.power = (let k = c.if-power-least.false in let l = c.requires.low in omega arith) in
     let d = c.in_ok-advance.ensures _ _ o.at in
     smaller s o h d (as_next s o h (c.in_ok-right.ensures _ _ d.at)) c.in_ok-left-2.ensures
 
 pub operators-preserved : goal.operators-preserved
-operators-preserved t n c =
-    let s = c.operators.invariant in
+operators-preserved t n c = λ text f a.
+    let s = c.operators.invariant text f a in
     let o = c.in_ok-power.ensures _ _ s.at in
     let h : c.args.least - 5 + 5 ≤ c.in_ok-power.power = (let k = c.if-power-least.false in let l = c.requires.low in omega arith) in
     let d = c.in_ok-advance.ensures _ _ o.at in
@@ -77,6 +76,6 @@ operators-preserved t n c =
 
 pub returns : goal.returns
 returns t n c = λ text f a.
-    let s = c.operators.invariant in
+    let s = c.operators.invariant text f a in
     let o = c.in_ok-power.ensures _ _ s.at in
-    fixed (λ g. level_at g (c.args.least - 5)) _ (Ok c.operators.left) a (operands_answer s o (let k = c.if-power-least.true in let l = c.requires.low in omega arith) (let h = c.requires.high in omega arith))
+    (operands_answer s o (let k = c.if-power-least.true in let l = c.requires.low in omega arith) (let h = c.requires.high in omega arith))

@@ -5,7 +5,6 @@ use Rattle.js_expressions.proofs.CoalesceOperands.{operands_init, short_answer, 
 use Rattle.js_expressions.proofs.Coalescing.{no_short}
 use Rattle.js_parsing.proofs.Moving.{standing, stops_so, stops_behind}
 use Rattle.js_parsing.proofs.Nesting.{nests_later}
-use Rattle.js_expressions.proofs.Operations.{fixed}
 use Rattle.js_expressions.proofs.Refusals.{stood}
 use Rattle.std.proofs.lemmas.Bool.{false≢true}
 use Rattle.js_expressions.proofs.operators.parse_binary_expression_or_higher.Goals as goal
@@ -15,53 +14,53 @@ pub returns-in_err-left : goal.returns-in_err-left
 returns-in_err-left g c = λ text f a. let p = err_from_is_err_and c.from_residual.result c.from_residual.ensures.1 in rw (p.1, p.2) (stops_so _ _ _ (λ z. no_short f z) (c.in_err-left.ensures text f a))
 
 pub operands-init : goal.operands-init
-operands-init g c = operands_init (c.in_ok-left.ensures _ _ c.requires.at)
+operands-init g c = λ text f a. operands_init (c.in_ok-left.ensures text f a)
 
 pub advance-requires-clause-at : goal.advance-requires-clause-at
-advance-requires-clause-at g c = standing c.operands.invariant.at
+advance-requires-clause-at g c = standing (c.operands.invariant _ _ c.requires.at).at
 
 pub advance-requires-clause-whole : goal.advance-requires-clause-whole
-advance-requires-clause-whole g c = sign_whole c.operands.invariant.at (c.at.ensures.0 c.operands-test.true)
+advance-requires-clause-whole g c = sign_whole (c.operands.invariant _ _ c.requires.at).at (c.at.ensures.0 c.operands-test.true)
 
 pub parse_operators-requires-in-operands-clause-at : goal.parse_operators-requires-in-operands-clause-at
-parse_operators-requires-in-operands-clause-at g c = standing (c.in_ok-advance.ensures _ _ c.operands.invariant.at).at
+parse_operators-requires-in-operands-clause-at g c = standing (c.in_ok-advance.ensures _ _ (c.operands.invariant _ _ c.requires.at).at).at
 
 pub parse_operators-requires-in-operands-clause-nests : goal.parse_operators-requires-in-operands-clause-nests
 parse_operators-requires-in-operands-clause-nests g c =
-    let s = c.operands.invariant in
+    let s = c.operands.invariant _ _ c.requires.at in
     let r = right_room s (c.at.ensures.0 c.operands-test.true) (c.in_ok-advance.ensures _ _ s.at) c.requires.at in
     nests_later c.requires.nests (omega arith)
 
 pub returns-in_err-right : goal.returns-in_err-right
 returns-in_err-right g c = λ text f a.
     let p = err_from_is_err_and c.from_residual-in_err-right.result c.from_residual-in_err-right.ensures.1 in
-    let s = c.operands.invariant in
+    let s = c.operands.invariant text f a in
     let k = c.at.ensures.0 c.operands-test.true in
     let m = c.in_ok-advance.ensures _ _ s.at in
-    fixed (at Short) _ _ a (rw (p.1, p.2) (stops_behind _ _ (same_so s k m) (λ h. grown_so s k m h) (λ z. right_none s k m z) (c.in_err-right.ensures _ _ m.at)))
+    (rw (p.1, p.2) (stops_behind _ _ (same_so s k m) (λ h. grown_so s k m h) (λ z. right_none s k m z) (c.in_err-right.ensures _ _ m.at)))
 
 pub is_or_and-requires : goal.is_or_and-requires
 is_or_and-requires g c =
-    let s = c.operands.invariant in
+    let s = c.operands.invariant _ _ c.requires.at in
     let m = c.in_ok-advance.ensures _ _ s.at in
     left_stood s (c.at.ensures.0 c.operands-test.true) m (c.in_ok-right.ensures _ _ m.at)
 
 pub is_or_and-mixed-requires : goal.is_or_and-mixed-requires
-is_or_and-mixed-requires g c = stood (c.in_ok-right.ensures _ _ (c.in_ok-advance.ensures _ _ c.operands.invariant.at).at)
+is_or_and-mixed-requires g c = stood (c.in_ok-right.ensures _ _ (c.in_ok-advance.ensures _ _ (c.operands.invariant _ _ c.requires.at).at).at)
 
 pub check_mixed-requires-clause-at : goal.check_mixed-requires-clause-at
-check_mixed-requires-clause-at g c = standing (c.in_ok-right.ensures _ _ (c.in_ok-advance.ensures _ _ c.operands.invariant.at).at).answer.at
+check_mixed-requires-clause-at g c = standing (c.in_ok-right.ensures _ _ (c.in_ok-advance.ensures _ _ (c.operands.invariant _ _ c.requires.at).at).at).answer.at
 
 pub check_mixed-requires-clause-start : goal.check_mixed-requires-clause-start
 check_mixed-requires-clause-start g c =
-    let s = c.operands.invariant in
+    let s = c.operands.invariant _ _ c.requires.at in
     let m = c.in_ok-advance.ensures _ _ s.at in
     let i = start_before s (c.at.ensures.0 c.operands-test.true) m (c.in_ok-right.ensures _ _ m.at) in
     let j = c.cur_start-start.ensures in omega arith
 
 pub check_mixed-requires-clause-mark : goal.check_mixed-requires-clause-mark
 check_mixed-requires-clause-mark g c =
-    let s = c.operands.invariant in
+    let s = c.operands.invariant _ _ c.requires.at in
     let k = c.at.ensures.0 c.operands-test.true in
     let m = c.in_ok-advance.ensures _ _ s.at in
     let x = c.in_ok-right.ensures _ _ m.at in
@@ -74,7 +73,7 @@ check_mixed-requires-clause-mark g c =
 pub returns-in_err-check_mixed : goal.returns-in_err-check_mixed
 returns-in_err-check_mixed g c = λ text f a.
     let p = err_from_is_err_and c.from_residual-in_err-check_mixed.result c.from_residual-in_err-check_mixed.ensures.1 in
-    let s = c.operands.invariant in
+    let s = c.operands.invariant text f a in
     let k = c.at.ensures.0 c.operands-test.true in
     let m = c.in_ok-advance.ensures _ _ s.at in
     let x = c.in_ok-right.ensures _ _ m.at in
@@ -82,11 +81,11 @@ returns-in_err-check_mixed g c = λ text f a.
       | then-is_or_and w ↦ mixed_then s k m x (c.is_or_and.ensures _ _ _ _ (left_held s k m x)) w.if-is_or_and.true w.mixed-is
       | else-is_or_and w ↦ mixed_else s k m x (c.is_or_and.ensures _ _ _ _ (left_held s k m x)) w.if-is_or_and.false w.mixed-is (w.is_or_and-mixed.ensures _ _ _ _ x.holds)
     ] in
-    fixed (at Short) _ _ a (rw (p.1, p.2) (mixed_stops s k m x c.cur_start-start.result c.kept_so_far-found.result _ _ e c.in_err-check_mixed.ensures))
+    (rw (p.1, p.2) (mixed_stops s k m x c.cur_start-start.result c.kept_so_far-found.result _ _ e c.in_err-check_mixed.ensures))
 
 pub make_coalesce-requires : goal.make_coalesce-requires
 make_coalesce-requires g c =
-    let s = c.operands.invariant in
+    let s = c.operands.invariant _ _ c.requires.at in
     let k = c.at.ensures.0 c.operands-test.true in
     let m = c.in_ok-advance.ensures _ _ s.at in
     let x = c.in_ok-right.ensures _ _ m.at in
@@ -99,7 +98,7 @@ make_coalesce-requires g c =
 
 pub operands-smaller : goal.operands-smaller
 operands-smaller g c =
-    let s = c.operands.invariant in
+    let s = c.operands.invariant _ _ c.requires.at in
     let k = c.at.ensures.0 c.operands-test.true in
     let m = c.in_ok-advance.ensures _ _ s.at in
     let x = c.in_ok-right.ensures _ _ m.at in
@@ -111,8 +110,8 @@ operands-smaller g c =
     smaller s k m x d c.in_ok-left-2.ensures
 
 pub operands-preserved : goal.operands-preserved
-operands-preserved g c =
-    let s = c.operands.invariant in
+operands-preserved g c = λ text f a.
+    let s = c.operands.invariant text f a in
     let k = c.at.ensures.0 c.operands-test.true in
     let m = c.in_ok-advance.ensures _ _ s.at in
     let x = c.in_ok-right.ensures _ _ m.at in
@@ -120,8 +119,8 @@ operands-preserved g c =
       | then-is_or_and w ↦ mixed_then s k m x (c.is_or_and.ensures _ _ _ _ (left_held s k m x)) w.if-is_or_and.true w.mixed-is
       | else-is_or_and w ↦ mixed_else s k m x (c.is_or_and.ensures _ _ _ _ (left_held s k m x)) w.if-is_or_and.false w.mixed-is (w.is_or_and-mixed.ensures _ _ _ _ x.holds)
     ] in
-    let d = checked s k m x c.requires.at e c.kept_so_far-found.ensures c.in_ok-check_mixed.ensures in
+    let d = checked s k m x a e c.kept_so_far-found.ensures c.in_ok-check_mixed.ensures in
     operands_step s k m x d (made_pair s k m x d c.cur_start-start.ensures c.in_ok-left-2.ensures)
 
 pub returns : goal.returns
-returns g c = λ text f a. fixed (at Short) _ (Ok c.operands.left) a (short_answer c.operands.invariant (λ k. false≢true (sym c.operands-test.false ∙ c.at.ensures.1 k)))
+returns g c = λ text f a. short_answer (c.operands.invariant text f a) (λ k. false≢true (sym c.operands-test.false ∙ c.at.ensures.1 k))

@@ -8,10 +8,8 @@ use Rattle.js_tree.specs.declared.id.NodeId.{NodeId}
 use Rattle.js_tree.specs.declared.kind.NodeKind.TheVariants as node
 use Rattle.js_tree.specs.declared.op.Op.TheVariants as op
 use Rattle.js_parsing.specs.Moves.{MadeHere, plain_label}
-use Rattle.js_parsing.specs.States.{flags_of}
 use Rattle.js_parsing.proofs.Moving.{standing, stops_so, stops_behind}
 use Rattle.js_parsing.proofs.Nesting.{nested_room}
-use Rattle.js_expressions.proofs.Operations.{fixed}
 use Rattle.js_expressions.proofs.Sequences.{Listing, alone_result, alone_fails, listing_init, listing_step, listing_end, listing_same, listing_grown, operand_fails, less_left, start_before, listing_room}
 use Rattle.js_expressions.proofs.sequence.parse_sequence_expression.Goals as goal
 
@@ -22,37 +20,37 @@ pub returns-then-not-at-clause-answers : goal.returns-then-not-at-clause-answers
 returns-then-not-at-clause-answers t c = λ text f a. alone_result (c.in_ok-first.ensures.answers text f a) (λ k. false≢true (sym c.if-not-at.true ∙ c.at.ensures.1 k))
 
 pub items-init : goal.items-init
-items-init t c = let e : c.push.new.self.items ≡ Some c.in_ok-first.first ∷ [] = c.in_ok-push.ensures.items ∙ ap (λ (v : List (Option NodeId)). v ++ Some c.in_ok-first.first ∷ []) c.new-items.ensures.items in subst (λ (ids : List (Option NodeId)). Listing c.args.p.now.text (flags_of c.args.p.now) c.args.p.now c.parse_assignment_expression.new.p ids) (sym e) (listing_init (c.in_ok-first.ensures.answers _ _ c.requires.at) (c.at.ensures.0 c.if-not-at.false))
+items-init t c = let e : c.push.new.self.items ≡ Some c.in_ok-first.first ∷ [] = c.in_ok-push.ensures.items ∙ ap (λ (v : List (Option NodeId)). v ++ Some c.in_ok-first.first ∷ []) c.new-items.ensures.items in λ text f a. subst (λ (ids : List (Option NodeId)). Listing text f c.args.p.now c.parse_assignment_expression.new.p ids) (sym e) (listing_init (c.in_ok-first.ensures.answers text f a) (c.at.ensures.0 c.if-not-at.false))
 
 pub assignment-requires : goal.assignment-requires
-assignment-requires t c = let s = c.items.invariant in let m = c.in_ok-advance.ensures _ _ s.at in c.requires.nests _ _ (standing m.at) (let r = nested_room s.at m in let o = listing_room c.requires.at s in omega arith)
+assignment-requires t c = let s = c.items.invariant _ _ c.requires.at in let m = c.in_ok-advance.ensures _ _ s.at in c.requires.nests _ _ (standing m.at) (let r = nested_room s.at m in let o = listing_room c.requires.at s in omega arith)
 
 pub returns-in_err-item-clause-answers : goal.returns-in_err-item-clause-answers
 returns-in_err-item-clause-answers t c = λ text f a.
     let p = err_from_is_err_and c.from_residual-in_err-item.result c.from_residual-in_err-item.ensures.1 in
-    let s = c.items.invariant in
+    let s = c.items.invariant text f a in
     let m = c.in_ok-advance.ensures _ _ s.at in
-    fixed (λ g. at Expression g) _ _ a (rw (p.1, p.2) (stops_behind _ _ (listing_same s m) (λ g. listing_grown s m g) (λ z. operand_fails s m z) (c.in_err-item.ensures _ _ m.at)))
+    (rw (p.1, p.2) (stops_behind _ _ (listing_same s m) (λ g. listing_grown s m g) (λ z. operand_fails s m z) (c.in_err-item.ensures _ _ m.at)))
 
 pub items-smaller : goal.items-smaller
-items-smaller t c = let s = c.items.invariant in let m = c.in_ok-advance.ensures _ _ s.at in less_left s m c.requires.at (c.in_ok-item.ensures _ _ m.at)
+items-smaller t c = let s = c.items.invariant _ _ c.requires.at in let m = c.in_ok-advance.ensures _ _ s.at in less_left s m c.requires.at (c.in_ok-item.ensures _ _ m.at)
 
 pub items-preserved : goal.items-preserved
-items-preserved t c =
-    let s = c.items.invariant in
+items-preserved t c = λ text f a.
+    let s = c.items.invariant text f a in
     let m = c.in_ok-advance.ensures _ _ s.at in
     let e : c.push-in-items.new.self.items ≡ c.items.items.items ++ Some c.in_ok-item.item ∷ [] = c.in_ok-push-2.ensures.items in
-    subst (λ (ids : List (Option NodeId)). Listing c.args.p.now.text (flags_of c.args.p.now) c.args.p.now c.assignment.new.p ids) (sym e) (listing_step s m c.requires.at (c.in_ok-item.ensures _ _ m.at) (c.at-in-items.ensures.0 c.if-not-at-2.false))
+    subst (λ (ids : List (Option NodeId)). Listing text f c.args.p.now c.assignment.new.p ids) (sym e) (listing_step s m a (c.in_ok-item.ensures _ _ m.at) (c.at-in-items.ensures.0 c.if-not-at-2.false))
 
 pub end_span-span-requires : goal.end_span-span-requires
-end_span-span-requires t c = let s = c.items.invariant in let m = c.in_ok-advance.ensures _ _ s.at in let a = start_before s m c.requires.at (c.in_ok-item.ensures _ _ m.at) in let b = c.cur_start-start.ensures in omega arith
+end_span-span-requires t c = let s = c.items.invariant _ _ c.requires.at in let m = c.in_ok-advance.ensures _ _ s.at in let a = start_before s m c.requires.at (c.in_ok-item.ensures _ _ m.at) in let b = c.cur_start-start.ensures in omega arith
 
 pub returns-clause-answers : goal.returns-clause-answers
 returns-clause-answers t c = λ text f a.
-    let s = c.items.invariant in
+    let s = c.items.invariant text f a in
     let m = c.in_ok-advance.ensures _ _ s.at in
     let e : c.push-in-items.new.self.items ≡ c.items.items.items ++ Some c.in_ok-item.item ∷ [] = c.in_ok-push-2.ensures.items in
-    fixed (λ g. at Expression g) _ (Ok c.in_ok-node.node) a (listing_end s m c.requires.at (c.in_ok-item.ensures _ _ m.at) (λ k. false≢true (sym c.if-not-at-2.true ∙ c.at-in-items.ensures.1 k)) (c.end_span-span.ensures.start ∙ c.cur_start-start.ensures) c.end_span-span.ensures.end (subst (λ (ids : List (Option NodeId)). MadeHere (plain_label node.SequenceExpression op.None c.end_span-span.result) ids c.assignment.new.p c.make_list.new.p c.in_ok-node.node) e c.in_ok-node.ensures))
+    (listing_end s m a (c.in_ok-item.ensures _ _ m.at) (λ k. false≢true (sym c.if-not-at-2.true ∙ c.at-in-items.ensures.1 k)) (c.end_span-span.ensures.start ∙ c.cur_start-start.ensures) c.end_span-span.ensures.end (subst (λ (ids : List (Option NodeId)). MadeHere (plain_label node.SequenceExpression op.None c.end_span-span.result) ids c.assignment.new.p c.make_list.new.p c.in_ok-node.node) e c.in_ok-node.ensures))
 
 pub returns-in_err-first-clause-operand : goal.returns-in_err-first-clause-operand
 returns-in_err-first-clause-operand t c = λ text f a i. let p = err_from_is_err_and c.from_residual.result c.from_residual.ensures.1 in rw (p.1, p.2) (c.in_err-first.ensures.operand text f a i)

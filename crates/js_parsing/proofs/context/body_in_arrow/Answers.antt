@@ -1,4 +1,4 @@
-use Rattle.std.proofs.Common.{ap, arith}
+use Rattle.std.proofs.Common.{ap, arith, refl}
 use Rattle.std.proofs.lemmas.Result.{err_from_is_err_and}
 use Rattle.js_grammar.specs.Productions.{Flags, at, Body}
 use Rattle.js_parsing.specs.Contexts.{braced_body}
@@ -16,4 +16,4 @@ pub returns-in_err-body : goal.returns-in_err-body
 returns-in_err-body t c = λ text f a. let p = err_from_is_err_and c.from_residual.result c.from_residual.ensures.1 in rw (p.1, p.2) (stops_in_context text (at Body (braced_body c.args.is_async f)) _ _ _ _ _ a.at c.set_context.ensures (c.in_err-body.ensures text _ (braces_at a c.context-outer.ensures c.and_yield.ensures c.with_await-without.ensures c.and_in.ensures c.and_return.ensures c.set_context.ensures)))
 
 pub returns : goal.returns
-returns t c = λ text f a. out_of_context a c.context-outer.ensures c.set_context.ensures (c.in_ok-body.ensures text _ (braces_at a c.context-outer.ensures c.and_yield.ensures c.with_await-without.ensures c.and_in.ensures c.and_return.ensures c.set_context.ensures)) c.set_context-2.ensures
+returns t c = λ text f a. out_of_context refl a c.context-outer.ensures c.set_context.ensures (c.in_ok-body.ensures text _ (braces_at a c.context-outer.ensures c.and_yield.ensures c.with_await-without.ensures c.and_in.ensures c.and_return.ensures c.set_context.ensures)) c.set_context-2.ensures

@@ -1,15 +1,9 @@
-use Rattle.std.proofs.Common.{ℕ, List, sym, ◌∙◌}
+use Rattle.std.proofs.Common.{sym, ◌∙◌}
 use Rattle.std.proofs.lemmas.Bool.{false≢true}
 use Rattle.std.proofs.lemmas.Result.{err_from_is_err_and}
-use Rattle.js_grammar.specs.Grammar.{nothing}
-use Rattle.js_grammar.specs.Productions.{Flags}
-use Rattle.js_parsing.specs.Answers.{Stops}
 use Rattle.js_parsing.proofs.Moving.{standing}
 use Rattle.js_parsing.proofs.Nesting.{later_room, nests_later}
-use Rattle.js_statements.specs.StatementLists.{NoList, Taken}
-use Rattle.js_statements.specs.SwitchStatements.{clauses_of}
-use Rattle.js_statements.specs.declared.statement_list.StatementList.TheVariants.{Block}
-use Rattle.js_statements.proofs.StatementLists.{at_any, in_lasts, smaller_room}
+use Rattle.js_statements.proofs.StatementLists.{in_lasts, smaller_room}
 use Rattle.js_statements.proofs.SwitchStatements.{all_taken, begins_here, none_so_far, some_more, some_refused, undue_stops}
 use Rattle.js_statements.proofs.switch_statement.parse_clauses.Goals as goal
 
@@ -19,37 +13,35 @@ returns-in_err-expect_clause t c =
     rw (p.1, p.2) (λ text f a. undue_stops _ _ _ a (c.in_err-expect_clause.ensures text f a))
 
 pub clauses-init : goal.clauses-init
-clauses-init t c = none_so_far c.requires.at c.in_ok-expect_clause.ensures.0 c.in_ok-expect_clause.ensures.1 c.new-children.ensures.items
+clauses-init t c = λ text f a. none_so_far a c.in_ok-expect_clause.ensures.0 c.in_ok-expect_clause.ensures.1 c.new-children.ensures.items
 
 pub parse_next_clause-requires-clause-at : goal.parse_next_clause-requires-clause-at
-parse_next_clause-requires-clause-at t c = standing c.clauses.invariant.taken.at
+parse_next_clause-requires-clause-at t c = standing (c.clauses.invariant _ _ c.requires.at).taken.at
 
 pub parse_next_clause-requires-clause-nests : goal.parse_next_clause-requires-clause-nests
-parse_next_clause-requires-clause-nests t c = let s = c.clauses.invariant.taken in nests_later c.requires.nests (later_room s.further s.same)
+parse_next_clause-requires-clause-nests t c = let s = (c.clauses.invariant _ _ c.requires.at).taken in nests_later c.requires.nests (later_room s.further s.same)
 
 pub parse_next_clause-requires-clause-allows_in : goal.parse_next_clause-requires-clause-allows_in
-parse_next_clause-requires-clause-allows_in t c = in_lasts c.clauses.invariant.taken c.requires.allows_in
+parse_next_clause-requires-clause-allows_in t c = in_lasts (c.clauses.invariant _ _ c.requires.at).taken c.requires.allows_in
 
 pub parse_next_clause-requires-clause-begins : goal.parse_next_clause-requires-clause-begins
-parse_next_clause-requires-clause-begins t c = begins_here c.clauses.invariant (λ e. false≢true (sym c.clauses-test.true ∙ c.at.ensures.1 e))
+parse_next_clause-requires-clause-begins t c = begins_here (c.clauses.invariant _ _ c.requires.at) (λ e. false≢true (sym c.clauses-test.true ∙ c.at.ensures.1 e))
 
 pub parse_next_clause-requires-clause-stood : goal.parse_next_clause-requires-clause-stood
-parse_next_clause-requires-clause-stood t c = c.clauses.invariant.stood
+parse_next_clause-requires-clause-stood t c = (c.clauses.invariant _ _ c.requires.at).stood
 
 pub returns-in_err-clause : goal.returns-in_err-clause
 returns-in_err-clause t c =
     let p = err_from_is_err_and c.from_residual-in_err-clause.result c.from_residual-in_err-clause.ensures.1 in
-    let s = c.clauses.invariant in
-    rw (p.1, p.2) (at_any (λ (text : List ℕ) (f : Flags). Stops c.args.p.now c.parse_next_clause.new.p _ (NoList text Block (clauses_of f) c.args.p.now.prev_token_end)) (some_refused s _ _ (c.in_err-clause.ensures _ _ s.taken.at)))
+    rw (p.1, p.2) (λ text f a. let s = c.clauses.invariant text f a in some_refused s _ _ (c.in_err-clause.ensures _ _ s.taken.at))
 
 pub clauses-smaller : goal.clauses-smaller
-clauses-smaller t c = let s = c.clauses.invariant in smaller_room s.taken.at (c.in_ok-clause.ensures.3 _ _ s.taken.at)
+clauses-smaller t c = let s = c.clauses.invariant _ _ c.requires.at in smaller_room s.taken.at (c.in_ok-clause.ensures.3 _ _ s.taken.at)
 
 pub clauses-preserved : goal.clauses-preserved
-clauses-preserved t c = some_more c.clauses.invariant c.in_ok-clause.ensures c.in_ok-push.ensures.items
+clauses-preserved t c = λ text f a. some_more (c.clauses.invariant text f a) c.in_ok-clause.ensures c.in_ok-push.ensures.items
 
 pub returns : goal.returns
 returns t c =
-    let s = c.clauses.invariant in
     let k = c.at.ensures.0 c.clauses-test.false in
-    (k, at_any (λ (text : List ℕ) (f : Flags). Taken text f Block (clauses_of f) nothing c.args.p.now c.clauses.p c.clauses.children.items) (all_taken c.clauses.defaults s k))
+    (k, λ text f a. all_taken c.clauses.defaults (c.clauses.invariant text f a) k)

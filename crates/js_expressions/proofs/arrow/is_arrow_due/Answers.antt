@@ -1,5 +1,5 @@
 use Rattle.js_expressions.proofs.SlashedHeads.{arguments_read, arguments_refused}
-use Rattle.js_expressions.proofs.arrow.is_arrow_behind_arguments.Goals as goal
+use Rattle.js_expressions.proofs.arrow.is_arrow_due.Goals as goal
 
 pub returns-in-Ok : goal.returns-in-Ok
 returns-in-Ok g c = arguments_read _ c.requires.at c.in-Ok.ensures c.at.ensures.0 c.at.ensures.1
