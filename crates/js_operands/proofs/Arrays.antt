@@ -38,7 +38,8 @@ use Rattle.js_parsing.specs.Lexemes.{Lex}
 use Rattle.js_parsing.specs.States.{At, Standing}
 use Rattle.js_parsing.specs.Answers.{Stretch, Underived, Numbered, Stops}
 use Rattle.js_parsing.specs.Arguments.{Partway, ItemTaken, NoItem}
-use Rattle.js_operands.specs.Arrays.{elements, array_of, TakesElement, Elements}
+use Rattle.js_parsing.specs.ArrayLiterals.{array_of, elements}
+use Rattle.js_operands.specs.Arrays.{TakesElement, Elements}
 use Rattle.js_parsing.specs.Stands.{StandsHere}
 use Rattle.js_parsing.specs.Moves.{Moved, Moves, MadeHere, LeafTaken, TakesLeaf, plain_label, unpassable}
 use Rattle.js_parsing.specs.Nesting.{room}

@@ -3,7 +3,6 @@ use Rattle.std.proofs.Common.{ℕ, ◌≡◌, ◌<◌, ◌⊎◌, inl, inr, Bool
 use Rattle.std.specs.Prelude.{IsCharBoundary, IsUtf8, chars, slice_range}
 use Rattle.std.proofs.lemmas.Bool.{false≢true, and_parts, and_from}
 use Rattle.std.proofs.lemmas.List.Elements.{All-same}
-use Rattle.std.proofs.lemmas.List.{append_cancel_left}
 use Rattle.js_base.specs.declared.diagnostic.Diagnostic.{Diagnostic}
 use Rattle.js_base.specs.declared.kind.Kind.{Kind}
 use Rattle.js_base.specs.declared.kind.Kind.TheVariants.{Eof, RAngle, RCurly, RegExp, Slash, SlashEq, TemplateMiddle, TemplateTail, Undetermined}
@@ -16,8 +15,6 @@ use Rattle.js_grammar.specs.Trees.{Label, end, tree, no_op, reg_exp_literal}
 use Rattle.js_grammar.specs.Grammar.{Lexeme, Look, is, lexeme, next, nothing}
 use Rattle.js_grammar.specs.Lexemes.{LexicalGoal, division, is_escaped, kind_in, regular_expression}
 use Rattle.js_grammar.specs.Lexed.{IsLexeme, Lex as StandsBehind, Passing, all_faults, passing_of, comments_pass, flags_right}
-use Rattle.js_grammar.specs.Longest.{joined}
-use Rattle.js_grammar.specs.LexicalFaults.{behind}
 use Rattle.js_grammar.specs.Parsing.{Test, passing, Reads}
 use Rattle.js_grammar.specs.Productions.{Flags, Primary, at, tok}
 use Rattle.js_grammar.specs.RegularExpressions.{flags, flags_pass}
@@ -40,7 +37,6 @@ use Rattle.js_lex.specs.States.{goal_of}
 use Rattle.js_lex.proofs.Again.{cut_same}
 use Rattle.js_lex.proofs.Flags.{spelled}
 use Rattle.js_lex.proofs.KindsOfLexemes.{pattern_is, same_lexeme}
-use Rattle.js_lex.proofs.StringPlaces.{front_word}
 use Rattle.js_tree.specs.declared.id.NodeId.{NodeId}
 use Rattle.js_tree.specs.declared.kind.NodeKind.TheVariants as node
 use Rattle.js_tree.specs.declared.op.Op.TheVariants as op
@@ -58,6 +54,7 @@ use Rattle.js_cursor.proofs.Later.{keeps_follows, passed_follows, read_again_fol
 use Rattle.js_cursor.proofs.Moving.{lexeme_some}
 use Rattle.js_parsing.specs.Answers.{Numbered, Stops, Underived, clean}
 use Rattle.js_parsing.specs.Classes.{IsEarly}
+use Rattle.js_parsing.proofs.Characters.{characters}
 use Rattle.js_parsing.specs.Heads.{NotedHeads}
 use Rattle.js_parsing.specs.Lexemes.{Faultless, IsNew, IsReread, IsRight, KeptFor, KeptLast, Lex, News, NoneToEnd, TriviaKept, Walked, goal_for, is_read, kept_before, nowhere, onward, other_goals, read_again, read_kinds, signs_of, slashes, spot, with_faults}
 use Rattle.js_parsing.specs.Moves.{MadeHere, plain_label}
@@ -110,13 +107,6 @@ pub no_pattern_here : {text : List ℕ} {f : Flags} {p : Parser} → At text f p
 no_pattern_here a e = false≢true (sym (plain_token a.plain) ∙ ap (one_of_kinds other_goals) e)
 
 -- ---- the flags of a regular expression
-
--- its characters stand from its start to its end
-pub characters : {text : List ℕ} {s : ℕ} {y : Lexeme} → IsUtf8 text → IsCharBoundary text s → (h : StandsBehind all_faults text s y) → IsCharBoundary text y.from × Word text y.from y.to h.word
-characters {text} {s} {y} u b h =
-    let before : Word text s y.from (joined h.trivia) = subst (λ (n : ℕ). Word text s n (joined h.trivia)) (sym h.from) (front_word text s (joined h.trivia) (h.word ++ h.rest) u b h.stands.splits) in
-    let here : behind text y.from ≡ h.word ++ h.rest = append_cancel_left (joined h.trivia) (behind text y.from) (h.word ++ h.rest) (sym before.splits ∙ h.stands.splits) in
-    (before.boundary, subst (λ (n : ℕ). Word text y.from n h.word) (sym h.to) (front_word text y.from h.word h.rest u before.boundary here))
 
 -- the flags of one lexeme are the same, however it is seen to stand there
 flags_alone : {m n : Passing} {text : List ℕ} {s : ℕ} {y : Lexeme} (h : StandsBehind m text s y) (k : StandsBehind n text s y) → h.goal ≡ regular_expression → k.goal ≡ regular_expression → h.word ≡ k.word

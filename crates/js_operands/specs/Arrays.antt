@@ -1,26 +1,18 @@
 -- What the parse functions of array literals answer (ECMA-262, 13.2.4): elements and gaps, as far as they were read.
 use Rattle.std.specs.Prelude.{ℕ, List, [], ◌∷◌, ◌++◌, Option, Some, Result, Ok, Err}
-use Rattle.js_base.specs.declared.kind.Kind.TheVariants.{Comma, LBrack, RBrack}
-use Rattle.js_grammar.specs.Trees.{end, elision}
-use Rattle.js_grammar.specs.Grammar.{nothing, never, ◌▸◌}
+use Rattle.js_grammar.specs.Trees.{end}
+use Rattle.js_grammar.specs.Grammar.{nothing}
 use Rattle.js_grammar.specs.Parsing.{plain, full, Fails}
-use Rattle.js_grammar.specs.Productions.{G, Flags, mk, tok, items, Argument}
-use Rattle.js_grammar.specs.Productions.{sym as symbol}
+use Rattle.js_grammar.specs.Productions.{Flags}
 use Rattle.js_grammar.specs.Table.{rule}
 use Rattle.js_tree.specs.declared.id.NodeId.{NodeId}
 use Rattle.js_cursor.specs.Parsers.{Parser}
 use Rattle.js_cursor.specs.declared.stop.Stop.{Stop}
 use Rattle.js_parsing.specs.Answers.{Stops}
+use Rattle.js_parsing.specs.ArrayLiterals.{array_of, elements}
 use Rattle.js_parsing.specs.Arguments.{Partway}
 use Rattle.js_parsing.specs.Lexemes.{Lex}
 use Rattle.js_parsing.specs.States.{At}
-
--- from an element on up to the closing bracket; and with the opening one
-abbrev pub elements : Flags → G
-elements f = items (mk elision (tok Comma)) (symbol Argument f) never ▸ tok RBrack
-
-abbrev pub array_of : Flags → G
-array_of f = tok LBrack ▸ elements f
 
 -- One more child, an element or a gap: what is left is elements too.
 abbrev pub TakesElement : Parser → Parser → Result NodeId Stop → Type 0

@@ -1,6 +1,7 @@
 pub mod Ahead
 pub mod Beginning
 pub mod Bracketed
+pub mod Characters
 pub mod Contexts
 pub mod Dead
 pub mod Deeper

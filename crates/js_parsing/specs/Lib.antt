@@ -1,5 +1,6 @@
 pub mod Answers
 pub mod Arguments
+pub mod ArrayLiterals
 pub mod Contexts
 pub mod Heads
 pub mod Lexemes

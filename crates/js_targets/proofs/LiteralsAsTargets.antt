@@ -16,9 +16,9 @@ use Rattle.js_grammar.specs.Productions.{sym as symbol}
 use Rattle.js_grammar.specs.Table.{rule, rule_of, rest_of, name}
 use Rattle.js_grammar.proofs.Behind.{lexed_behind}
 use Rattle.js_cursor.proofs.Moving.{reached_next}
-use Rattle.js_operands.specs.Arrays.{elements}
+use Rattle.js_parsing.specs.ArrayLiterals.{elements}
 use Rattle.js_parsing.specs.Lexemes.{Lex, other_goals}
-use Rattle.js_operands.proofs.RegularExpressions.{characters}
+use Rattle.js_parsing.proofs.Characters.{characters}
 use Rattle.js_grammar.proofs.Looks.{apart, not_both}
 use Rattle.std.specs.Prelude.{IsUtf8, IsCharBoundary}
 use Rattle.js_targets.specs.Taken.{target_name}
