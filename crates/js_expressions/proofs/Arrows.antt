@@ -68,7 +68,7 @@ use Rattle.js_cursor.proofs.Later.{keeps_follows}
 use Rattle.js_parsing.specs.Answers.{Underived, Answer, Answers, beside, Numbered, Outcome, Refuses, Stretch, Stops, Grown, Verdict, clean, unclean, wider}
 use Rattle.js_cursor.specs.Notes.{Notes}
 use Rattle.js_parsing.specs.Contexts.{arrow_body, braced_body, arrow_head}
-use Rattle.js_expressions.specs.Arrows.{ArrowBehind, AsyncPassed, BeforeArrow, led_head, told_led, ChecksLine, FindsAnyHead, FindsHead, Head, HeadRead, read_clean, read_unclean, IsHeadBefore, IsHeadHere, Leads, LooksForHead, NamesHead, NoArrowHere, NoLed, NoLine, NoLineHere, NoParametersHere, OnlyLed, ParametersRead, PlainHead, a_head, told_head, Single, ToldHead, Unmoved, WentOn, arrow_label, body_of, head_of, late_arrow, lead_of, line_of}
+use Rattle.js_expressions.specs.Arrows.{ArrowBehind, AsyncPassed, BeforeArrow, led_head, told_led, ChecksLine, FindsAnyHead, FindsHead, Head, HeadDerived, HeadRead, read_clean, read_unclean, IsHeadBefore, IsHeadHere, Leads, LooksForHead, NamesHead, NoArrowHere, NoLed, NoLine, NoLineHere, NoParametersHere, OnlyLed, ParametersRead, PlainHead, Quiet, a_head, told_head, Single, ToldHead, Unmoved, WentOn, arrow_label, body_of, head_of, late_arrow, lead_of, line_of}
 use Rattle.js_expressions.specs.declared.arrow.ArrowHead.{ArrowHead}
 use Rattle.js_parsing.specs.Heads.{NoHead, OnlyArrow}
 use Rattle.js_expressions.specs.Rests.{OnlyOperandHere}
@@ -103,7 +103,7 @@ use Rattle.js_parsing.proofs.Paths.{Path, ◌⟼◌, ◌⟶◌, ◌⟶✗◌, fa
 use Rattle.js_parsing.proofs.Signs.{none_kept, plain_of}
 use Rattle.js_parsing.proofs.Ahead.{pass_over}
 use Rattle.js_parsing.proofs.Escapes.{plain_word, read_plain}
-use Rattle.js_parsing.proofs.Verdicts.{grown_first, grown_then, grown_both}
+use Rattle.js_parsing.proofs.Verdicts.{grown_both, grown_first, grown_on, grown_then}
 use Rattle.js_parsing.specs.Classes.{IsEarly}
 use Rattle.js_parsing.proofs.Classes.{kept_early}
 use Rattle.std.proofs.lemmas.List.Elements.{All-same}
@@ -433,6 +433,20 @@ head_only_arrow {text} {f} {g} {o} {p} h k c = record { no = λ ts vs j ls rest 
         let w : y.0 ≡ here rest = same_arrow (here_at (Lex text) (last y.0) q.1) (subst (λ (v : ℕ). Lex text v (here rest)) (sym q.0) (here_at (Lex text) rest q.2)) (sym (kind_of_same Arrow y.0.kind y.2)) in
         false≢true (sym (ap not (subst (λ (v : Lexeme). same_kind Arrow v.kind ≡ true) w y.2)) ∙ n)
 
+-- and they are derived, where they begin with a parenthesis
+pub head_derived : {text : List ℕ} {f g : Flags} {o p : Parser} {id : NodeId} → At text f o → o.token.kind ≡ LParen → Head text f g o p id → p.token.kind ≡ Arrow → HeadDerived text g o.prev_token_end
+head_derived {text} {f} {g} {o} {p} a k h r = record { lexemes = h.pass (last y.0); lexed = l; slots = tree h.label h.slots end; end = p.prev_token_end; rest = last y.0; derived = by (h.read.goes.sound end end p.prev_token_end (last y.0) (last y.0) y.1 (inl h.read.near) is_nothing); arrow = y.2 }
+  where
+    y : (y : Lexeme) × Lex text p.prev_token_end y × (same_kind Arrow y.kind ≡ true) × (p.token.span.start ≡ y.from)
+    y = arrow_here h.at r
+
+    l : Lexes (Lex text) o.prev_token_end (h.pass (last y.0))
+    l = h.read.goes.passes.lexed (last y.0) y.1
+
+    by : Takes rule (head_of g) end (tree h.label h.slots end) o.prev_token_end (h.pass (last y.0)) end p.prev_token_end (last y.0) → Takes rule (symbol Params g) end (tree h.label h.slots end) o.prev_token_end (h.pass (last y.0)) end p.prev_token_end (last y.0)
+    by (is_left d) = absurd ((no_name a g {X = plain full} k).no (tree h.label h.slots end) end p.prev_token_end (h.pass (last y.0)) (last y.0) l d (refl, refl))
+    by (is_right d) = d
+
 -- so the arrow that stands behind is the token
 pub arrow_is_here : {text : List ℕ} {f : Flags} {p : Parser} → At text f p → (y : Lexeme) → Lex text p.prev_token_end y → y.kind ≡ Arrow → p.token.kind ≡ Arrow
 arrow_is_here {p = p} a y l k = by p.cut refl
@@ -496,7 +510,7 @@ parenthesized_head {f = f} {p = p} a k x e z = record {
   slots = x.answer.slots;
   pass = x.answer.pass;
   walked = x.answer.walked;
-  read = record { reach = max 0 z.reach; near = let i = z.near in omega arith; goes = right (no_name f k) ▹ weaken_on z.goes (record { admits = λ ts vs k ls rest d e. (refl, refl) }) };
+  read = record { reach = max 0 z.reach; near = let i = z.near in omega arith; goes = right (no_name a f k) ▹ weaken_on z.goes (record { admits = λ ts vs k ls rest d e. (refl, refl) }) };
   holds = x.holds;
   keeps = x.keeps;
 }
@@ -692,7 +706,7 @@ quiet_verdict (inl e) c = clean e c
 quiet_verdict (inr (w, g)) c = wider w g c
 
 -- behind what kept none
-quiet_behind : {f : Flags} {o p q : Parser} → p.errors ≡ o.errors → Quiet f p q → Quiet f o q
+pub quiet_behind : {f : Flags} {o p q : Parser} → p.errors ≡ o.errors → Quiet f p q → Quiet f o q
 quiet_behind e (inl i) = inl (i ∙ e)
 quiet_behind e (inr (w, g)) = inr (w, grown_then e g)
 

@@ -34,8 +34,8 @@ use Rattle.js_parsing.proofs.Unbuilt.{nothing_unbuilt}
 use Rattle.js_parsing.proofs.Verdicts.{either_way}
 use Rattle.js_targets.specs.Others.{NoYield}
 use Rattle.js_targets.proofs.ArraysBeforeSigns.{is_cover}
-use Rattle.js_expressions.specs.Arrows.{ArgumentsTold, AttemptsHead, FindsHead, Head, HeadRead, HeadStands, NeverArrow, read_clean, read_unclean, IsHeadRead, NoHeadHere, NoLine, NoSlash, OnlyArrowHere, OperandExcluded, PlainHead, a_head, told_head, SlashFound, ToldHead, TriesHead, Unmoved, WentOn, head_of}
-use Rattle.js_expressions.proofs.Arrows.{arrow_is_here, closed_arrow, head_only_arrow, no_head_no_line, no_yield_paren, plain_head_flags, start_between, unassigned}
+use Rattle.js_expressions.specs.Arrows.{ArgumentsTold, AttemptsHead, FindsHead, Head, HeadDerived, HeadRead, HeadStands, NeverArrow, read_clean, read_unclean, IsHeadRead, NoHeadHere, NoLine, NoSlash, OnlyArrowHere, OperandExcluded, PlainHead, a_head, told_head, SlashFound, ToldHead, TriesHead, Unmoved, WentOn, head_of}
+use Rattle.js_expressions.proofs.Arrows.{arrow_is_here, closed_arrow, head_derived, head_only_arrow, no_head_no_line, no_yield_paren, plain_head_flags, quiet_behind, start_between, unassigned}
 use Rattle.js_expressions.proofs.HeadsAsArguments.{params_as_arguments}
 use Rattle.js_expressions.proofs.NotedHeads.{noted_operand, there_too}
 use Rattle.js_expressions.proofs.ParenthesizedFronts.{no_operand_before}
@@ -86,9 +86,17 @@ arguments_refused {p} {q} e a i s = go (λ text f b. subst (λ (v : Stop). Stops
 -- parameters that stand are arguments, and `=>` stands behind them
 stood_never : {p : Parser} (b : Bool) → Standing p → HeadStands b p → ((text : List ℕ) (f : Flags) → At text f p → NeverArrow text f p.prev_token_end) → ⊥
 stood_never {p} b a h n =
-    let x = h _ _ a refl in
+    let x = h _ _ a in
     let z = head_as_arguments b _ (is_cover a) refl x.derived in
     (n _ _ a).no z.0 end x.end x.lexemes x.rest x.lexed z.1 (x.arrow, refl)
+
+-- of a head of which nothing was told parameters are derived
+pub stood_here : {p q : Parser} {id : NodeId} (b : Bool) → p.token.kind ≡ LParen → IsHeadRead b p q id → length q.errors ≡ length p.errors → HeadStands b p
+stood_here {p} {q} {id} b k x n = λ text f a. by a (x.1 text f a)
+  where
+    by : {text : List ℕ} {f : Flags} → At text f p → HeadRead text f (arrow_head b f) p q id → HeadDerived text (arrow_head b f) p.prev_token_end
+    by a (read_clean h) = head_derived a k h x.0
+    by a (read_unclean t m) = absurd (longer t.grown (sym n))
 
 pub never_stands : {p : Parser} (b : Bool) → Standing p → HeadStands b p → ((text : List ℕ) (f : Flags) → At text f p → NeverArrow text f p.prev_token_end) → NoHeadHere b p
 never_stands b a h n = absurd (stood_never b a h n)
@@ -234,6 +242,10 @@ module _ {p r : Parser} (u : Unmoved p r) where
   pub found_there : (q : Parser) (found : Option NodeId) → FindsHead r q found → FindsHead p q found
   found_there q (Some id) x = (x.0, (λ text f a. plain_from_there (x.1 text f (u.at text f a))), λ text f a. subst (λ (s : ℕ). Underived text (at Short f) s) u.place (x.2 text f (u.at text f a)))
   found_there q None x = (unmoved_both u x.0, λ text f a. subst (λ (s : ℕ). NoLine text f s) u.place (x.1 text f (u.at text f a)))
+
+-- that such stand here is so where the parser went back
+pub stands_there : {p r : Parser} (b : Bool) → Standing p → Unmoved p r → HeadStands b p → HeadStands b r
+stands_there b a u h = there_too (λ text f s. HeadDerived text (arrow_head b f) s) a u h
 
 -- that none stands here is so where the parser went back
 pub none_here : {p r : Parser} (b : Bool) → Standing p → Unmoved p r → NoHeadHere b p → NoHeadHere b r

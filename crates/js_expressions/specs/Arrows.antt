@@ -290,9 +290,9 @@ pub record HeadDerived (text : List ℕ) (g : Flags) (s : ℕ) : Type 0 where
   pub derived : Takes rule (sym Params g) no_slots slots s lexemes no_slots end rest
   pub arrow : same_kind Arrow (here rest).kind ≡ true
 
--- such are derived from here, behind `async` or not, not in wider forms alone
+-- such are derived from here, behind `async` or not
 abbrev pub HeadStands : Bool → Parser → Type 0
-HeadStands a p = (text : List ℕ) (f : Flags) → At text f p → f.wide ≡ false → HeadDerived text (arrow_head a f) p.prev_token_end
+HeadStands a p = (text : List ℕ) (f : Flags) → At text f p → HeadDerived text (arrow_head a f) p.prev_token_end
 
 -- behind no arguments that are derived from the place `=>` stands
 abbrev pub NeverArrow : List ℕ → Flags → ℕ → Type 0

@@ -5,7 +5,7 @@ use Rattle.js_parsing.proofs.Moving.{standing}
 use Rattle.js_parsing.proofs.Nesting.{later_room, nests_later}
 use Rattle.js_expressions.proofs.Arrows.{went_back}
 use Rattle.js_expressions.proofs.NotedHeads.{operand_noted_here}
-use Rattle.js_expressions.proofs.SlashedHeads.{none_here, told_from, told_so, told_went_on, tries_there, unmoved_both}
+use Rattle.js_expressions.proofs.SlashedHeads.{never_stands, none_here, told_from, told_so, told_went_on, tries_there, unmoved_both}
 use Rattle.js_expressions.proofs.arrow.attempt_head_again.Goals as goal
 
 pub rewind-requires-clause-at : goal.rewind-requires-clause-at
@@ -30,13 +30,13 @@ pub note_no_head-requires-clause-none : goal.note_no_head-requires-clause-none
 note_no_head-requires-clause-none g c =
     let t = told_from c.args.p.now _ c.is_arrow_due.new.p c.in_ok-excluded.excluded c.in_ok-here.ensures.same c.in_ok-excluded.ensures in
     let w = went_back (ap may_be_read_again c.requires.open) c.in_ok-here.ensures.remembers (told_went_on c.args.p.now c.is_arrow_due.new.p c.in_ok-excluded.excluded t) c.rewind.ensures in
-    none_here c.args.is_async c.requires.at w ((told_so c.args.p.now c.is_arrow_due.new.p c.if-not-excluded.true t).1 c.args.is_async)
+    none_here c.args.is_async c.requires.at w (never_stands c.args.is_async c.requires.at (c.requires.stood c.if-is_told.false) (told_so c.args.p.now c.is_arrow_due.new.p c.if-not-excluded.true t).1)
 
 pub returns-then-not-excluded : goal.returns-then-not-excluded
 returns-then-not-excluded g c =
     let t = told_from c.args.p.now _ c.is_arrow_due.new.p c.in_ok-excluded.excluded c.in_ok-here.ensures.same c.in_ok-excluded.ensures in
     let w = went_back (ap may_be_read_again c.requires.open) c.in_ok-here.ensures.remembers (told_went_on c.args.p.now c.is_arrow_due.new.p c.in_ok-excluded.excluded t) c.rewind.ensures in
-    (unmoved_both w c.in_ok-note_no_head.ensures, (told_so c.args.p.now c.is_arrow_due.new.p c.if-not-excluded.true t).1 c.args.is_async)
+    (unmoved_both w c.in_ok-note_no_head.ensures, never_stands c.args.is_async c.requires.at (c.requires.stood c.if-is_told.false) (told_so c.args.p.now c.is_arrow_due.new.p c.if-not-excluded.true t).1)
 
 pub note_operand_failed-requires : goal.note_operand_failed-requires
 note_operand_failed-requires g c =
