@@ -152,8 +152,8 @@ spread_property : (f : Flags) {i j : ℕ} {x : Lexeme} {ls rest : Lexemes} → I
 unfolding rule rule_of
 spread_property f q e = record { label = _; slots = _; derived = is_right (is_right (is_node (is_seq (is_lexeme q) (is_such e.derived refl)))) }
 
-abbrev pub with_default : Flags → Kind → G
-with_default f o = mk assignment_target_with_default (symbol SimpleTarget f ▸ tok o ▸ symbol Assignment (plus_in f))
+abbrev pub with_operator : Flags → Kind → G
+with_operator f o = mk assignment_target_with_default (symbol SimpleTarget f ▸ tok o ▸ symbol Assignment (plus_in f))
 
 abbrev pub assigning : Flags → Kind → G
 assigning f o = op assignment_expression o (symbol SimpleTarget f ▸ tok o ▸ symbol Assignment f)
@@ -171,13 +171,13 @@ pub record Assigning (f : Flags) (ks : List Kind) (ts us : Slots) (i : ℕ) (ls 
   pub is_tree : ts ≡ tree (default_label ls j) slots us
   pub derived : Takes rule (branches ks (assigning (plus_in f))) end (tree (assigned_label operator ls j) slots end) i ls end j rest
 
-pub by_other : (f : Flags) {ts us : Slots} {i j : ℕ} {ls rest : Lexemes} (ks : List Kind) → Takes rule (branches ks (with_default f)) end ts i ls us j rest → Assigning f ks ts us i ls j rest
+pub by_other : (f : Flags) {ts us : Slots} {i j : ℕ} {ls rest : Lexemes} (ks : List Kind) → Takes rule (branches ks (with_operator f)) end ts i ls us j rest → Assigning f ks ts us i ls j rest
 by_other f [] d = elim d [ ]
 by_other f (k ∷ []) (is_node (is_seq (is_such d h) (is_seq (is_lexeme q) (is_such e g)))) = record { operator = k; slots = _; is_tree = refl; derived = is_node (is_seq (any_in SimpleTarget f (plus_in f) refl refl (is_such d refl)) (is_seq (is_lexeme q) (is_such e refl))) }
 by_other f (k ∷ j ∷ ks) (is_left (is_node (is_seq (is_such d h) (is_seq (is_lexeme q) (is_such e g))))) = record { operator = k; slots = _; is_tree = refl; derived = is_left (is_node (is_seq (any_in SimpleTarget f (plus_in f) refl refl (is_such d refl)) (is_seq (is_lexeme q) (is_such e refl)))) }
 by_other f (k ∷ j ∷ ks) (is_right d) = let x = by_other f (j ∷ ks) d in record { operator = x.operator; slots = x.slots; is_tree = x.is_tree; derived = is_right x.derived }
 
-other_one : (f : Flags) {ts us : Slots} {i j : ℕ} {ls rest : Lexemes} → Takes rule (branches other_operators (with_default f)) end ts i ls us j rest → One (at Assignment (plus_in f)) i ls j rest
+other_one : (f : Flags) {ts us : Slots} {i j : ℕ} {ls rest : Lexemes} → Takes rule (branches other_operators (with_operator f)) end ts i ls us j rest → One (at Assignment (plus_in f)) i ls j rest
 unfolding rule rule_of
 other_one f {j = j} {ls = ls} d = let x = by_other f other_operators d in record { label = assigned_label x.operator ls j; slots = x.slots; derived = is_right (is_right (is_right (is_left (is_right x.derived)))) }
 
@@ -250,9 +250,9 @@ module _ (f : Flags) (v : f.cover ≡ true) where
 
     left_at : {ts us : Slots} {i j : ℕ} {ls rest : Lexemes} (d : Takes rule (left_line f) end ts i ls us j rest) → 3 + deep d < n → One (at Assignment (plus_in f)) i ls j rest
     unfolding rule rule_of
-    left_at (is_left (is_such d h)) c = up _ _ _ _ _ _ (is_left (is_such d h)) (omega arith)
-    left_at (is_right (is_when z (is_left (is_such d h)))) c = up _ _ _ _ _ _ (is_right (is_left (is_such d h))) (omega arith)
-    left_at (is_right (is_when z (is_right (is_such d h)))) c = up _ _ _ _ _ _ (is_right (is_right (is_such d h))) (omega arith)
+    left_at {ts} {us} {i} {j} {ls} {rest} (is_left (is_such d h)) c = up ts us i j ls rest (is_left (is_such d h)) (omega arith)
+    left_at {ts} {us} {i} {j} {ls} {rest} (is_right (is_when z (is_left (is_such d h)))) c = up ts us i j ls rest (is_right (is_left (is_such d h))) (omega arith)
+    left_at {ts} {us} {i} {j} {ls} {rest} (is_right (is_when z (is_right (is_such d h)))) c = up ts us i j ls rest (is_right (is_right (is_such d h))) (omega arith)
 
     rest_at : {ts : Slots} {i j : ℕ} {ls rest : Lexemes} (d : Takes rule (rest_property f) end ts i ls end j rest) → 2 + deep d < n → (ws : Slots) × Takes rule (properties f) end ws i ls end j rest
     rest_at (is_seq (is_node (is_seq (is_lexeme q) d)) (is_right is_nothing)) c = last_of_them f (spread_property f q (left_at d (omega arith)))

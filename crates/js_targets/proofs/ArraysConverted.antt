@@ -155,7 +155,7 @@ module _ {text : List ℕ} {f : Flags} (v : f.cover ≡ true) {s s' : ℕ} {l : 
     targeted : {ls rest : Lexemes} {j : ℕ} → Lexes (Lex text) s ls → Takes rule (rule (at Short f)) end (tree l cs end) s ls end j rest → Targeted text o f l cs ds s ls j rest
     targeted m d = literal_target text o ds h e u r b m ((of_short f).down (may_literal l.kind (is_literal_kind o l.kind h)) (is_such d refl))
 
-    pub target_there : Each (Narrow text) (places_in (in_literal o) cs) → Stretch text (signs f) (such (at (target_name o) f) always) s nothing s' (tree (relabelled (pattern_kind o) l) ds) pass
+    pub target_there : (f.wide ≡ true) ⊎ Each (Narrow text) (places_in (in_literal o) cs) → Stretch text (signs f) (such (at (target_name o) f) always) s nothing s' (tree (relabelled (pattern_kind o) l) ds) pass
     target_there n = record {
       reach = z.reach;
       near = z.near;
@@ -167,7 +167,7 @@ module _ {text : List ℕ} {f : Flags} (v : f.cover ≡ true) {s s' : ℕ} {l : 
     }
       where
         sound : {us vs : Slots} {k : ℕ} {ls rest : Lexemes} → Lexes (Lex text) s ls → Takes rule (such (at Short f) always) end (tree l cs us) s ls vs k rest → Takes rule (such (at (target_name o) f) always) end (tree (relabelled (pattern_kind o) l) ds us) s ls vs k rest
-        sound m (is_such d c) = anew ((targeted m d).takes (inr n))
+        sound m (is_such d c) = anew ((targeted m d).takes n)
 
         only : (ts vs : Slots) (k : ℕ) (ls rest : Lexemes) → Lexes (Lex text) s ls → Takes rule (such (at (target_name o) f) always) end ts s ls vs k rest → Admits (signs f) ts (here rest) → (us : Slots) × (ls' : Lexemes) × (ts ≡ tree (relabelled (pattern_kind o) l) ds us) × Lexes (Lex text) s' ls' × Takes rule nothing end us s' ls' vs k rest × (ls ≡ pass ls')
         only ts vs k ls rest m (is_such {l = a} {cs = bs} d c) q =

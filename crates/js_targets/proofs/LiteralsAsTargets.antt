@@ -25,6 +25,7 @@ use Rattle.js_targets.specs.Taken.{target_name}
 use Rattle.js_targets.specs.Targets.{literal_kind, Each, IsIn, Closed, Narrow, Fits, in_literal, in_property, within, is_elision, is_spread, is_property, is_assignment, is_equals, is_wide, is_object, is_literal, is_pattern, is_target, target_of, relabelled, pattern_kind, literal_tree, slot_of, rest_slot, shorthand_slot, behind_first, reference_slot, named_slot, property_slot, element_slot, are_none, followed, before_all, before_value, elements_in, operator_places, literal_places, places_of, places_in, made_span}
 use Rattle.js_targets.specs.declared.widening.Widening.{Widening}
 use Rattle.js_targets.specs.declared.widening.Widening.TheVariants.{Rest, RestTarget, Operator}
+use Rattle.js_targets.proofs.ArrayTargets.{with_operator}
 use Rattle.js_targets.proofs.ArrayElements.{a_slots, a_part, operated_line, gap_label, no_gap, Initialised, initialised, Step, closes, gap, item, final, step_of, Element, an_expression, a_spread, element_of}
 use Rattle.js_targets.proofs.Properties.{property_label, shorthand_line, PropertyOf, a_shorthand, a_value, a_method, a_spread as a_spread_property, property_of, properties_on, PropertyStep, shuts, property, last_property, property_step}
 use Rattle.js_parsing.proofs.FreeOfIn.{any_in}
@@ -317,7 +318,7 @@ as_default f {l} {cs} {us} {i} {j} {ls} {rest} x = subst (λ (s : Span). Takes r
 sides_lowered : (f : Flags) (k : Kind) {cs : Slots} {i j : ℕ} {ls rest : Lexemes} → Takes rule (a_slots (plus_in f) k) end cs i ls end j rest → Takes rule (symbol SimpleTarget f ▸ tok k ▸ symbol Assignment (plus_in f)) end cs i ls end j rest
 sides_lowered f k (is_seq d e) = is_seq (any_in SimpleTarget (plus_in f) f refl refl d) e
 
-wide_branch : (f : Flags) (ks : List Kind) → {l : Label} {cs us : Slots} {i j : ℕ} {ls rest : Lexemes} → Takes rule (branches ks (a_part (plus_in f))) end (tree l cs end) i ls end j rest → Takes rule (branches ks (with_default f)) end (tree (relabelled assignment_target_with_default l) cs us) i ls us j rest
+wide_branch : (f : Flags) (ks : List Kind) → {l : Label} {cs us : Slots} {i j : ℕ} {ls rest : Lexemes} → Takes rule (branches ks (a_part (plus_in f))) end (tree l cs end) i ls end j rest → Takes rule (branches ks (with_operator f)) end (tree (relabelled assignment_target_with_default l) cs us) i ls us j rest
 wide_branch f [] d = elim d [ ]
 wide_branch f (k ∷ []) (is_node d) = is_node (sides_lowered f k d)
 wide_branch f (k ∷ m ∷ ks) (is_left (is_node d)) = is_left (is_node (sides_lowered f k d))

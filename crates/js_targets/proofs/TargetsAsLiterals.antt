@@ -21,7 +21,7 @@ use Rattle.js_targets.specs.declared.widening.Widening.TheVariants.{Rest}
 use Rattle.js_targets.specs.Taken.{target_name}
 use Rattle.js_targets.specs.Targets.{Each, Closed, Shut, in_literal, within, is_literal, literal_kind, is_pattern, is_target, is_parens, target_in, target_of, relabelled, pattern_kind, before_all, before_value, followed, named_slot, elements_in, argument_places, places_of, places_in}
 use Rattle.js_targets.proofs.ArrayElements.{gap_label}
-use Rattle.js_targets.proofs.ArrayTargets.{target_step, target_last, literal_step, literal_items, with_default, default_label, assigned_label, by_other, more_items, left_line, target_property, last_property, properties, bound_word, deep}
+use Rattle.js_targets.proofs.ArrayTargets.{target_step, target_last, literal_step, literal_items, with_operator, default_label, assigned_label, by_other, more_items, left_line, target_property, last_property, properties, bound_word, deep}
 use Rattle.js_parsing.proofs.FreeOfIn.{any_in}
 use Rattle.js_targets.proofs.LiteralsAsTargets.{all_of, rest_before, literal_before, simple_before, element_before}
 use Rattle.js_targets.proofs.Properties.{property_label, named}
@@ -191,7 +191,7 @@ module _ (text : List ℕ) (wide : Bool) where
       by (is_seq (is_such (is_right (is_right (is_such d c))) g) e) = is_right (is_right (is_right (is_right (is_node (is_seq (is_right (any_in ObjectTarget f (plus_in f) refl refl (is_such d refl))) e)))))
 
   -- a simple target and another operator
-  other_source : (f : Flags) → wide ≡ true → {l : Label} {cs us : Slots} {i j : ℕ} {ls rest : Lexemes} → Takes rule (branches other_operators (with_default f)) end (tree l cs end) i ls end j rest → Source false (at Assignment (plus_in f)) (tree l cs us) us i ls j rest
+  other_source : (f : Flags) → wide ≡ true → {l : Label} {cs us : Slots} {i j : ℕ} {ls rest : Lexemes} → Takes rule (branches other_operators (with_operator f)) end (tree l cs end) i ls end j rest → Source false (at Assignment (plus_in f)) (tree l cs us) us i ls j rest
   unfolding rule rule_of
   other_source f h {us = us} {j = j} {ls = ls} d =
       let x = by_other f other_operators d in
