@@ -1,5 +1,5 @@
 -- Arrow functions (ECMA-262, 15.3 and 15.9), and where none is derived.
-use Rattle.std.proofs.Common.{ℕ, ◌≡◌, ◌≤◌, ◌<◌, inl, inr, List, [], ◌∷◌, length, Bool, true, false, not, cond, ◌&&◌, ◌||◌, IsTrue, Option, Some, None, refl, sym, ap, subst, arith, ◌∙◌, ◌+◌}
+use Rattle.std.proofs.Common.{ℕ, ◌≡◌, ◌≤◌, ◌<◌, inl, inr, List, [], ◌∷◌, length, Bool, true, false, not, cond, ◌&&◌, ◌||◌, IsTrue, Option, Some, None, refl, sym, ap, subst, arith, ◌∙◌, ◌+◌, ◌⊎◌, max}
 use Rattle.std.specs.Prelude.{IsCharBoundary, Result, Ok, Err, nat_lt}
 use Rattle.std.proofs.lemmas.Bool.{false≢true, and_parts, or_left, or_right}
 use Rattle.js_base.specs.Contexts.{has_flag, yield_flag}
@@ -24,7 +24,7 @@ use Rattle.js_grammar.specs.Follow.{after, looser, row_of, widest}
 use Rattle.js_grammar.proofs.Heads.{One, the_last, and_more, begins_head, operand_taken, in_one, one_name}
 use Rattle.js_grammar.proofs.Looks.{covers, covered, apart, not_both}
 use Rattle.js_grammar.proofs.RightEdges.{may_end}
-use Rattle.js_grammar.proofs.Calculus.{On, Inside, inside_full, ◌▹◌, ◌▹✗◌, here_at, done, left, right, looks, part_fails, fails_node, fails_look, fails_alt}
+use Rattle.js_grammar.proofs.Calculus.{On, Inside, inside_full, ◌▹◌, ◌▹✗◌, here_at, done, left, right, looks, part_fails, fails_node, fails_look, fails_alt, weaken_on}
 use Rattle.js_grammar.proofs.FollowLaws.{fails_by}
 use Rattle.js_base.specs.declared.token.Token.{Token}
 use Rattle.js_grammar.specs.Grammar.{empty_slot}
@@ -96,7 +96,7 @@ use Rattle.js_parsing.proofs.ToEnd.{to_end_stays}
 use Rattle.js_parsing.proofs.Giving.{kept_one}
 use Rattle.js_parsing.proofs.Here.{angled, found, plainly, one_plain, newline_here, kind_here, told, uncut, told_plain}
 use Rattle.js_parsing.proofs.MadeNodes.{leaf_held, node_held, two_held, one_lies, LabelLies, from_start}
-use Rattle.js_parsing.proofs.Moving.{beside_nodes, flags_same, heads_kept, same_both, same_itself, same_with, stops_behind, nodes_lie}
+use Rattle.js_parsing.proofs.Moving.{beside_nodes, flags_same, heads_kept, same_both, same_itself, same_with, standing_for, stops_behind, nodes_lie}
 use Rattle.js_operands.proofs.Operands.{by_path, by_such, name_signless}
 use Rattle.js_patterns.proofs.Bindings.{bound_path, ended_by, then_any}
 use Rattle.js_parsing.proofs.Paths.{Path, ◌⟼◌, ◌⟶◌, ◌⟶✗◌, fails_at, not_here, token, last_called, noded, by_symbol_as, label_here, read_of, walked_both, walked_from, walked_one, flagged_here, flagged_by}
@@ -701,17 +701,17 @@ went_back {p} {q} {r} o m (f, n, l) g =
 -- ---- an arrow function
 
 -- what is said of what was read
-quiet_verdict : {f : Flags} {p q : Parser} {C B : Type 0} → Quiet f p q → C → Verdict (f.wide ≡ true) p.errors q.errors C B
+quiet_verdict : {W K : Type 0} {p q : List K} {C B : Type 0} → (q ≡ p) ⊎ (W × Grown p q) → C → Verdict W p q C B
 quiet_verdict (inl e) c = clean e c
 quiet_verdict (inr (w, g)) c = wider w g c
 
 -- behind what kept none
-pub quiet_behind : {f : Flags} {o p q : Parser} → p.errors ≡ o.errors → Quiet f p q → Quiet f o q
+pub quiet_behind : {W K : Type 0} {o p q : List K} → p ≡ o → (q ≡ p) ⊎ (W × Grown p q) → (q ≡ o) ⊎ (W × Grown o q)
 quiet_behind e (inl i) = inl (i ∙ e)
 quiet_behind e (inr (w, g)) = inr (w, grown_then e g)
 
 -- and more was kept behind it
-quiet_grown : {f : Flags} {p q : Parser} {ds : List Diagnostic} → Quiet f p q → Grown q.errors ds → Grown p.errors ds
+quiet_grown : {W K : Type 0} {p q r : List K} → (q ≡ p) ⊎ (W × Grown p q) → Grown q r → Grown p r
 quiet_grown (inl e) g = grown_then e g
 quiet_grown (inr (w, h)) g = grown_both h g
 
@@ -895,8 +895,8 @@ module _ {text : List ℕ} (a : Bool) {f : Flags} (o : Parser) {l p q r : Parser
   arrow_stops w e s = go c m s
     where
       go : {q : Parser} → ChecksLine p q → Moved text f q r → Stops r w e (Underived text (body_of b a f) r.prev_token_end) → Stops o w e (Underived text (at Assignment f) o.prev_token_end)
-      go (inl (l, c)) m s = stops_behind w e (same_both up_to (same_both (line_same (inl (l, c))) m.same)) (λ g. quiet_grown {f = f} quietly (grown_both (kept_one c) (grown_then m.kept g))) (λ z. fails_by (late_rule a o d h y k l)) s
-      go (inr (n, j)) m s = stops_behind w e (same_both up_to (same_both (line_same (inr (n, j))) m.same)) (λ g. quiet_grown {f = f} quietly (grown_then (m.kept ∙ ap (λ (z : Parser). z.errors) j) g)) (λ z. body_fails a o d h y k n (subst (λ (z : Parser). Moved text f z r) j m) b i z) s
+      go (inl (l, c)) m s = stops_behind w e (same_both up_to (same_both (line_same (inl (l, c))) m.same)) (λ g. quiet_grown quietly (grown_both (kept_one c) (grown_then m.kept g))) (λ z. fails_by (late_rule a o d h y k l)) s
+      go (inr (n, j)) m s = stops_behind w e (same_both up_to (same_both (line_same (inr (n, j))) m.same)) (λ g. quiet_grown quietly (grown_then (m.kept ∙ ap (λ (z : Parser). z.errors) j) g)) (λ z. body_fails a o d h y k n (subst (λ (z : Parser). Moved text f z r) j m) b i z) s
 
   arrow_path : {w : Parser} → At text f o → (x : Answer text f (body_of b a f) r w) → Path text f (after (at Assignment f)) (rule (at Assignment f)) o nothing w (tree (flagged_here arrow_function_expression no_op (flag a async_flag) o w) (tree h.label h.slots (tree x.label x.slots end)))
   arrow_path {w} t x = go c m
@@ -908,7 +908,7 @@ module _ {text : List ℕ} (a : Bool) {f : Flags} (o : Parser) {l p q r : Parser
         further = let v = lead_start text f o l a d in let j = h.further in let d = line_place (inl (n, c)) in let e = (line_at h.at (inl (n, c))).behind in let g = m.further in let u = m.at.behind in let i = x.further in omega arith;
         pass = λ ls. lead_pass text f o l a d (h.pass (next m.lexeme (x.pass ls)));
         walked = walked_both (led_walk text f o l a p d h.walked) (walked_both (walked_from (line_spot (inl (n, c))) (walked_one m)) x.walked);
-        verdict = unclean (quiet_grown {f = f} quietly (behind (grown_first (kept_one c) m.kept) x.verdict)) (late_rule a o d h y k n);
+        verdict = unclean (quiet_grown quietly (behind (grown_first (kept_one c) m.kept) x.verdict)) (late_rule a o d h y k n);
       }
 
   pub arrow_answers : {w z : Parser} {body made : NodeId} (s : Span) → At text f o → (x : Numbered text f (body_of b a f) r w body) → s.start ≡ o.token.span.start → s.end ≡ w.prev_token_end → MadeHere (arrow_label a s) (Some id ∷ Some body ∷ []) w z made → Numbered text f (at Assignment f) o z made

@@ -152,7 +152,7 @@ conditional_none {text} f {s} x = weaken_fails_on (lift_fails (at Conditional f)
 
 pub test_none : {text : List ℕ} (f : Flags) {s : ℕ} → f.cover ≡ true → OnlyOperand text f s → Underived text (at Short f) s → Underived text (at Assignment f) s
 unfolding covers
-test_none {text} f {s} w v a x = lift_fails (at Assignment f) (at Conditional f) refl refl text s (nothing_assigned f w v a x) (lift_fails (at Conditional f) (at Short f) refl refl text s (short_none x) x)
+test_none {text} f {s} v a x = lift_fails (at Assignment f) (at Conditional f) refl refl text s (nothing_assigned f v a x) (lift_fails (at Conditional f) (at Short f) refl refl text s (short_none x) x)
 
 module _ {text : List ℕ} {f : Flags} {p q : Parser} (x : Answer text f (at Short f) p q) where
   no_branches : one_of_kinds (Question ∷ []) q.token.kind ≡ false → Goes rule (Lex text) (after (at Conditional f)) end (rule (at Conditional f)) p.prev_token_end (such (at Short f) always) p.prev_token_end (λ us. us) (still 0)

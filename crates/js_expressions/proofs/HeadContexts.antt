@@ -80,15 +80,15 @@ module _ {text : List ℕ} {f : Flags} {p : Parser} (a : At text f p) where
   read_out v (read_clean x) = read_clean (head_out v x)
   read_out v (read_unclean t n) = read_unclean (told_out t) n
 
-module _ {text : List ℕ} {f g : Flags} {p e q w : Parser} {c d : Context} {id : NodeId} (v : g.wide ≡ f.wide) (a : At text f p) (i : d ≡ p.ctx) (h : e ≡ record p { ctx = c }) (j : w ≡ record q { ctx = d }) where
-  is_back : w ≡ record q { ctx = p.ctx }
-  is_back = j ∙ ap (λ (k : Context). record q { ctx = k }) i
+is_back : (p q : Parser) {w : Parser} {d : Context} → d ≡ p.ctx → w ≡ record q { ctx = d } → w ≡ record q { ctx = p.ctx }
+is_back p q i j = j ∙ ap (λ (k : Context). record q { ctx = k }) i
 
+module _ {text : List ℕ} {f g : Flags} {p e q w : Parser} {c d : Context} {id : NodeId} (v : g.wide ≡ f.wide) (a : At text f p) (i : d ≡ p.ctx) (h : e ≡ record p { ctx = c }) (j : w ≡ record q { ctx = d }) where
   head_back : Head text g g e q id → Head text f g p w id
-  head_back x = subst (λ (r : Parser). Head text f g p r id) (sym is_back) (head_out a v (subst (λ (r : Parser). Head text g g r q id) h x))
+  head_back x = subst (λ (r : Parser). Head text f g p r id) (sym (is_back p q i j)) (head_out a v (subst (λ (r : Parser). Head text g g r q id) h x))
 
   read_back : HeadRead text g g e q id → HeadRead text f g p w id
-  read_back x = subst (λ (r : Parser). HeadRead text f g p r id) (sym is_back) (read_out a v (subst (λ (r : Parser). HeadRead text g g r q id) h x))
+  read_back x = subst (λ (r : Parser). HeadRead text f g p r id) (sym (is_back p q i j)) (read_out a v (subst (λ (r : Parser). HeadRead text g g r q id) h x))
 
 -- where nothing was read the parser is where it was
 pub unmoved_back : {p e q w : Parser} {c d : Context} → Standing p → ((text : List ℕ) (f : Flags) → At text f p → (g : Flags) × At text g e) → d ≡ p.ctx → e ≡ record p { ctx = c } → w ≡ record q { ctx = d } → Unmoved e q → Unmoved p w

@@ -1,5 +1,5 @@
 -- It is noted where no head of an arrow function stands, and where no operand does.
-use Rattle.std.proofs.Common.{ℕ, ◌≡◌, ◌<◌, Bool, true, List, sym, ap, subst, ◌∙◌}
+use Rattle.std.proofs.Common.{ℕ, ◌≡◌, ◌<◌, Bool, true, List, refl, sym, ap, subst, ◌∙◌}
 use Rattle.js_base.specs.Contexts.{bits_of}
 use Rattle.js_grammar.specs.Productions.{Flags}
 use Rattle.js_cursor.specs.Checkpoints.{GoesOn}

@@ -349,7 +349,3 @@ module _ {text : List ℕ} {f : Flags} where
       holds = subst (λ (ns : List Node). Holds ns (length p.nodes) (length ns) id.0 s.label s.slots) (sym o.nodes) s.holds;
       keeps = subst (λ (ns : List Node). Keeps p.nodes ns) (sym o.nodes) s.keeps;
     }
-
--- whatever the text and the parameters are called
-pub fixed : (n : Flags → Symbol) {text : List ℕ} {f : Flags} {p : Parser} (q : Parser) (r : Result NodeId Stop) → At text f p → Outcome p.text (flags_of p) (n (flags_of p)) p q r → Outcome text f (n f) p q r
-fixed n {text} {f} {p} q r a x = subst (λ (g : Flags). Outcome text g (n g) p q r) a.flags_are (subst (λ (t : List ℕ). Outcome t (flags_of p) (n (flags_of p)) p q r) a.text_is x)

@@ -148,7 +148,7 @@ pub row_update : {k l : Kind} {o : UpdateOperator} → k ≡ l → row_in update
 row_update {o = o} e h = subst (λ (j : Kind). row_in update_operators j ≡ Some o) e h
 
 pub refused_behind : {text : List ℕ} {f : Flags} {p q t : Parser} {b : Bool} {C B F : Type 0} (r : Parser) (e : Stop) → Same p q → Verdict (f.wide ≡ true) p.errors q.errors C B → Ended text f q t b → GivesUp EndsParse t r e → F → Stops p r e F
-refused_behind {p = p} {q = q} {t = t} {C = C} {B = B} r e s v o h n = refused r e o.at (same_both s o.same) (subst (λ (ds : List Diagnostic). Verdict (f.wide ≡ true) p.errors ds C B) (sym o.kept) v) h n
+refused_behind {f = f} {p = p} {q = q} {t = t} {C = C} {B = B} r e s v o h n = refused r e o.at (same_both s o.same) (subst (λ (ds : List Diagnostic). Verdict (f.wide ≡ true) p.errors ds C B) (sym o.kept) v) h n
 
 pub update_some_at : {k l : Kind} → l ≡ k → one_of_kinds update_kinds k ≡ true → IsSome (row_in update_operators l)
 update_some_at {k} e h = subst (λ (j : Kind). IsSome (row_in update_operators j)) (sym e) (update_some k h)

@@ -1,7 +1,8 @@
 -- Heads of arrow functions in which a slash stands (ECMA-262, 15.3): what stands there is read as arguments too, and those are read over one list of lexemes alone, or none.
 use Rattle.std.proofs.Common.{ℕ, ◌≡◌, ◌<◌, inl, inr, List, length, Bool, true, false, not, IsTrue, Option, Some, None, refl, sym, ap, subst, arith, ◌∙◌}
 use Rattle.std.specs.Prelude.{IfOk, IsCharBoundary, IsUtf8, MatchResult, Result, Ok, Err}
-use Rattle.std.proofs.lemmas.Bool.{and_parts, false≢true}
+use Rattle.std.proofs.Math.Dec.{eqb}
+use Rattle.std.proofs.lemmas.Bool.{and_parts, eqb-true, false≢true}
 use Rattle.js_base.specs.Contexts.{bits_of}
 use Rattle.js_base.specs.Kinds.{same_kind}
 use Rattle.js_base.specs.declared.diagnostic.Diagnostic.{Diagnostic}
@@ -89,6 +90,14 @@ stood_never {p} b a h n =
     let x = h _ _ a in
     let z = head_as_arguments b _ (is_cover a) refl x.derived in
     (n _ _ a).no z.0 end x.end x.lexemes x.rest x.lexed z.1 (x.arrow, refl)
+
+-- as many diagnostics were kept as before
+pub none_told : (m n : ℕ) → not (eqb m n) ≡ false → m ≡ n
+none_told m n h = eqb-true m n (go (eqb m n) h)
+  where
+    go : (b : Bool) → not b ≡ false → b ≡ true
+    go true e = refl
+    go false e = absurd (false≢true (sym e))
 
 -- of a head of which nothing was told parameters are derived
 pub stood_here : {p q : Parser} {id : NodeId} (b : Bool) → p.token.kind ≡ LParen → IsHeadRead b p q id → length q.errors ≡ length p.errors → HeadStands b p
@@ -198,7 +207,7 @@ module _ {p r : Parser} (u : Unmoved p r) where
     at = h.at;
     same = same_both u.same h.same;
     further = let a = h.further in let b = u.start in omega arith;
-    quiet = quiet_behind {f = f} u.kept h.quiet;
+    quiet = quiet_behind u.kept h.quiet;
     label = h.label;
     slots = h.slots;
     pass = h.pass;

@@ -1,10 +1,10 @@
-use Rattle.std.proofs.Common.{ap, refl, arith, ◌∙◌}
+use Rattle.std.proofs.Common.{ap, refl, sym, arith, ◌∙◌}
 use Rattle.js_cursor.specs.Tokens.{may_be_read_again}
 use Rattle.js_cursor.proofs.Changing.{may_return}
 use Rattle.js_parsing.proofs.Moving.{standing}
 use Rattle.js_parsing.proofs.Nesting.{later_room, nests_later}
 use Rattle.js_expressions.proofs.Arrows.{went_back}
-use Rattle.js_expressions.proofs.SlashedHeads.{attempts_there, excluded_so, head_between, head_settled, head_stands, head_went_on, none_tried, some_tried, stands_there, stood_here}
+use Rattle.js_expressions.proofs.SlashedHeads.{attempts_there, excluded_so, head_between, head_settled, head_stands, head_went_on, none_told, none_tried, some_tried, stands_there, stood_here}
 use Rattle.js_expressions.proofs.arrow.attempt_head.Goals as goal
 
 pub excludes_operand-requires-clause-at : goal.excludes_operand-requires-clause-at
@@ -44,7 +44,7 @@ pub attempt_head_again-requires-clause-stood : goal.attempt_head_again-requires-
 attempt_head_again-requires-clause-stood g c = λ n.
     let x = some_tried c.args.is_async _ _ c.try_parse_head.new.p _ _ c.in_ok-here.ensures.same c.in-Some.is c.in_ok-parameters.ensures in
     let w = went_back (ap may_be_read_again c.requires.open) c.in_ok-here.ensures.remembers (head_went_on c.args.is_async c.requires.at x) c.rewind.ensures in
-    stands_there c.args.is_async c.requires.at w (stood_here c.args.is_async c.requires.open x n)
+    stands_there c.args.is_async c.requires.at w (stood_here c.args.is_async c.requires.open x (sym c.kept_so_far.ensures ∙ (none_told _ _ n ∙ c.kept_so_far-kept.ensures)))
 
 pub returns-in-Some : goal.returns-in-Some
 returns-in-Some g c =

@@ -4,7 +4,7 @@ use Rattle.std.proofs.Common.{inl, arith, sym, ◌∙◌, refl}
 use Rattle.std.proofs.lemmas.Result.{err_from_is_err_and}
 use Rattle.js_expressions.proofs.ArraysAssigned.{not_simple_marked}
 use Rattle.js_expressions.proofs.Assignments.{shifted, assign_listed, row_assign, assign_answers, assign_marked, assign_refused, assign_whole, right_fails}
-use Rattle.js_targets.proofs.ArraysBeforeSigns.{is_cover, not_wide}
+use Rattle.js_targets.proofs.ArraysBeforeSigns.{is_cover}
 use Rattle.js_expressions.proofs.Conditionals.{test_none}
 use Rattle.js_parsing.proofs.Moving.{standing, stops_so, stops_behind, same_both}
 use Rattle.js_parsing.proofs.Nesting.{nests_later, later_room, nested_room}
@@ -14,7 +14,7 @@ use Rattle.js_parsing.proofs.Verdicts.{after, grown_then}
 use Rattle.js_expressions.proofs.assignment.parse_assignment_without_arrow.Goals as goal
 
 pub returns-in_err-left-clause-answers : goal.returns-in_err-left-clause-answers
-returns-in_err-left-clause-answers t c = λ text f a. let p = err_from_is_err_and c.from_residual.result c.from_residual.ensures.1 in rw (p.1, p.2) (stops_so _ _ _ (λ z. test_none f (not_wide a) (is_cover a) (c.requires.operand text f a) z) (c.in_err-left.ensures text f a))
+returns-in_err-left-clause-answers t c = λ text f a. let p = err_from_is_err_and c.from_residual.result c.from_residual.ensures.1 in rw (p.1, p.2) (stops_so _ _ _ (λ z. test_none f (is_cover a) (c.requires.operand text f a) z) (c.in_err-left.ensures text f a))
 
 pub parse_conditional_expression_rest-requires-clause-at : goal.parse_conditional_expression_rest-requires-clause-at
 parse_conditional_expression_rest-requires-clause-at t c = standing (c.in_ok-_power.ensures _ _ (c.in_ok-left.ensures _ _ c.requires.at).answer.at).at

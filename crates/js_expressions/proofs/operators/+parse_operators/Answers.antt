@@ -15,6 +15,9 @@ returns-in_err-left t n c = λ text f a. let p = err_from_is_err_and c.from_resi
 pub operators-init : goal.operators-init
 operators-init t n c = λ text f a. operand_init (let h = c.requires.high in omega arith) a (c.in_ok-left.ensures text f a)
 
+pub operator_here-requires : goal.operator_here-requires
+operator_here-requires t n c = standing (c.operators.invariant _ _ c.requires.at).at
+
 pub advance-requires-clause-at : goal.advance-requires-clause-at
 advance-requires-clause-at t n c = standing (c.in_ok-power.ensures _ _ (c.operators.invariant _ _ c.requires.at).at).at
 

@@ -3,6 +3,7 @@ use Rattle.js_expressions.proofs.HeadOperands.{listed_operand, made_no_target}
 use Rattle.std.proofs.Common.{◌≡◌, ◌∙◌, ap, sym, arith, subst, Ok, List, ◌∷◌, [], ◌++◌, Some, Option, refl}
 use Rattle.std.proofs.lemmas.Bool.{false≢true}
 use Rattle.std.proofs.lemmas.Result.{err_from_is_err_and}
+use Rattle.js_base.specs.declared.kind.Kind.TheVariants.{Comma}
 use Rattle.js_grammar.specs.Productions.{at, Expression}
 use Rattle.js_tree.specs.declared.id.NodeId.{NodeId}
 use Rattle.js_tree.specs.declared.kind.NodeKind.TheVariants as node
@@ -10,6 +11,7 @@ use Rattle.js_tree.specs.declared.op.Op.TheVariants as op
 use Rattle.js_parsing.specs.Moves.{MadeHere, plain_label}
 use Rattle.js_parsing.proofs.Moving.{standing, stops_so, stops_behind}
 use Rattle.js_parsing.proofs.Nesting.{nested_room}
+use Rattle.js_parsing.proofs.Signs.{whole_sign}
 use Rattle.js_expressions.proofs.Sequences.{Listing, alone_result, alone_fails, listing_init, listing_step, listing_end, listing_same, listing_grown, operand_fails, less_left, start_before, listing_room}
 use Rattle.js_expressions.proofs.sequence.parse_sequence_expression.Goals as goal
 
@@ -21,6 +23,12 @@ returns-then-not-at-clause-answers t c = λ text f a. alone_result (c.in_ok-firs
 
 pub items-init : goal.items-init
 items-init t c = let e : c.push.new.self.items ≡ Some c.in_ok-first.first ∷ [] = c.in_ok-push.ensures.items ∙ ap (λ (v : List (Option NodeId)). v ++ Some c.in_ok-first.first ∷ []) c.new-items.ensures.items in λ text f a. subst (λ (ids : List (Option NodeId)). Listing text f c.args.p.now c.parse_assignment_expression.new.p ids) (sym e) (listing_init (c.in_ok-first.ensures.answers text f a) (c.at.ensures.0 c.if-not-at.false))
+
+pub advance-requires-clause-at : goal.advance-requires-clause-at
+advance-requires-clause-at t c = standing (c.items.invariant _ _ c.requires.at).at
+
+pub advance-requires-clause-whole : goal.advance-requires-clause-whole
+advance-requires-clause-whole t c = let s = c.items.invariant _ _ c.requires.at in whole_sign Comma s.at s.comma refl refl
 
 pub assignment-requires : goal.assignment-requires
 assignment-requires t c = let s = c.items.invariant _ _ c.requires.at in let m = c.in_ok-advance.ensures _ _ s.at in c.requires.nests _ _ (standing m.at) (let r = nested_room s.at m in let o = listing_room c.requires.at s in omega arith)
