@@ -13,7 +13,7 @@ use Rattle.js_grammar.specs.Grammar.{Look, here, alt, such, nothing, ◌▸◌}
 use Rattle.js_grammar.specs.Parsing.{Test, plain, full, always, behind, still, Goes, Fails}
 use Rattle.js_grammar.specs.Productions.{G, Flags, Symbol, at, tok, mk, plus_in, Assignment, BElement, Binding, BindingIdentifier, BindingRest, Pattern, Rest}
 use Rattle.js_grammar.specs.Productions.{sym as symbol}
-use Rattle.js_grammar.specs.Table.{rule, rule_of}
+use Rattle.js_grammar.specs.Table.{bound_rest, rule, rule_of}
 use Rattle.js_grammar.specs.Follow.{after, surest}
 use Rattle.js_grammar.proofs.Looks.{covers, covered, apart}
 use Rattle.js_grammar.proofs.Calculus.{On, ◌▹◌, ◌▹✗◌, left, right, part_fails, then_by, weaken_fails_on, fails_alt, fails_node, fails_nothing, fails_rule, inside_full, inside_plain}
@@ -29,8 +29,8 @@ use Rattle.js_cursor.specs.Moves.{GivesUp, MovesOn, OnlyMemory, IsHere}
 use Rattle.js_cursor.specs.declared.stop.Stop.{Stop}
 use Rattle.js_cursor.specs.declared.stop.Stop.TheVariants.{Fatal, NoMemory}
 use Rattle.js_parsing.specs.Answers.{Underived, Answer, Numbered, Outcome, Stops}
-use Rattle.js_parsing.specs.Arguments.{Partway, behind_item, ItemTaken, NoItem, PartTaken}
-use Rattle.js_patterns.specs.Bindings.{elements_left}
+use Rattle.js_parsing.specs.Arguments.{Partway, behind_item, ItemOutcome, ItemTaken, NoItem, PartTaken}
+use Rattle.js_patterns.specs.Bindings.{elements_left, rest_initialiser, PartOutcome, RestBound}
 use Rattle.js_parsing.specs.Lexemes.{Lex, escaped_word, may_name, name_kinds}
 use Rattle.js_parsing.specs.Stands.{NameHere, StandsHere}
 use Rattle.js_parsing.specs.Moves.{Moved, MadeHere, LeafTaken, TakesLeaf, plain_label, unpassable}
@@ -40,7 +40,7 @@ use Rattle.js_parsing.proofs.Escapes.{plain_word}
 use Rattle.js_parsing.proofs.Giving.{fails_escaped, gives_up}
 use Rattle.js_parsing.proofs.Here.{kind_here}
 use Rattle.js_parsing.proofs.MadeNodes.{leaf_held, node_held, one_held, two_held, one_lies, made_lies}
-use Rattle.js_parsing.proofs.Moving.{beside_nodes, moves, same_both, same_with, stops_behind}
+use Rattle.js_parsing.proofs.Moving.{beside_nodes, moves, same_both, same_with, stops_behind, stops_so}
 use Rattle.js_operands.proofs.Operands.{by_path, name_leaf}
 use Rattle.js_parsing.proofs.NameKinds.{listed_name, name_apart, name_at, no_name_here, or_kind}
 use Rattle.js_parsing.proofs.NamedFirsts.{fails_unnamed}
@@ -255,19 +255,9 @@ no_element f n =
     let m : Fails rule (Lex _) (plain full) end (symbol Binding f) _ = weaken_fails_on n (record { admits = λ ts vs k ls rest d e. (refl, refl) }) in
     fails_rule {X' = behind_item} (λ l cs vs y d. (d.0, refl)) (fails_alt (weaken_fails_on n (record { admits = λ ts vs k ls rest d e. (refl, refl) })) (fails_node inside_full (part_fails {X' = plain full} m (record { admits = λ ts us vs j k ls mid rest d d' e. (refl, refl) }))))
 
--- ---- what a rest binds, which is an item too
+-- ---- parts of nodes
 
-pub binding_item : {text : List ℕ} {f : Flags} {p q : Parser} {bound : NodeId} → Numbered text f (at Binding f) p q bound → ItemTaken text f (at Binding f) p q bound
-binding_item {q = q} x = item_answers q (binding_last x.answer) x.answer.same refl x.holds x.keeps (λ b z. z)
-
-pub no_binding_item : {text : List ℕ} {f : Flags} {s : ℕ} → Underived text (at Binding f) s → NoItem text (at Binding f) s
-no_binding_item n = weaken_fails_on n (record { admits = λ ts vs k ls rest d e. (refl, refl) })
-
--- it has no initialiser
-pub no_initialised : {text : List ℕ} {f : Flags} {p q : Parser} {bound : NodeId} → Numbered text f (at Binding f) p q bound → q.token.kind ≡ Eq → NoItem text (at Binding f) p.prev_token_end
-no_initialised x k = binding_last x.answer ⟶✗ no_end_here x.answer.at k
-
-pub item_path : {text : List ℕ} {f : Flags} {n : Symbol} {p q : Parser} {id : NodeId} (x : ItemTaken text f n p q id) → Path text f behind_item (such n always) p nothing q (tree x.label x.slots)
+pub item_path : {text : List ℕ} {f : Flags} {g : G} {p q : Parser} {id : NodeId} (x : PartTaken text f g p q id) → Path text f behind_item g p nothing q (tree x.label x.slots)
 item_path x = record { at = x.at; further = x.further; pass = x.pass; walked = x.walked; verdict = x.verdict }
 
 -- ---- a rest
@@ -276,19 +266,43 @@ module _ {text : List ℕ} {f : Flags} {p q : Parser} (a : At text f p) (k : p.t
   dots : {X : Test} {b : G} → Path text f X (tok Dot3 ▸ b) p b q (λ us. us)
   dots = token Dot3 a k (plain_sign Dot3 a k refl refl dots_plain) refl m
 
-  pub no_rest : NoItem text (at Binding f) q.prev_token_end → NoItem text (at BindingRest f) p.prev_token_end
-  unfolding rule rule_of
-  no_rest n = fails_rule {X' = behind_item} (λ l cs vs y d. (d.0, refl)) (fails_node (inside_plain {F' = next_kinds} ends_itself) (dots ⟶✗ n))
+  -- what it binds can't be read
+  pub unbound_rest : {g : G} → Fails rule (Lex text) (plain full) end g q.prev_token_end → Fails rule (Lex text) behind_item end (bound_rest f g) p.prev_token_end
+  unbound_rest n = fails_node (inside_plain {F' = next_kinds} ends_itself) (dots ⟶✗ part_fails {X' = plain full} n (record { admits = λ ts us vs j k ls mid rest d d' e. (refl, refl) }))
 
-  pub rest_answers : {r w : Parser} {bound id : NodeId} (s : Span) (x : ItemTaken text f (at Binding f) q r bound) → s.start ≡ p.token.span.start → s.end ≡ r.prev_token_end → MadeHere (plain_label node_kind.BindingRestElement op_made.None s) (Some bound ∷ []) r w id → ItemTaken text f (at BindingRest f) p w id
+  -- or was read
+  pub bound_by : {g : G} {r : Parser} {l : Label} {cs : Slots} {bound : NodeId} (y : Path text f (plain full) g q nothing r (tree l cs)) → Same q r → Holds r.nodes (length q.nodes) (length r.nodes) bound.0 l cs → Keeps q.nodes r.nodes → RestBound text f g p r bound
+  bound_by {g} {r} {l} {cs} {bound} y s h i =
+      let z = dots {X = behind_item} ⟶ then_any {b = rest_initialiser f} y in
+      record {
+        at = z.at;
+        same = same_both m.same s;
+        further = z.further;
+        label = l;
+        slots = cs;
+        pass = z.pass;
+        walked = z.walked;
+        verdict = z.verdict;
+        holds = subst (λ (ns : List Node). Holds r.nodes (length ns) (length r.nodes) bound.0 l cs) m.nodes h;
+        keeps = subst (λ (ns : List Node). Keeps ns r.nodes) m.nodes i;
+      }
+
+  pub binding_bound : {r : Parser} {bound : NodeId} → Numbered text f (at Binding f) q r bound → RestBound text f (symbol Binding f) p r bound
+  binding_bound x = bound_by (binding_last x.answer) x.answer.same x.holds x.keeps
+
+  pub no_rest : Underived text (at Binding f) q.prev_token_end → NoItem text (at BindingRest f) p.prev_token_end
   unfolding rule rule_of
-  rest_answers {r} {w} {bound} {id} s x b d n =
-      let l : plain_label node_kind.BindingRestElement op_made.None s ≡ label_here binding_rest_element no_op p r = rw (b, d) refl in
-      let y : MadeHere (label_here binding_rest_element no_op p r) (Some bound ∷ []) r w id = subst (λ (v : Label). MadeHere v (Some bound ∷ []) r w id) l n in
-      let h : Holds r.nodes (length p.nodes) (length r.nodes) bound.0 x.label x.slots = subst (λ (ns : List Node). Holds r.nodes (length ns) (length r.nodes) bound.0 x.label x.slots) m.nodes x.holds in
-      let i : Keeps p.nodes r.nodes = subst (λ (ns : List Node). Keeps ns r.nodes) m.nodes x.keeps in
-      item_answers w (by_symbol_as {X' = behind_item} (λ l cs vs y d. (d.0, refl)) (noded_by a (inside_plain {F' = next_kinds} ends_itself) (dots ⟶ item_path x))) (same_both m.same x.same) y.stays (one_held p.nodes y h) (Keeps-trans i (Keeps-made y.made))
-      (made_lies (same_both m.same x.same) x.at.at (let a = m.further in let c = m.at.behind in let e = x.further in omega arith) y refl)
+  no_rest n = fails_rule {X' = behind_item} (λ l cs vs y d. (d.0, refl)) (unbound_rest (weaken_fails_on n (record { admits = λ ts vs k ls rest d e. (refl, refl) })))
+
+-- a rest of an array pattern, or among parameters
+pub rest_item : {text : List ℕ} {f : Flags} {p q : Parser} {id : NodeId} → PartTaken text f (bound_rest f (symbol Binding f)) p q id → ItemTaken text f (at BindingRest f) p q id
+unfolding rule rule_of
+rest_item x = let z = by_symbol_as {X' = behind_item} (λ l cs vs y d. (d.0, refl)) (item_path x) in record { at = x.at; same = x.same; further = x.further; label = x.label; slots = x.slots; pass = z.pass; walked = z.walked; verdict = z.verdict; holds = x.holds; keeps = x.keeps }
+
+pub rest_outcome : (text : List ℕ) (f : Flags) (p q : Parser) (r : Result NodeId Stop) → PartOutcome text f (bound_rest f (symbol Binding f)) p q r → ItemOutcome text f (at BindingRest f) p q r
+unfolding rule rule_of
+rest_outcome text f p q (Ok id) x = rest_item x
+rest_outcome text f p q (Err e) x = stops_so p q e (λ n. fails_rule {X' = behind_item} (λ l cs vs y d. (d.0, refl)) n) x
 
 -- ---- a rest among parameters
 

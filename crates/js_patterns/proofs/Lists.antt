@@ -12,11 +12,11 @@ use Rattle.js_grammar.specs.Grammar.{Lexeme, Look, here, is, next, seq, such, em
 use Rattle.js_grammar.specs.Lexemes.{is_word}
 use Rattle.js_grammar.specs.Parsing.{plain, full, always, still, passing, Admits, Fails, Goes, Reads}
 use Rattle.js_grammar.specs.Productions.{G, Flags, Symbol, tok}
-use Rattle.js_grammar.specs.Table.{rule}
+use Rattle.js_grammar.specs.Table.{rest_of, rule}
 use Rattle.js_grammar.specs.FirstSets.{first as first_of}
 use Rattle.js_grammar.specs.Follow.{after}
 use Rattle.js_grammar.proofs.Looks.{covers}
-use Rattle.js_grammar.proofs.Calculus.{◌▹◌, ◌▹✗◌, left, right, same, stay, by_plain, part_fails, then_by, fails_alt, fails_lexeme, reads_empty_slot}
+use Rattle.js_grammar.proofs.Calculus.{◌▹◌, ◌▹✗◌, left, right, same, stay, by_plain, part_by, part_fails, then_by, fails_alt, fails_lexeme, reads_empty_slot}
 use Rattle.js_grammar.proofs.First.{starts}
 use Rattle.js_grammar.proofs.FirstClaims.{firsts}
 use Rattle.js_grammar.proofs.FirstRules.{by_first}
@@ -34,6 +34,7 @@ use Rattle.js_parsing.specs.Lists.{NoneLeft, OneMore, ReadsOneMore, ListRead, Li
 use Rattle.js_parsing.specs.Moves.{Moved}
 use Rattle.js_parsing.specs.Nesting.{room}
 use Rattle.js_parsing.specs.States.{At, Standing}
+use Rattle.js_patterns.specs.Bindings.{closers, rest_comma}
 use Rattle.js_operands.proofs.Arrays.{listed, behind_one, by_first_item, unrolled, rolled}
 use Rattle.js_parsing.proofs.Signs.{plain_sign}
 use Rattle.js_parsing.proofs.Signs.{NoneIs}
@@ -170,6 +171,19 @@ module _ {text : List ℕ} {i b : G} {s : ℕ} (c : covers (starts first_of b fu
   pub item_fails : Fails rule (Lex text) behind_item end i s → NoneLeft text (seq i b) s
   item_fails m = part_fails m (by_first firsts (by_plain next_kinds) c)
 
+-- what closes a list
+abbrev closes : Look
+closes k w e = one_of_kinds closers k
+
+comma_ends : (f : Flags) → covers (starts first_of (rest_comma f) closes) next_kinds ≡ true
+unfolding covers
+comma_ends f = refl
+
+-- no rest
+module _ {text : List ℕ} (f : Flags) {z b : G} {s : ℕ} (c : covers (starts first_of b full) closes ≡ true) where
+  pub rest_fails : Fails rule (Lex text) behind_item end z s → NoneLeft text (seq (rest_of f z) b) s
+  rest_fails m = part_fails {X' = plain closes} (part_fails m (by_first firsts (by_plain next_kinds) (comma_ends f))) (by_first firsts (by_plain closes) c)
+
 -- none that stands last, which anything may follow
 module _ {text : List ℕ} {n : Symbol} {b : G} {s : ℕ} (c : (ts : Slots) (y : Lexeme) → Admits (after n) ts y) where
   pub last_fails : Underived text n s → NoneLeft text (seq (such n always) b) s
@@ -188,6 +202,22 @@ module _ {text : List ℕ} {f : Flags} {p q : Parser} (a : At text f p) where
       pass = x.pass;
       walked = x.walked;
       verdict = verdict_of x.verdict (λ y. record { reach = y.reach; near = y.near; goes = then_by y.goes (by_first firsts (by_plain next_kinds) c) }) (λ m. item_fails c m);
+      holds = λ lo us h. subst (λ (zs : List (Option NodeId)). HoldsAll q.nodes lo (length q.nodes) zs (append us (tree x.label x.slots end))) (sym g) (HoldsAll-next id x.keeps h x.holds);
+      keeps = x.keeps;
+    }
+
+  -- a rest
+  module _ {z b : G} (c : covers (starts first_of b full) closes ≡ true) where
+    pub rest_more : {ids js : List (Option NodeId)} {id : NodeId} → PartTaken text f z p q id → js ≡ ids ++ Some id ∷ [] → OneMore text f (seq (rest_of f z) b) (seq (rest_comma f) b) p q ids js
+    rest_more {ids} {js} {id} x g = record {
+      at = x.at;
+      same = x.same;
+      forward = let i = x.further in let j = a.behind in omega arith;
+      slots = λ us. tree x.label x.slots us;
+      puts = λ us. refl;
+      pass = x.pass;
+      walked = x.walked;
+      verdict = verdict_of x.verdict (λ y. record { reach = y.reach; near = y.near; goes = part_by {X' = plain closes} (then_by y.goes (by_first firsts (by_plain next_kinds) (comma_ends f))) (by_first firsts (by_plain closes) c) }) (λ m. rest_fails f c m);
       holds = λ lo us h. subst (λ (zs : List (Option NodeId)). HoldsAll q.nodes lo (length q.nodes) zs (append us (tree x.label x.slots end))) (sym g) (HoldsAll-next id x.keeps h x.holds);
       keeps = x.keeps;
     }

@@ -12,7 +12,7 @@ use Rattle.js_grammar.specs.Grammar.{never, nothing, seq, ◌▸◌}
 use Rattle.js_grammar.specs.Parsing.{plain, full, still, Goes, Fails}
 use Rattle.js_grammar.specs.Productions.{G, Flags, at, tok, mk, Binding, Pattern, PatternProperty}
 use Rattle.js_grammar.specs.Productions.{sym as symbol}
-use Rattle.js_grammar.specs.Table.{rule, rule_of}
+use Rattle.js_grammar.specs.Table.{rest_of, rule, rule_of}
 use Rattle.js_grammar.specs.FirstSets.{first as first_of}
 use Rattle.js_grammar.specs.Follow.{after}
 use Rattle.js_grammar.proofs.Looks.{covers, apart, not_both}
@@ -44,8 +44,9 @@ use Rattle.js_parsing.proofs.Moving.{stops_so}
 use Rattle.js_parsing.proofs.Parts.{part_path, part_path_fails, part_sign, part_last, parts}
 use Rattle.js_parsing.proofs.Paths.{Path, ◌⟼◌, at_kind, by_symbol_as, fails_at, label_here, noded}
 use Rattle.js_parsing.proofs.Signs.{closing_there, plain_sign}
-use Rattle.js_patterns.specs.ObjectPatterns.{properties_left, rest_of}
-use Rattle.js_patterns.proofs.Lists.{end_due, item_comma, item_due, item_fails, item_last, item_more, last_due, more_from, none_yet}
+use Rattle.js_patterns.specs.Bindings.{rest_comma}
+use Rattle.js_patterns.specs.ObjectPatterns.{named_rest, properties_left}
+use Rattle.js_patterns.proofs.Lists.{end_due, item_comma, item_due, item_fails, item_last, item_more, last_due, more_from, none_yet, rest_fails, rest_more}
 
 opening_plain : (is_word LCurly || same_kind PrivateIdentifier LCurly) ≡ false
 unfolding words
@@ -64,9 +65,9 @@ module _ {text : List ℕ} {f : Flags} {p : Parser} (a : At text f p) where
   not_begun : {g : G} (k : Kind) → p.token.kind ≡ k → one_of_kinds unsettled k ≡ false → ((w e : Bool) → starts first_of g full k w e ≡ false) → NoneLeft text g p.prev_token_end
   not_begun {g} k i n h = fails_here firsts (λ y l c. false≢true (sym (h y.newline y.escaped) ∙ subst (λ (v : Kind). starts first_of g full v y.newline y.escaped ≡ true) (kind_here a i n y l) c))
 
-  no_rest_at : one_of_kinds (Dot3 ∷ []) p.token.kind ≡ false → NoneLeft text (rest_of f) p.prev_token_end
+  no_rest_at : one_of_kinds (Dot3 ∷ []) p.token.kind ≡ false → NoneLeft text (rest_of f (named_rest f)) p.prev_token_end
   unfolding covers apart
-  no_rest_at n = fails_at a (rest_of f) (Dot3 ∷ []) refl n
+  no_rest_at n = fails_at a (rest_of f (named_rest f)) (Dot3 ∷ []) refl n
 
   no_end_at : one_of_kinds (RCurly ∷ []) p.token.kind ≡ false → NoneLeft text (tok RCurly) p.prev_token_end
   unfolding covers apart
@@ -79,49 +80,46 @@ module _ {text : List ℕ} {f : Flags} {p : Parser} (a : At text f p) where
   -- the closing brace stands here
   pub properties_closed : {ids : List (Option NodeId)} → p.token.kind ≡ RCurly → OneMore text f (properties_left f) (tok RCurly) p p ids ids
   unfolding covers
-  properties_closed {ids} k = more_from (end_due never (symbol PatternProperty f) (rest_of f) RCurly no_gap (no_property_here k) (no_rest_at (ap (one_of_kinds (Dot3 ∷ [])) k))) (none_yet ids a)
+  properties_closed {ids} k = more_from (end_due never (symbol PatternProperty f) (rest_of f (named_rest f)) RCurly no_gap (no_property_here k) (no_rest_at (ap (one_of_kinds (Dot3 ∷ [])) k))) (none_yet ids a)
 
   -- neither that nor a rest
   module _ (n : one_of_kinds (RCurly ∷ Dot3 ∷ []) p.token.kind ≡ false) where
-    property_first : Goes rule (Lex text) (plain full) end (properties_left f) p.prev_token_end (seq (symbol PatternProperty f) (behind_one never (symbol PatternProperty f) (rest_of f) (tok RCurly))) p.prev_token_end (λ us. us) (still 0)
+    property_first : Goes rule (Lex text) (plain full) end (properties_left f) p.prev_token_end (seq (symbol PatternProperty f) (behind_one never (symbol PatternProperty f) (rest_of f (named_rest f)) (tok RCurly))) p.prev_token_end (λ us. us) (still 0)
     unfolding covers apart
-    property_first = item_due never (symbol PatternProperty f) (rest_of f) RCurly no_gap (fails_at a (rest_of f) (RCurly ∷ Dot3 ∷ []) refl n) (fails_at a (tok RCurly) (RCurly ∷ Dot3 ∷ []) refl n)
+    property_first = item_due never (symbol PatternProperty f) (rest_of f (named_rest f)) RCurly no_gap (fails_at a (rest_of f (named_rest f)) (RCurly ∷ Dot3 ∷ []) refl n) (fails_at a (tok RCurly) (RCurly ∷ Dot3 ∷ []) refl n)
 
     pub property_stops : (q : Parser) (e : Stop) → Stops p q e (NoItem text (at PatternProperty f) p.prev_token_end) → Stops p q e (NoneLeft text (properties_left f) p.prev_token_end)
     unfolding covers
     property_stops q e s = stops_so p q e (λ m. property_first ▹✗ item_fails refl m) s
 
     module _ {q : Parser} {ids js : List (Option NodeId)} {id : NodeId} (x : ItemTaken text f (at PatternProperty f) p q id) (g : js ≡ ids ++ Some id ∷ []) where
-      property_read : OneMore text f (properties_left f) (behind_one never (symbol PatternProperty f) (rest_of f) (tok RCurly)) p q ids js
+      property_read : OneMore text f (properties_left f) (behind_one never (symbol PatternProperty f) (rest_of f (named_rest f)) (tok RCurly)) p q ids js
       unfolding covers
       property_read = more_from property_first (item_more a refl x g)
 
       -- it is the last one
       pub property_last : (q.token.kind ≡ Comma → ⊥) → OneMore text f (properties_left f) (tok RCurly) p q ids js
       unfolding apart
-      property_last m = item_last never (symbol PatternProperty f) (rest_of f) RCurly property_read (none_there Comma x.at refl m)
+      property_last m = item_last never (symbol PatternProperty f) (rest_of f (named_rest f)) RCurly property_read (none_there Comma x.at refl m)
 
       -- a comma stands behind it
       pub property_comma : {r : Parser} → q.token.kind ≡ Comma → Moved text f q r → OneMore text f (properties_left f) (properties_left f) p r ids js
       unfolding covers apart
-      property_comma k m = item_comma never (symbol PatternProperty f) (rest_of f) RCurly property_read (fails_at x.at (tok RCurly) (RCurly ∷ []) refl (ap (one_of_kinds (RCurly ∷ [])) k)) k m
+      property_comma k m = item_comma never (symbol PatternProperty f) (rest_of f (named_rest f)) RCurly property_read (fails_at x.at (tok RCurly) (RCurly ∷ []) refl (ap (one_of_kinds (RCurly ∷ [])) k)) k m
 
   -- a rest stands here
   module _ (k : p.token.kind ≡ Dot3) where
-    rest_first : Goes rule (Lex text) (plain full) end (properties_left f) p.prev_token_end (seq (rest_of f) (tok RCurly)) p.prev_token_end (λ us. us) (still 0)
+    rest_first : Goes rule (Lex text) (plain full) end (properties_left f) p.prev_token_end (seq (rest_of f (named_rest f)) (tok RCurly)) p.prev_token_end (λ us. us) (still 0)
     unfolding covers
-    rest_first = last_due never (symbol PatternProperty f) (rest_of f) RCurly no_gap (not_begun Dot3 k refl (λ w e. refl)) (no_end_at (ap (one_of_kinds (RCurly ∷ [])) k))
+    rest_first = last_due never (symbol PatternProperty f) (rest_of f (named_rest f)) RCurly no_gap (not_begun Dot3 k refl (λ w e. refl)) (no_end_at (ap (one_of_kinds (RCurly ∷ [])) k))
 
-    pub rest_fails : Fails rule (Lex text) behind_item end (rest_of f) p.prev_token_end → NoneLeft text (properties_left f) p.prev_token_end
+    pub rest_stops : (q : Parser) (e : Stop) → Stops p q e (Fails rule (Lex text) behind_item end (named_rest f) p.prev_token_end) → Stops p q e (NoneLeft text (properties_left f) p.prev_token_end)
     unfolding covers
-    rest_fails m = rest_first ▹✗ item_fails refl m
+    rest_stops q e s = stops_so p q e (λ m. rest_first ▹✗ rest_fails f refl m) s
 
-    pub rest_stops : (q : Parser) (e : Stop) → Stops p q e (Fails rule (Lex text) behind_item end (rest_of f) p.prev_token_end) → Stops p q e (NoneLeft text (properties_left f) p.prev_token_end)
-    rest_stops q e s = stops_so p q e rest_fails s
-
-    pub rest_taken : {q : Parser} {ids js : List (Option NodeId)} {id : NodeId} → PartTaken text f (rest_of f) p q id → js ≡ ids ++ Some id ∷ [] → OneMore text f (properties_left f) (tok RCurly) p q ids js
+    pub rest_taken : {q : Parser} {ids js : List (Option NodeId)} {id : NodeId} → PartTaken text f (named_rest f) p q id → js ≡ ids ++ Some id ∷ [] → OneMore text f (properties_left f) (seq (rest_comma f) (tok RCurly)) p q ids js
     unfolding covers
-    rest_taken x g = more_from rest_first (item_more a refl x g)
+    rest_taken x g = more_from rest_first (rest_more a refl x g)
 
 -- ---- the pattern with its braces
 

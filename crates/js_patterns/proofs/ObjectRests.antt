@@ -1,60 +1,40 @@
 -- The rest of an object pattern (ECMA-262, 14.3.3): it binds a name.
-use Rattle.std.proofs.Common.{ℕ, ◌≡◌, ◌<◌, List, [], ◌∷◌, length, Some, Bool, true, false, ◌||◌, IsCharBoundary, refl, sym, ap, subst, arith, ◌∙◌}
+use Rattle.std.proofs.Common.{ℕ, ◌≡◌, ◌<◌, List, length, Bool, true, false, IsCharBoundary, refl, sym, ap, subst, arith, ◌∙◌}
 use Rattle.js_base.specs.declared.diagnostic.Diagnostic.{Diagnostic}
 use Rattle.js_base.specs.declared.diagnostic.DiagnosticKind.TheVariants.{InvalidBindingRestElement}
-use Rattle.js_base.specs.declared.kind.Kind.TheVariants.{RBrack, RCurly, RParen, Comma, Dot3, PrivateIdentifier}
+use Rattle.js_base.specs.declared.kind.Kind.TheVariants.{Dot3}
 use Rattle.js_base.specs.declared.span.Span.{Span}
-use Rattle.js_base.specs.Kinds.{same_kind, one_of_kinds}
-use Rattle.js_base.specs.Texts.{words}
-use Rattle.js_grammar.specs.Lexemes.{is_word}
 use Rattle.js_grammar.specs.LexicalFaults.{Reached}
 use Rattle.js_grammar.specs.Marks.{EdgeOf, Mark}
-use Rattle.js_grammar.specs.Trees.{Label, NodeKind, Slots, end, tree, no_op, array_pattern, object_pattern, binding_identifier, binding_rest_element}
-use Rattle.js_grammar.specs.Grammar.{Lexemes, Look, here, nothing, Takes, is_such, is_left, is_right, is_node, ◌▸◌}
+use Rattle.js_grammar.specs.Trees.{Label, NodeKind, Slots, end, tree, array_pattern, object_pattern, binding_identifier}
+use Rattle.js_grammar.specs.Grammar.{Lexemes, here, nothing, Takes, is_such, is_left, is_right, is_node}
 use Rattle.js_grammar.specs.Lexed.{Lexes}
-use Rattle.js_grammar.specs.Parsing.{Admits, Fails}
-use Rattle.js_grammar.specs.Productions.{Flags, at, tok, Binding, BindingIdentifier}
+use Rattle.js_grammar.specs.Parsing.{Admits, Fails, Test, full, plain}
+use Rattle.js_grammar.specs.Productions.{Flags, at, Binding, BindingIdentifier}
 use Rattle.js_grammar.specs.Productions.{sym as symbol}
 use Rattle.js_grammar.specs.Table.{rule, rule_of}
-use Rattle.js_grammar.proofs.Looks.{covers}
-use Rattle.js_grammar.proofs.Calculus.{fails_node, inside_plain}
+use Rattle.js_grammar.proofs.Calculus.{weaken_fails_on}
 use Rattle.js_tree.specs.declared.id.NodeId.{NodeId}
-use Rattle.js_tree.specs.declared.kind.NodeKind.TheVariants as node_kind
-use Rattle.js_tree.specs.declared.op.Op.TheVariants as op_made
 use Rattle.js_tree.specs.Labels.{kind_of}
-use Rattle.js_tree.specs.Nodes.{Node, node_at}
-use Rattle.js_tree.specs.Holding.{Holds, Keeps}
-use Rattle.js_tree.proofs.HoldingLemmas.{Keeps-trans, Keeps-made}
+use Rattle.js_tree.specs.Nodes.{node_at}
 use Rattle.js_cursor.specs.Parsers.{Parser}
 use Rattle.js_cursor.specs.Places.{goal}
 use Rattle.js_cursor.specs.declared.stop.Stop.{Stop}
-use Rattle.js_parsing.specs.Answers.{Stretch, Stops}
-use Rattle.js_parsing.specs.Arguments.{ItemTaken, NoItem, PartTaken, behind_item}
+use Rattle.js_parsing.specs.Answers.{Numbered, Stretch, Stops, Underived}
+use Rattle.js_parsing.specs.Arguments.{behind_item}
 use Rattle.js_parsing.specs.Lexemes.{Lex}
-use Rattle.js_parsing.specs.Moves.{Moved, MadeHere, plain_label}
+use Rattle.js_parsing.specs.Moves.{Moved}
 use Rattle.js_parsing.specs.States.{At, Same}
 use Rattle.js_parsing.specs.Told.{unrelated_at}
 use Rattle.js_parsing.proofs.Edges.{last_edge}
-use Rattle.js_parsing.proofs.MadeNodes.{held_label, one_held, made_lies}
+use Rattle.js_parsing.proofs.MadeNodes.{held_label}
 use Rattle.js_parsing.proofs.Moving.{same_both, stops_behind}
-use Rattle.js_parsing.proofs.Paths.{Path, ◌⟶◌, ◌⟶✗◌, label_here, noded_by, token}
-use Rattle.js_parsing.proofs.Signs.{plain_sign}
+use Rattle.js_parsing.proofs.Paths.{Path, last_called}
 use Rattle.js_parsing.proofs.Verdicts.{either_way, grown_then, verdict_of}
 use Rattle.js_parsing.proofs.Verdicts.{after as grown_behind}
-use Rattle.js_patterns.specs.Bindings.{RestBegins}
-use Rattle.js_patterns.specs.ObjectPatterns.{rest_of, BindsName}
-use Rattle.js_patterns.proofs.Bindings.{item_answers}
-
-dots_plain : (is_word Dot3 || same_kind PrivateIdentifier Dot3) ≡ false
-unfolding words
-dots_plain = refl
-
-abbrev next_kinds : Look
-next_kinds k w e = one_of_kinds (Comma ∷ RParen ∷ RBrack ∷ RCurly ∷ []) k
-
-ends_itself : covers next_kinds next_kinds ≡ true
-unfolding covers
-ends_itself = refl
+use Rattle.js_patterns.specs.Bindings.{RestBegins, RestBound}
+use Rattle.js_patterns.specs.ObjectPatterns.{named_rest, BindsName}
+use Rattle.js_patterns.proofs.Bindings.{bound_by, unbound_rest}
 
 -- ---- a binding that is a name
 
@@ -78,80 +58,64 @@ binds_name e (is_such (is_left (is_such d c)) h) = is_such d c
 binds_name e (is_such (is_right (is_such (is_left (is_node d)) c)) h) = let z : array_pattern ≡ binding_identifier = e in cc
 binds_name e (is_such (is_right (is_such (is_right (is_node d)) c)) h) = let z : object_pattern ≡ binding_identifier = e in cc
 
-module _ {text : List ℕ} {f : Flags} {s s' : ℕ} {l : Label} {cs : Slots} {pass : Lexemes → Lexemes} where
-  named_goes : l.kind ≡ binding_identifier → Stretch text behind_item (symbol Binding f) s nothing s' (tree l cs) pass → Stretch text behind_item (symbol BindingIdentifier f) s nothing s' (tree l cs) pass
+module _ {text : List ℕ} {f : Flags} {X : Test} {s s' : ℕ} {l : Label} {cs : Slots} {pass : Lexemes → Lexemes} where
+  named_goes : l.kind ≡ binding_identifier → Stretch text X (symbol Binding f) s nothing s' (tree l cs) pass → Stretch text X (symbol BindingIdentifier f) s nothing s' (tree l cs) pass
   named_goes e x = record { reach = x.reach; near = x.near; goes = record { passes = x.goes.passes; sound = λ us vs k ls rest l w d. binds_name e (x.goes.sound us vs k ls rest l w d); only = λ ts vs k ls rest l d a. x.goes.only ts vs k ls rest l (name_binds d) a } }
 
   -- what is bound here is no name
-  not_named : (l.kind ≡ binding_identifier → ⊥) → Stretch text behind_item (symbol Binding f) s nothing s' (tree l cs) pass → Fails rule (Lex text) behind_item end (symbol BindingIdentifier f) s
+  not_named : (l.kind ≡ binding_identifier → ⊥) → Stretch text X (symbol Binding f) s nothing s' (tree l cs) pass → Fails rule (Lex text) X end (symbol BindingIdentifier f) s
   not_named n x = record { no = λ ts vs k ls rest l d a. go ts vs k ls rest l d a }
     where
-      go : (ts vs : Slots) (k : ℕ) (ls rest : Lexemes) → Lexes (Lex text) s ls → Takes rule (symbol BindingIdentifier f) end ts s ls vs k rest → Admits behind_item ts (here rest) → ⊥
+      go : (ts vs : Slots) (k : ℕ) (ls rest : Lexemes) → Lexes (Lex text) s ls → Takes rule (symbol BindingIdentifier f) end ts s ls vs k rest → Admits X ts (here rest) → ⊥
       go ts vs k ls rest i d a = let z = x.goes.only ts vs k ls rest i (name_binds d) a in n (name_kind (subst (λ (us : Slots). Takes rule (symbol BindingIdentifier f) end us s ls vs k rest) z.2 d))
 
-no_name : {text : List ℕ} {f : Flags} {s : ℕ} → NoItem text (at Binding f) s → Fails rule (Lex text) behind_item end (symbol BindingIdentifier f) s
+no_name : {text : List ℕ} {f : Flags} {X : Test} {s : ℕ} → Fails rule (Lex text) X end (symbol Binding f) s → Fails rule (Lex text) X end (symbol BindingIdentifier f) s
 no_name n = record { no = λ ts vs k ls rest l d a. n.no ts vs k ls rest l (name_binds d) a }
+
+-- whatever stands behind it
+anywhere : {text : List ℕ} {f : Flags} {s : ℕ} → Underived text (at Binding f) s → Fails rule (Lex text) (plain full) end (symbol Binding f) s
+anywhere n = weaken_fails_on n (record { admits = λ ts vs k ls rest d e. (refl, refl) })
 
 -- ---- the rest
 
 module _ {text : List ℕ} {f : Flags} {p q : Parser} (a : At text f p) (k : p.token.kind ≡ Dot3) (m : Moved text f p q) where
-  dots : {r : Parser} {h : Slots → Slots} → Path text f behind_item (symbol BindingIdentifier f) q nothing r h → Path text f behind_item (tok Dot3 ▸ symbol BindingIdentifier f) p nothing r h
-  dots y = token Dot3 a k (plain_sign Dot3 a k refl refl dots_plain) refl m ⟶ y
+  pub argument_stops : (w : Parser) (e : Stop) → Stops q w e (Underived text (at Binding f) q.prev_token_end) → Stops p w e (Fails rule (Lex text) behind_item end (named_rest f) p.prev_token_end)
+  argument_stops w e z = stops_behind w e m.same (λ g. grown_then m.kept g) (λ n. unbound_rest a k m (no_name (anywhere n))) z
 
-  no_rest : Fails rule (Lex text) behind_item end (symbol BindingIdentifier f) q.prev_token_end → Fails rule (Lex text) behind_item end (rest_of f) p.prev_token_end
-  no_rest n = fails_node (inside_plain {F' = next_kinds} ends_itself) (token Dot3 a k (plain_sign Dot3 a k refl refl dots_plain) refl m ⟶✗ n)
-
-  pub argument_stops : (w : Parser) (e : Stop) → Stops q w e (NoItem text (at Binding f) q.prev_token_end) → Stops p w e (Fails rule (Lex text) behind_item end (rest_of f) p.prev_token_end)
-  argument_stops w e z = stops_behind w e m.same (λ g. grown_then m.kept g) (λ n. no_rest (no_name n)) z
-
-  module _ {r : Parser} {bound : NodeId} (x : ItemTaken text f (at Binding f) q r bound) where
+  module _ {r : Parser} {bound : NodeId} (x : Numbered text f (at Binding f) q r bound) where
     pub rest_same : Same p r
-    rest_same = same_both m.same x.same
+    rest_same = same_both m.same x.answer.same
 
     pub rest_further : p.token.span.start < r.prev_token_end
-    rest_further = let i = m.further in let j = m.at.behind in let h = x.further in omega arith
+    rest_further = let i = m.further in let j = m.at.behind in let h = x.answer.further in omega arith
 
-    kind_is : kind_of (node_at r.nodes bound).kind ≡ x.label.kind
+    kind_is : kind_of (node_at r.nodes bound).kind ≡ x.answer.label.kind
     kind_is = ap (λ (l : Label). l.kind) (sym (held_label bound x.holds))
 
-    -- what it binds is no name
-    pub unnamed : BindsName (kind_of (node_at r.nodes bound).kind) false → Fails rule (Lex text) behind_item end (rest_of f) p.prev_token_end
-    unnamed n = no_rest (either_way x.verdict (λ c. not_named (λ e. n (kind_is ∙ e)) c) (λ u. no_name u))
+    -- what it binds, whatever stands behind it
+    whole : Path text f (plain full) (symbol Binding f) q nothing r (tree x.answer.label x.answer.slots)
+    whole = last_called x.answer (record { admits = λ ts vs k ls rest d e. (refl, refl) })
 
-    pub unnamed_stops : BindsName (kind_of (node_at r.nodes bound).kind) false → (w : Parser) (e : Stop) → Stops r w e (Unit {0}) → Stops p w e (Fails rule (Lex text) behind_item end (rest_of f) p.prev_token_end)
-    unnamed_stops n w e z = stops_behind w e rest_same (λ g. grown_then m.kept (grown_behind x.verdict g)) (λ u. unnamed n) z
+    -- it is no name
+    pub unnamed : BindsName (kind_of (node_at r.nodes bound).kind) false → Fails rule (Lex text) behind_item end (named_rest f) p.prev_token_end
+    unnamed n = unbound_rest a k m (either_way whole.verdict (λ c. not_named (λ e. n (kind_is ∙ e)) c) (λ u. no_name u))
+
+    pub unnamed_stops : BindsName (kind_of (node_at r.nodes bound).kind) false → (w : Parser) (e : Stop) → Stops r w e (Unit {0}) → Stops p w e (Fails rule (Lex text) behind_item end (named_rest f) p.prev_token_end)
+    unnamed_stops n w e z = stops_behind w e rest_same (λ g. grown_then m.kept (grown_behind x.answer.verdict g)) (λ u. unnamed n) z
 
     argument_edge : EdgeOf (goal r) r.text r.prev_token_end
-    argument_edge = subst (λ (t : List ℕ). EdgeOf (goal r) t r.prev_token_end) (sym x.at.text_is) (last_edge x.walked (subst (λ (t : List ℕ). Reached t q.prev_token_end) m.at.text_is m.at.at.reached) (let b = m.at.behind in let c = x.further in omega arith))
+    argument_edge = subst (λ (t : List ℕ). EdgeOf (goal r) t r.prev_token_end) (sym x.answer.at.text_is) (last_edge x.answer.walked (subst (λ (t : List ℕ). Reached t q.prev_token_end) m.at.text_is m.at.at.reached) (let b = m.at.behind in let c = x.answer.further in omega arith))
 
     -- what is told of it has its mark
     pub unnamed_marked : (s : Span) {d : Diagnostic} → d ≡ unrelated_at InvalidBindingRestElement s → RestBegins s.start r → s.end ≡ r.prev_token_end → Mark (goal r) r.text d
     unnamed_marked s {d} e b i = subst (λ (v : Diagnostic). Mark (goal r) r.text v) (sym e) (record {
       ordered = let c = b.before in omega arith;
-      within = let z = x.at.at.between.0 in omega arith;
+      within = let z = x.answer.at.at.between.0 in omega arith;
       begins_between = b.between;
-      ends_between = subst (λ (v : ℕ). IsCharBoundary r.text v) (sym i) x.at.at.between;
+      ends_between = subst (λ (v : ℕ). IsCharBoundary r.text v) (sym i) x.answer.at.at.between;
       stands = ((b.edge, subst (λ (v : ℕ). EdgeOf (goal r) r.text v) (sym i) argument_edge), (refl, refl));
     })
 
     -- or it is one
-    pub rest_read : {w : Parser} {id : NodeId} (s : Span) → BindsName (kind_of (node_at r.nodes bound).kind) true → s.start ≡ p.token.span.start → s.end ≡ r.prev_token_end → MadeHere (plain_label node_kind.BindingRestElement op_made.None s) (Some bound ∷ []) r w id → PartTaken text f (rest_of f) p w id
-    rest_read {w} {id} s n b d t = item_answers w whole rest_same made.stays (one_held p.nodes made held) (Keeps-trans kept (Keeps-made made.made)) (made_lies rest_same x.at.at (let g = whole.further in omega arith) made refl)
-      where
-        l : plain_label node_kind.BindingRestElement op_made.None s ≡ label_here binding_rest_element no_op p r
-        l = rw (b, d) refl
-
-        made : MadeHere (label_here binding_rest_element no_op p r) (Some bound ∷ []) r w id
-        made = subst (λ (v : Label). MadeHere v (Some bound ∷ []) r w id) l t
-
-        held : Holds r.nodes (length p.nodes) (length r.nodes) bound.0 x.label x.slots
-        held = subst (λ (ns : List Node). Holds r.nodes (length ns) (length r.nodes) bound.0 x.label x.slots) m.nodes x.holds
-
-        kept : Keeps p.nodes r.nodes
-        kept = subst (λ (ns : List Node). Keeps ns r.nodes) m.nodes x.keeps
-
-        named : Path text f behind_item (symbol BindingIdentifier f) q nothing r (tree x.label x.slots)
-        named = record { at = x.at; further = x.further; pass = x.pass; walked = x.walked; verdict = verdict_of x.verdict (λ c. named_goes (sym kind_is ∙ n) c) (λ u. no_name u) }
-
-        whole : Path text f behind_item (rest_of f) p nothing r (tree (label_here binding_rest_element no_op p r) (tree x.label x.slots end))
-        whole = noded_by a (inside_plain {F' = next_kinds} ends_itself) (dots named)
+    pub named_bound : BindsName (kind_of (node_at r.nodes bound).kind) true → RestBound text f (symbol BindingIdentifier f) p r bound
+    named_bound n = bound_by a k m (record { at = whole.at; further = whole.further; pass = whole.pass; walked = whole.walked; verdict = verdict_of whole.verdict (λ c. named_goes (sym kind_is ∙ n) c) (λ u. no_name u) }) x.answer.same x.holds x.keeps

@@ -11,7 +11,7 @@ use Rattle.js_grammar.specs.Grammar.{Look, seq, alt, nothing, never, empty_slot,
 use Rattle.js_grammar.specs.Parsing.{plain, full, still, Goes, Fails}
 use Rattle.js_grammar.specs.Productions.{G, Flags, at, tok, plus_in, Assignment, Binding, Init, Param, Params, Rest}
 use Rattle.js_grammar.specs.Productions.{sym as symbol}
-use Rattle.js_grammar.specs.Table.{rule, rule_of}
+use Rattle.js_grammar.specs.Table.{rest_of, rule, rule_of}
 use Rattle.js_grammar.specs.Follow.{after}
 use Rattle.js_grammar.proofs.Looks.{covers, apart}
 use Rattle.js_grammar.proofs.Calculus.{◌▹◌, ◌▹✗◌, left, right, part_fails, weaken_fails_on, fails_node, fails_rule, inside_full, inside_plain, reads_empty_slot}
@@ -29,6 +29,7 @@ use Rattle.js_parsing.specs.Arguments.{Partway, behind_item, ItemTaken, NoItem}
 use Rattle.js_parsing.specs.Lexemes.{Lex, name_kinds}
 use Rattle.js_parsing.specs.Lists.{NoneLeft, OneMore}
 use Rattle.js_parsing.specs.Moves.{Moved, MadeHere, plain_label}
+use Rattle.js_patterns.specs.Bindings.{rest_comma}
 use Rattle.js_patterns.specs.Parameters.{parameters_left}
 use Rattle.js_parsing.specs.States.{At}
 use Rattle.js_operands.proofs.ArgumentLists.{none_there}
@@ -36,7 +37,7 @@ use Rattle.js_operands.proofs.Arrays.{behind_one}
 use Rattle.js_patterns.proofs.Bindings.{binding_read, ended_by, item_answers, no_end_here, on_initialiser}
 use Rattle.js_parsing.proofs.Signs.{other_kind, plain_sign}
 use Rattle.js_parsing.proofs.Dead.{fails_dead}
-use Rattle.js_patterns.proofs.Lists.{end_due, item_comma, item_due, item_fails, item_last, item_more, last_due, more_from, none_yet}
+use Rattle.js_patterns.proofs.Lists.{end_due, item_comma, item_due, item_fails, item_last, item_more, last_due, more_from, none_yet, rest_fails, rest_more}
 use Rattle.js_parsing.proofs.MadeNodes.{node_held, two_held, one_lies, made_lies}
 use Rattle.js_parsing.proofs.Moving.{same_both, stops_behind, stops_so}
 use Rattle.js_operands.proofs.Operands.{by_path}
@@ -129,46 +130,46 @@ module _ {text : List ℕ} {f : Flags} {p : Parser} (a : At text f p) where
   -- the closing parenthesis stands here
   pub list_closed : {ids : List (Option NodeId)} → p.token.kind ≡ RParen → OneMore text f (parameters_left f) (tok RParen) p p ids ids
   unfolding rule rule_of covers apart
-  list_closed {ids} k = more_from (end_due never (symbol Param f) (symbol Rest f) RParen no_gap (fails_at a (symbol Param f) parameter_kinds refl (ap (one_of_kinds parameter_kinds) k)) (fails_at a (symbol Rest f) (Dot3 ∷ []) refl (ap (one_of_kinds (Dot3 ∷ [])) k))) (none_yet ids a)
+  list_closed {ids} k = more_from (end_due never (symbol Param f) (rest_of f (symbol Rest f)) RParen no_gap (fails_at a (symbol Param f) parameter_kinds refl (ap (one_of_kinds parameter_kinds) k)) (fails_at a (rest_of f (symbol Rest f)) (Dot3 ∷ []) refl (ap (one_of_kinds (Dot3 ∷ [])) k))) (none_yet ids a)
 
   -- neither that nor a rest
   module _ (n : one_of_kinds (RParen ∷ Dot3 ∷ []) p.token.kind ≡ false) where
-    parameter_first : Goes rule (Lex text) (plain full) end (parameters_left f) p.prev_token_end (seq (symbol Param f) (behind_one never (symbol Param f) (symbol Rest f) (tok RParen))) p.prev_token_end (λ us. us) (still 0)
+    parameter_first : Goes rule (Lex text) (plain full) end (parameters_left f) p.prev_token_end (seq (symbol Param f) (behind_one never (symbol Param f) (rest_of f (symbol Rest f)) (tok RParen))) p.prev_token_end (λ us. us) (still 0)
     unfolding rule rule_of covers apart
-    parameter_first = item_due never (symbol Param f) (symbol Rest f) RParen no_gap (fails_at a (symbol Rest f) (RParen ∷ Dot3 ∷ []) refl n) (fails_at a (tok RParen) (RParen ∷ Dot3 ∷ []) refl n)
+    parameter_first = item_due never (symbol Param f) (rest_of f (symbol Rest f)) RParen no_gap (fails_at a (rest_of f (symbol Rest f)) (RParen ∷ Dot3 ∷ []) refl n) (fails_at a (tok RParen) (RParen ∷ Dot3 ∷ []) refl n)
 
     pub parameter_stops : (q : Parser) (e : Stop) → Stops p q e (NoItem text (at Param f) p.prev_token_end) → Stops p q e (NoneLeft text (parameters_left f) p.prev_token_end)
     unfolding covers
     parameter_stops q e s = stops_so p q e (λ m. parameter_first ▹✗ item_fails refl m) s
 
     module _ {q : Parser} {ids js : List (Option NodeId)} {id : NodeId} (x : ItemTaken text f (at Param f) p q id) (g : js ≡ ids ++ Some id ∷ []) where
-      parameter_read : OneMore text f (parameters_left f) (behind_one never (symbol Param f) (symbol Rest f) (tok RParen)) p q ids js
+      parameter_read : OneMore text f (parameters_left f) (behind_one never (symbol Param f) (rest_of f (symbol Rest f)) (tok RParen)) p q ids js
       unfolding covers
       parameter_read = more_from parameter_first (item_more a refl x g)
 
       -- it is the last one
       pub last_taken : (q.token.kind ≡ Comma → ⊥) → OneMore text f (parameters_left f) (tok RParen) p q ids js
       unfolding apart
-      last_taken m = item_last never (symbol Param f) (symbol Rest f) RParen parameter_read (none_there Comma x.at refl m)
+      last_taken m = item_last never (symbol Param f) (rest_of f (symbol Rest f)) RParen parameter_read (none_there Comma x.at refl m)
 
       -- a comma stands behind it
       pub comma_taken : {r : Parser} → q.token.kind ≡ Comma → Moved text f q r → OneMore text f (parameters_left f) (parameters_left f) p r ids js
       unfolding covers apart
-      comma_taken k m = item_comma never (symbol Param f) (symbol Rest f) RParen parameter_read (fails_at x.at (tok RParen) (RParen ∷ []) refl (ap (one_of_kinds (RParen ∷ [])) k)) k m
+      comma_taken k m = item_comma never (symbol Param f) (rest_of f (symbol Rest f)) RParen parameter_read (fails_at x.at (tok RParen) (RParen ∷ []) refl (ap (one_of_kinds (RParen ∷ [])) k)) k m
 
   -- a rest stands here
   module _ (k : p.token.kind ≡ Dot3) where
-    rest_first : Goes rule (Lex text) (plain full) end (parameters_left f) p.prev_token_end (seq (symbol Rest f) (tok RParen)) p.prev_token_end (λ us. us) (still 0)
+    rest_first : Goes rule (Lex text) (plain full) end (parameters_left f) p.prev_token_end (seq (rest_of f (symbol Rest f)) (tok RParen)) p.prev_token_end (λ us. us) (still 0)
     unfolding rule rule_of covers apart
-    rest_first = last_due never (symbol Param f) (symbol Rest f) RParen no_gap (fails_at a (symbol Param f) parameter_kinds refl (ap (one_of_kinds parameter_kinds) k)) (fails_at a (tok RParen) (RParen ∷ []) refl (ap (one_of_kinds (RParen ∷ [])) k))
+    rest_first = last_due never (symbol Param f) (rest_of f (symbol Rest f)) RParen no_gap (fails_at a (symbol Param f) parameter_kinds refl (ap (one_of_kinds parameter_kinds) k)) (fails_at a (tok RParen) (RParen ∷ []) refl (ap (one_of_kinds (RParen ∷ [])) k))
 
     pub rest_stops : (q : Parser) (e : Stop) → Stops p q e (NoItem text (at Rest f) p.prev_token_end) → Stops p q e (NoneLeft text (parameters_left f) p.prev_token_end)
     unfolding covers
-    rest_stops q e s = stops_so p q e (λ m. rest_first ▹✗ item_fails refl m) s
+    rest_stops q e s = stops_so p q e (λ m. rest_first ▹✗ rest_fails f refl m) s
 
-    pub rest_taken : {q : Parser} {ids js : List (Option NodeId)} {id : NodeId} → ItemTaken text f (at Rest f) p q id → js ≡ ids ++ Some id ∷ [] → OneMore text f (parameters_left f) (tok RParen) p q ids js
+    pub rest_taken : {q : Parser} {ids js : List (Option NodeId)} {id : NodeId} → ItemTaken text f (at Rest f) p q id → js ≡ ids ++ Some id ∷ [] → OneMore text f (parameters_left f) (seq (rest_comma f) (tok RParen)) p q ids js
     unfolding covers
-    rest_taken x g = more_from rest_first (item_more a refl x g)
+    rest_taken x g = more_from rest_first (rest_more a refl x g)
 
 -- ---- the parameters and their parentheses
 

@@ -1,17 +1,24 @@
--- The initialiser of a rest (ECMA-262, 14.3.3, 15.1): it is told, and nothing is derived there.
-use Rattle.std.proofs.Common.{ℕ, ◌≡◌, ◌<◌, List, [], ◌∷◌, length, Some, None, IsCharBoundary, refl, sym, ap, subst, arith, ◌∙◌}
+-- The initialiser of a rest (ECMA-262, 14.3.3, 15.1): it is told, and only in the wider form anything is derived there.
+use Rattle.std.proofs.Common.{ℕ, ◌≡◌, ◌<◌, ◌||◌, Bool, true, false, List, [], ◌∷◌, length, max, Some, None, IsCharBoundary, refl, sym, ap, subst, arith, ◌∙◌}
 use Rattle.js_base.specs.declared.diagnostic.Diagnostic.{Diagnostic}
-use Rattle.js_base.specs.declared.kind.Kind.TheVariants.{Eq, Undetermined}
+use Rattle.js_base.specs.declared.kind.Kind.TheVariants.{Comma, Dot3, Eq, PrivateIdentifier, RBrack, RCurly, RParen, Undetermined}
 use Rattle.js_base.specs.declared.source_type.SourceType.{SourceType}
 use Rattle.js_base.specs.declared.span.Span.{Span}
 use Rattle.js_base.specs.Diagnostics.{class_of}
+use Rattle.js_base.specs.Kinds.{one_of_kinds, same_kind}
+use Rattle.js_base.specs.Texts.{words}
 use Rattle.js_grammar.specs.LexicalFaults.{Reached}
+use Rattle.js_grammar.specs.Lexemes.{is_word}
 use Rattle.js_grammar.specs.Marks.{EdgeOf, Mark, StandsAt, the_start}
 use Rattle.js_grammar.specs.Settings.{Goal}
-use Rattle.js_grammar.specs.Trees.{Label, end, tree, no_op, assignment_pattern}
-use Rattle.js_grammar.specs.Grammar.{next, such, nothing}
-use Rattle.js_grammar.specs.Parsing.{always}
-use Rattle.js_grammar.specs.Productions.{Flags, at, plus_in, Assignment, Binding}
+use Rattle.js_grammar.specs.Trees.{Label, end, tree, no_op, binding_rest_element}
+use Rattle.js_grammar.specs.Grammar.{Look, next, nothing, when, ◌▸◌}
+use Rattle.js_grammar.specs.Parsing.{Fails}
+use Rattle.js_grammar.specs.Productions.{G, Flags, at, plus_in, tok, Assignment, Init}
+use Rattle.js_grammar.specs.Productions.{sym as symbol}
+use Rattle.js_grammar.specs.Table.{bound_rest, rule, rule_of}
+use Rattle.js_grammar.proofs.Looks.{covers, apart}
+use Rattle.js_grammar.proofs.Calculus.{◌▹◌, by_rule, left, right, where_true, fails_alt, fails_node, fails_rule, fails_under, fails_when, inside_plain, weaken_fails_on, weaken_on}
 use Rattle.js_lex.specs.States.{goal_of}
 use Rattle.js_tree.specs.declared.id.NodeId.{NodeId}
 use Rattle.js_tree.specs.declared.kind.NodeKind.TheVariants as node_kind
@@ -24,25 +31,26 @@ use Rattle.js_cursor.specs.Parsers.{Parser}
 use Rattle.js_cursor.specs.Places.{goal}
 use Rattle.js_cursor.specs.declared.stop.Stop.{Stop}
 use Rattle.js_cursor.proofs.Standing.{counts, lexeme_here}
-use Rattle.js_parsing.specs.Answers.{Underived, Numbered, Stops, unclean}
-use Rattle.js_parsing.specs.Arguments.{ItemTaken, NoItem, behind_item}
+use Rattle.js_parsing.specs.Answers.{Answer, Underived, Numbered, Stops, Stretch, Verdict, unclean}
+use Rattle.js_parsing.specs.Arguments.{PartTaken, behind_item}
 use Rattle.js_parsing.specs.Classes.{IsEarly}
-use Rattle.js_parsing.specs.Lexemes.{spot}
+use Rattle.js_parsing.specs.Lexemes.{Lex, spot}
 use Rattle.js_parsing.specs.Moves.{Moved, MadeHere, plain_label}
 use Rattle.js_parsing.specs.States.{At, Same}
 use Rattle.js_parsing.specs.Told.{unrelated_at}
 use Rattle.js_parsing.proofs.Edges.{last_edge}
 use Rattle.js_parsing.proofs.Giving.{kept_one}
-use Rattle.js_parsing.proofs.MadeNodes.{two_held, made_lies}
+use Rattle.js_parsing.proofs.MadeNodes.{one_held, two_held, made_lies}
 use Rattle.js_parsing.proofs.Moving.{same_both, stops_behind}
-use Rattle.js_parsing.proofs.Paths.{Path, label_here, walked_both, walked_one, walked_to}
+use Rattle.js_parsing.proofs.Paths.{Path, ◌⟶◌, ◌⟶✗◌, fails_at, label_here, noded_by, skips, token, walked_both, walked_one, walked_to}
+use Rattle.js_parsing.proofs.Signs.{other_kind, plain_sign}
 use Rattle.js_parsing.proofs.Told.{told_at, told_same}
-use Rattle.js_parsing.proofs.Verdicts.{grown_then}
+use Rattle.js_parsing.proofs.Verdicts.{behind_none, grown_then, told_wider, verdict_of}
 use Rattle.js_parsing.proofs.Verdicts.{after as grown_behind}
 use Rattle.js_patterns.specs.declared.binding.RestPlace.{RestPlace}
 use Rattle.js_patterns.specs.declared.binding.RestPlace.TheVariants.{Pattern, Parameters}
-use Rattle.js_patterns.specs.Bindings.{initialiser_kind, RestBegins}
-use Rattle.js_patterns.proofs.Bindings.{item_answers, no_initialised}
+use Rattle.js_patterns.specs.Bindings.{initialiser_kind, rest_initialiser, RestBegins, RestBound}
+use Rattle.js_patterns.proofs.Bindings.{ended_by, item_answers, item_path, no_end_here, on_initialiser}
 
 -- ---- where it begins and ends
 
@@ -93,39 +101,77 @@ module _ {text : List ℕ} {f : Flags} {q r w : Parser} {value : NodeId} (a : At
             (subst (λ (v : ℕ). EdgeOf (goal w) w.text v) (sym j) value_edge);
       }
 
--- ---- what is answered
+-- ---- it is read, and told
 
-module _ {text : List ℕ} {f : Flags} {o q r : Parser} {bound : NodeId} (a : At text f o) (x : Numbered text f (at Binding f) o q bound) (k : q.token.kind ≡ Eq) (m : Moved text f q r) where
-  pub value_stops : (w : Parser) (e : Stop) → Stops r w e (Underived text (at Assignment (plus_in f)) r.prev_token_end) → Stops o w e (NoItem text (at Binding f) o.prev_token_end)
-  value_stops w e z = stops_behind w e (same_both x.answer.same m.same) (λ g. grown_behind x.answer.verdict (grown_then m.kept g)) (λ n. no_initialised x k) z
+eq_plain : (is_word Eq || same_kind PrivateIdentifier Eq) ≡ false
+unfolding words
+eq_plain = refl
 
-  module _ {w v : Parser} {value : NodeId} {d : Diagnostic} (y : Numbered text f (at Assignment (plus_in f)) r w value) (t : KeepsOne d w v) (early : IsEarly d) where
-    same : Same o v
-    same = same_both x.answer.same (same_both m.same (same_both y.answer.same (told_same t early)))
+abbrev next_kinds : Look
+next_kinds k w e = one_of_kinds (Comma ∷ RParen ∷ RBrack ∷ RCurly ∷ []) k
 
-    told_nodes : v.nodes ≡ w.nodes
-    told_nodes = ap (λ (z : Parser). z.nodes) t.is
+ends_itself : covers next_kinds next_kinds ≡ true
+unfolding covers
+ends_itself = refl
 
-    told_place : v.prev_token_end ≡ w.prev_token_end
-    told_place = ap (λ (z : Parser). z.prev_token_end) t.is
+module _ {text : List ℕ} {f : Flags} {p q : Parser} (a : At text f p) (k : p.token.kind ≡ Eq) (m : Moved text f p q) where
+  initialiser_due : Path text f behind_item (rule (at Init (plus_in f))) p (symbol Assignment (plus_in f)) q (λ us. us)
+  unfolding rule rule_of
+  initialiser_due = token Eq a k (plain_sign Eq a k refl refl eq_plain) refl m
 
-    further : o.token.span.start < v.prev_token_end
-    further = let a = x.answer.further in let c = x.answer.at.behind in let e = m.further in let g = m.at.behind in let j = y.answer.further in let i = told_place in omega arith
+  no_value : Underived text (at Assignment (plus_in f)) q.prev_token_end → Fails rule (Lex text) behind_item end (rest_initialiser f) p.prev_token_end
+  no_value n = fails_alt (fails_under (fails_rule {X' = behind_item} (λ l cs vs y d. (d.0, refl)) (initialiser_due ⟶✗ weaken_fails_on n (on_initialiser f)))) (no_end_here a k)
 
-    told_path : Path text f behind_item (such (at Binding f) always) o nothing v (tree (label_here assignment_pattern no_op o v) (tree x.answer.label x.answer.slots (tree y.answer.label y.answer.slots end)))
-    told_path = record {
-      at = told_at t y.answer.at;
-      further = further;
-      pass = λ ls. x.answer.pass (next m.lexeme (y.answer.pass ls));
-      walked = walked_to (sym (ap (λ (z : Parser). spot z) t.is)) (walked_both x.answer.walked (walked_both (walked_one m) y.answer.walked));
-      verdict = unclean (grown_behind x.answer.verdict (grown_then m.kept (grown_behind y.answer.verdict (kept_one t)))) (no_initialised x k);
-    }
+  -- in the wider form it may stand
+  wide_verdict : f.wide ≡ true → {w : Parser} (y : Answer text f (at Assignment (plus_in f)) q w) → Verdict (f.wide ≡ true) p.errors w.errors (Stretch text behind_item (rest_initialiser f) p.prev_token_end nothing w.prev_token_end (tree y.label y.slots) (λ ls. next m.lexeme (y.pass ls))) (Fails rule (Lex text) behind_item end (rest_initialiser f) p.prev_token_end)
+  unfolding rule rule_of
+  wide_verdict h y = verdict_of (behind_none m.kept y.verdict) (λ z. record { reach = max 0 (max 0 (max 0 z.reach)); near = let i = z.near in omega arith; goes = left (no_end_here a k) ▹ (where_true h ▹ by_rule {X' = behind_item} (λ l cs vs y d. (d.0, refl)) (skips a Eq k (plain_sign Eq a k refl refl eq_plain) refl m ▹ weaken_on z.goes (on_initialiser f)) refl) }) no_value
 
-    pub told_answers : {z : Parser} {id : NodeId} (s : Span) → s.start ≡ o.token.span.start → s.end ≡ w.prev_token_end → MadeHere (plain_label node_kind.AssignmentPattern op_made.None s) (Some bound ∷ Some value ∷ []) v z id → ItemTaken text f (at Binding f) o z id
-    told_answers {z} {id} s b c n =
-        let e : s.end ≡ v.prev_token_end = c ∙ sym told_place in
-        let l : plain_label node_kind.AssignmentPattern op_made.None s ≡ label_here assignment_pattern no_op o v = rw (b, e) refl in
-        let made : MadeHere (label_here assignment_pattern no_op o v) (Some bound ∷ Some value ∷ []) v z id = subst (λ (u : Label). MadeHere u (Some bound ∷ Some value ∷ []) v z id) l n in
-        let h : Holds v.nodes (length q.nodes) (length v.nodes) value.0 y.answer.label y.answer.slots = subst (λ (ns : List Node). Holds ns (length q.nodes) (length ns) value.0 y.answer.label y.answer.slots) (sym told_nodes) (subst (λ (ns : List Node). Holds w.nodes (length ns) (length w.nodes) value.0 y.answer.label y.answer.slots) m.nodes y.holds) in
-        let i : Keeps q.nodes v.nodes = subst (λ (ns : List Node). Keeps q.nodes ns) (sym told_nodes) (subst (λ (ns : List Node). Keeps ns w.nodes) m.nodes y.keeps) in
-        item_answers z told_path same made.stays (two_held made x.holds x.keeps h i) (Keeps-trans x.keeps (Keeps-trans i (Keeps-made made.made))) (made_lies same (told_at t y.answer.at).at (let g = further in omega arith) made refl)
+  pub value_stops : (w : Parser) (e : Stop) → Stops q w e (Underived text (at Assignment (plus_in f)) q.prev_token_end) → Stops p w e (Fails rule (Lex text) behind_item end (rest_initialiser f) p.prev_token_end)
+  value_stops w e z = stops_behind w e m.same (λ g. grown_then m.kept g) no_value z
+
+  pub told_initialiser : {w v : Parser} {value : NodeId} {d : Diagnostic} → Numbered text f (at Assignment (plus_in f)) q w value → KeepsOne d w v → IsEarly d → PartTaken text f (rest_initialiser f) p v value
+  told_initialiser {w} {v} {value} {d} y t early = record {
+    at = told_at t y.answer.at;
+    same = same_both m.same (same_both y.answer.same (told_same t early));
+    further = let c = m.further in let e = m.at.behind in let g = y.answer.further in let i = place in omega arith;
+    label = y.answer.label;
+    slots = y.answer.slots;
+    pass = λ ls. next m.lexeme (y.answer.pass ls);
+    walked = walked_to (sym (ap (λ (z : Parser). spot z) t.is)) (walked_both (walked_one m) y.answer.walked);
+    verdict = by f.wide refl;
+    holds = subst (λ (ns : List Node). Holds ns (length p.nodes) (length ns) value.0 y.answer.label y.answer.slots) (sym nodes) (subst (λ (ns : List Node). Holds w.nodes (length ns) (length w.nodes) value.0 y.answer.label y.answer.slots) m.nodes y.holds);
+    keeps = subst (λ (ns : List Node). Keeps p.nodes ns) (sym nodes) (subst (λ (ns : List Node). Keeps ns w.nodes) m.nodes y.keeps);
+  }
+    where
+      nodes : v.nodes ≡ w.nodes
+      nodes = ap (λ (z : Parser). z.nodes) t.is
+
+      place : v.prev_token_end ≡ w.prev_token_end
+      place = ap (λ (z : Parser). z.prev_token_end) t.is
+
+      by : (b : Bool) → f.wide ≡ b → Verdict (f.wide ≡ true) p.errors v.errors (Stretch text behind_item (rest_initialiser f) p.prev_token_end nothing v.prev_token_end (tree y.answer.label y.answer.slots) (λ ls. next m.lexeme (y.answer.pass ls))) (Fails rule (Lex text) behind_item end (rest_initialiser f) p.prev_token_end)
+      by true h = subst (λ (s : ℕ). Verdict (f.wide ≡ true) p.errors v.errors (Stretch text behind_item (rest_initialiser f) p.prev_token_end nothing s (tree y.answer.label y.answer.slots) (λ ls. next m.lexeme (y.answer.pass ls))) (Fails rule (Lex text) behind_item end (rest_initialiser f) p.prev_token_end)) (sym place) (told_wider h (kept_one t) (wide_verdict h y.answer) (λ c. c) (λ n. n))
+      by false h = unclean (grown_then m.kept (grown_behind y.answer.verdict (kept_one t))) (fails_alt (fails_when h) (no_end_here a k))
+
+-- ---- the rest, with it or without
+
+module _ {text : List ℕ} {f : Flags} {g : G} {o p : Parser} {bound : NodeId} (a : At text f o) (x : RestBound text f g o p bound) where
+  bound_path : Path text f behind_item (tok Dot3 ▸ g ▸ rest_initialiser f) o (rest_initialiser f) p (tree x.label x.slots)
+  bound_path = record { at = x.at; further = x.further; pass = x.pass; walked = x.walked; verdict = x.verdict }
+
+  pub finished_alone : {w : Parser} {id : NodeId} (s : Span) → (p.token.kind ≡ Eq → ⊥) → s.start ≡ o.token.span.start → s.end ≡ p.prev_token_end → MadeHere (plain_label node_kind.BindingRestElement op_made.None s) (Some bound ∷ []) p w id → PartTaken text f (bound_rest f g) o w id
+  unfolding covers apart
+  finished_alone {w} {id} s n b d t =
+      let l : plain_label node_kind.BindingRestElement op_made.None s ≡ label_here binding_rest_element no_op o p = rw (b, d) refl in
+      let made : MadeHere (label_here binding_rest_element no_op o p) (Some bound ∷ []) p w id = subst (λ (v : Label). MadeHere v (Some bound ∷ []) p w id) l t in
+      item_answers w (noded_by a (inside_plain {F' = next_kinds} ends_itself) (ended_by bound_path (right (fails_at x.at (when f.wide (symbol Init (plus_in f))) (Eq ∷ []) refl (other_kind Eq p.token.kind n))))) x.same made.stays (one_held o.nodes made x.holds) (Keeps-trans x.keeps (Keeps-made made.made)) (made_lies x.same x.at.at (let c = x.further in omega arith) made refl)
+
+  pub finished_with : {v w : Parser} {value id : NodeId} (s : Span) (y : PartTaken text f (rest_initialiser f) p v value) → s.start ≡ o.token.span.start → s.end ≡ v.prev_token_end → MadeHere (plain_label node_kind.BindingRestElement op_made.None s) (Some bound ∷ Some value ∷ []) v w id → PartTaken text f (bound_rest f g) o w id
+  finished_with {v} {w} {value} {id} s y b d t =
+      let l : plain_label node_kind.BindingRestElement op_made.None s ≡ label_here binding_rest_element no_op o v = rw (b, d) refl in
+      let made : MadeHere (label_here binding_rest_element no_op o v) (Some bound ∷ Some value ∷ []) v w id = subst (λ (u : Label). MadeHere u (Some bound ∷ Some value ∷ []) v w id) l t in
+      item_answers w (noded_by a (inside_plain {F' = next_kinds} ends_itself) (bound_path ⟶ item_path y)) (same_both x.same y.same) made.stays (two_held made x.holds x.keeps y.holds y.keeps) (Keeps-trans x.keeps (Keeps-trans y.keeps (Keeps-made made.made))) (made_lies (same_both x.same y.same) y.at.at (let c = x.further in let e = x.at.behind in let h = y.further in omega arith) made refl)
+
+  pub finish_stops : (w : Parser) (e : Stop) → Stops p w e (Fails rule (Lex text) behind_item end (rest_initialiser f) p.prev_token_end) → Stops o w e (Fails rule (Lex text) behind_item end (bound_rest f g) o.prev_token_end)
+  finish_stops w e z = stops_behind w e x.same (λ d. grown_behind x.verdict d) (λ n. fails_node (inside_plain {F' = next_kinds} ends_itself) (bound_path ⟶✗ n)) z

@@ -1,14 +1,14 @@
 -- What the parse functions of object patterns speak of (ECMA-262, 14.3.3).
 use Rattle.std.specs.Prelude.{ℕ, ◌≡◌, ◌<◌, Bool, true, false, List, length, Result, Ok, Err}
-use Rattle.js_base.specs.declared.kind.Kind.TheVariants.{Dot3, RCurly}
+use Rattle.js_base.specs.declared.kind.Kind.TheVariants.{RCurly}
 use Rattle.js_base.specs.declared.span.Span.{Span}
-use Rattle.js_grammar.specs.Trees.{Label, NodeKind, Slots, tree, no_op, assignment_pattern, binding_identifier, binding_property, binding_rest_element}
+use Rattle.js_grammar.specs.Trees.{Label, NodeKind, Slots, tree, no_op, assignment_pattern, binding_identifier, binding_property}
 use Rattle.js_grammar.specs.Grammar.{Lexemes, ahead, never, nothing, ◌▸◌, ◌◇◌}
 use Rattle.js_grammar.specs.Parsing.{Fails}
 use Rattle.js_grammar.specs.Trees.{end}
 use Rattle.js_grammar.specs.Productions.{G, Flags, at, tok, items, make, mk, plus_in, shorthand_flag, BindingIdentifier, IdentifierName, Init, PatternProperty}
 use Rattle.js_grammar.specs.Productions.{sym as symbol}
-use Rattle.js_grammar.specs.Table.{rule}
+use Rattle.js_grammar.specs.Table.{bound_rest, rest_of, rule}
 use Rattle.js_tree.specs.declared.id.NodeId.{NodeId}
 use Rattle.js_tree.specs.declared.kind.NodeKind.TheVariants as node
 use Rattle.js_tree.specs.declared.op.Op.TheVariants as op_made
@@ -22,14 +22,18 @@ use Rattle.js_parsing.specs.Answers.{Stops, Stretch, Verdict}
 use Rattle.js_parsing.specs.Lexemes.{Lex, Walked, escaped_word, may_name, spot}
 use Rattle.js_parsing.specs.Moves.{Moved, TakesLeaf}
 use Rattle.js_parsing.specs.States.{At, Same}
+use Rattle.js_patterns.specs.Bindings.{PartOutcome}
 
 -- a rest, which binds a name
-abbrev pub rest_of : Flags → G
-rest_of f = mk binding_rest_element (tok Dot3 ▸ symbol BindingIdentifier f)
+abbrev pub named_rest : Flags → G
+named_rest f = bound_rest f (symbol BindingIdentifier f)
+
+abbrev pub ReadsNamedRest : Parser → Parser → Result NodeId Stop → Type 0
+ReadsNamedRest p q r = (text : List ℕ) (f : Flags) → At text f p → PartOutcome text f (named_rest f) p q r
 
 -- from a property of an object pattern or a rest on up to the closing brace
 abbrev pub properties_left : Flags → G
-properties_left f = items never (symbol PatternProperty f) (rest_of f) ▸ tok RCurly
+properties_left f = items never (symbol PatternProperty f) (rest_of f (named_rest f)) ▸ tok RCurly
 
 -- what a shorthand binds, and the shorthand
 abbrev pub bound_by_name : Flags → G

@@ -1,6 +1,6 @@
 //! What is bound: names and patterns (ECMA-262, section 14.3.3).
 
-ghost use Rattle.std.specs.Prelude.{◌≡◌, ◌+◌, ◌∷◌, [], true, false, IfOk, MatchResult};
+ghost use Rattle.std.specs.Prelude.{◌≡◌, ◌≤◌, ◌+◌, ◌∷◌, [], true, false, IfOk, MatchResult};
 ghost use Rattle.js_base.specs.Kinds.{one_of_kinds};
 ghost use Rattle.js_base.specs.declared.kind.Kind.TheVariants.{Comma, Dot3, Eq, LBrack, LCurly, RBrack, Undetermined};
 ghost use Rattle.js_cursor.specs.Places.{goal};
@@ -8,9 +8,9 @@ ghost use Rattle.js_grammar.specs.Marks.{Mark};
 ghost use Rattle.js_grammar.specs.Productions.{at, BElement, Binding, BindingRest};
 ghost use Rattle.js_parsing.specs.Classes.{EndsParse};
 ghost use Rattle.js_parsing.specs.Answers.{Answers};
-ghost use Rattle.js_patterns.specs.Bindings.{closers, elements_left, initialiser_kind, InitialisesRest, RestBegins};
+ghost use Rattle.js_patterns.specs.Bindings.{closers, elements_left, initialiser_kind, EndsRest, FinishesRest, InitialisesRest, RestBegins};
 ghost use Rattle.js_parsing.specs.Told.{unrelated_at};
-ghost use Rattle.js_parsing.specs.Lists.{ClosingDue, ListRead, ListStops, ReadsItem, ReadsOneMore};
+ghost use Rattle.js_parsing.specs.Lists.{ListRead, ListStops, ReadsItem, ReadsOneMore};
 ghost use Rattle.js_parsing.specs.Stands.{StandsHere};
 ghost use Rattle.js_parsing.specs.Nesting.{CanNest, room};
 ghost use Rattle.js_parsing.specs.States.{Standing};
@@ -65,7 +65,7 @@ pub fn parse_binding_pattern<C: ParserConfig, N: Nested<C>>(
 }
 
 /// What is bound within a pattern or by a rest: a pattern is read one level deeper.
-fn parse_nested_binding<C: ParserConfig, N: Nested<C>>(
+pub(crate) fn parse_nested_binding<C: ParserConfig, N: Nested<C>>(
     p: &mut ParserImpl<'_, C>,
     nested: &N,
 ) -> Result<NodeId, Stop>
@@ -242,54 +242,58 @@ pub(crate) fn parse_binding_rest<C: ParserConfig, N: Nested<C>>(
 {
     let start = p.cur_start();
     advance(p)?;
-    let binding = parse_rest_argument(p, nested, place)?;
-    let span = p.end_span(start);
-    let node = make_one(p, NodeKind::BindingRestElement, Op::None, span, binding)?;
-    Ok(node)
-}
-
-/// What a rest binds.
-pub(crate) fn parse_rest_argument<C: ParserConfig, N: Nested<C>>(
-    p: &mut ParserImpl<'_, C>,
-    nested: &N,
-    place: RestPlace,
-) -> Result<NodeId, Stop>
-    requires at { Standing p.old }
-    requires nests { CanNest (N.can nested.now) (room p.old + 1) }
-    ensures answers { ReadsItem (at Binding) p.old p.new result }
-    ensures lexeme { IfOk result (λ _. p.old.token.kind ≡ Undetermined → ⊥) }
-{
-    let start = p.cur_start();
+    let bound = p.cur_start();
     let binding = parse_nested_binding(p, nested)?;
-    if !p.at(Kind::Eq) {
-        return Ok(binding);
-    }
-    parse_rest_initialiser(p, nested, start, binding, place)
+    finish_rest(p, nested, start, bound, binding, place)
 }
 
-/// The initialiser behind what a rest binds, which began at a place. A rest has none (ECMA-262, sections 14.3.3 and 15.1):
-/// it is told, and reading goes on.
-#[inline(never)]
-fn parse_rest_initialiser<C: ParserConfig, N: Nested<C>>(
+/// The node of a rest that began at a place, and what it binds at another. A rest has no initialiser (ECMA-262, sections
+/// 14.3.3 and 15.1): one that stands here is told, and reading goes on.
+pub(crate) fn finish_rest<C: ParserConfig, N: Nested<C>>(
     p: &mut ParserImpl<'_, C>,
     nested: &N,
     start: u32,
+    bound: u32,
     binding: NodeId,
     place: RestPlace,
 ) -> Result<NodeId, Stop>
     requires at { Standing p.old }
     requires nests { CanNest (N.can nested.now) (room p.old + 1) }
-    requires begins { RestBegins start p.old }
+    requires begins { RestBegins bound p.old }
+    requires before { start ≤ bound }
+    ensures { FinishesRest start binding p.old p.new result }
+{
+    let kind = NodeKind::BindingRestElement;
+    if !p.at(Kind::Eq) {
+        let span = p.end_span(start);
+        let node = make_one(p, kind, Op::None, span, binding)?;
+        return Ok(node);
+    }
+    let initialiser = parse_rest_initialiser(p, nested, bound, place)?;
+    let span = p.end_span(start);
+    let node = make_two(p, kind, Op::None, span, binding, initialiser)?;
+    Ok(node)
+}
+
+/// The initialiser of a rest, which binds what began at a place: it is told.
+#[inline(never)]
+fn parse_rest_initialiser<C: ParserConfig, N: Nested<C>>(
+    p: &mut ParserImpl<'_, C>,
+    nested: &N,
+    bound: u32,
+    place: RestPlace,
+) -> Result<NodeId, Stop>
+    requires at { Standing p.old }
+    requires nests { CanNest (N.can nested.now) (room p.old + 1) }
+    requires begins { RestBegins bound p.old }
     requires equals { p.old.token.kind ≡ Eq }
-    ensures { InitialisesRest start binding p.old p.new result }
+    ensures { InitialisesRest p.old p.new result }
 {
     advance(p)?;
     let initialiser = assignment_with_in(p, nested)?;
-    let span = p.end_span(start);
+    let span = p.end_span(bound);
     p.error(diagnostic_at(rest_initialiser_kind(place), span))?;
-    let kind = NodeKind::AssignmentPattern;
-    let node = make_two(p, kind, Op::None, span, binding, initialiser)?;
-    Ok(node)
+    Ok(initialiser)
 }
 
 /// What stands behind a rest: the closing bracket of this kind is due. A comma right before it is told, and reading goes
@@ -303,7 +307,7 @@ pub(crate) fn check_behind_rest<C: ParserConfig>(
     requires closes { one_of_kinds closers close ≡ true }
     requires mark { Mark (goal p.old) p.old.text misplaced }
     requires ends { EndsParse misplaced }
-    ensures { ClosingDue close p.old p.new result }
+    ensures { EndsRest close p.old p.new result }
 {
     if !p.at(Kind::Comma) {
         return Ok(());

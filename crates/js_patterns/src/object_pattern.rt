@@ -13,11 +13,13 @@ ghost use Rattle.js_parsing.specs.Moves.{MadeHere};
 ghost use Rattle.js_parsing.specs.Nesting.{CanNest, room};
 ghost use Rattle.js_parsing.specs.Stands.{NameHere, StandsHere};
 ghost use Rattle.js_parsing.specs.States.{Standing};
-ghost use Rattle.js_patterns.specs.ObjectPatterns.{properties_left, property_label, AddsInitialiser, BindsName, GivesUpThere, ReadsShorthand, ReadsValue};
+ghost use Rattle.js_patterns.specs.ObjectPatterns.{properties_left, property_label, AddsInitialiser, BindsName, GivesUpThere, ReadsNamedRest, ReadsShorthand, ReadsValue};
 ghost use Rattle.js_tree.specs.Labels.{kind_of, number_of};
 ghost use Rattle.js_tree.specs.Nodes.{node_at};
 
-use crate::binding::{RestPlace, check_behind_rest, parse_binding_element, parse_rest_argument};
+use crate::binding::{
+    RestPlace, check_behind_rest, finish_rest, parse_binding_element, parse_nested_binding,
+};
 use js_base::{Diagnostic, DiagnosticKind, Kind, NoMemory, Span};
 use js_cursor::{ParserImpl, Stop};
 use js_lex::ParserConfig;
@@ -27,7 +29,7 @@ use js_parsing::context::assignment_with_in;
 use js_parsing::diagnostics::diagnostic_at;
 use js_parsing::lexemes::{advance, name_stands};
 use js_parsing::nested::Nested;
-use js_parsing::nodes::{make_leaf, make_list, make_one, make_two};
+use js_parsing::nodes::{make_leaf, make_list, make_two};
 use js_tree::{NodeFlags, NodeId, NodeKind, Op};
 
 /// An ObjectBindingPattern (ECMA-262, section 14.3.3).
@@ -241,7 +243,7 @@ fn make_property<C: ParserConfig>(
         .node_of_two(kind, span, Op::None, flags, Some(key), Some(value))
 }
 
-/// A BindingRestProperty (ECMA-262, section 14.3.3): a rest that binds a name, behind which no comma may stand.
+/// A BindingRestProperty (ECMA-262, section 14.3.3), as the last property.
 fn parse_rest_property<C: ParserConfig, N: Nested<C>>(
     p: &mut ParserImpl<'_, C>,
     nested: &N,
@@ -253,20 +255,36 @@ fn parse_rest_property<C: ParserConfig, N: Nested<C>>(
     ensures { ReadsOneMore properties_left RCurly properties.old.items properties.new.items p.old p.new result }
 {
     let start = p.cur_start();
-    advance(p)?;
-    let bound = p.cur_start();
-    let argument = parse_rest_argument(p, nested, RestPlace::Pattern)?;
+    let rest = parse_named_rest(p, nested)?;
+    properties.push(Some(rest))?;
     let span = p.end_span(start);
     let misplaced = diagnostic_at(DiagnosticKind::BindingRestElementLast, span);
+    check_behind_rest(p, Kind::RCurly, misplaced)?;
+    Ok(false)
+}
+
+/// A rest that binds a name.
+fn parse_named_rest<C: ParserConfig, N: Nested<C>>(
+    p: &mut ParserImpl<'_, C>,
+    nested: &N,
+) -> Result<NodeId, Stop>
+    requires at { Standing p.old }
+    requires nests { CanNest (N.can nested.now) (room p.old + 1) }
+    requires sign { p.old.token.kind ≡ Dot3 }
+    ensures { ReadsNamedRest p.old p.new result }
+{
+    let start = p.cur_start();
+    advance(p)?;
+    let bound = p.cur_start();
+    let argument = parse_nested_binding(p, nested)?;
     if !binds_name(p, argument) {
+        let span = p.end_span(start);
+        let misplaced = diagnostic_at(DiagnosticKind::BindingRestElementLast, span);
         let binding = p.end_span(bound);
         let unnamed = diagnostic_at(DiagnosticKind::InvalidBindingRestElement, binding);
         return Err(refuse_rest(p, misplaced, unnamed));
     }
-    let rest = make_one(p, NodeKind::BindingRestElement, Op::None, span, argument)?;
-    properties.push(Some(rest))?;
-    check_behind_rest(p, Kind::RCurly, misplaced)?;
-    Ok(false)
+    finish_rest(p, nested, start, bound, argument, RestPlace::Pattern)
 }
 
 /// Gives up behind a rest that binds no name: it isn't the last property, which `misplaced` tells, or it is one, and

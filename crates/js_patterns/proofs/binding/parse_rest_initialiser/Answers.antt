@@ -4,7 +4,7 @@ use Rattle.js_base.specs.declared.kind.Kind.TheVariants.{Eq}
 use Rattle.js_parsing.proofs.Signs.{whole_sign}
 use Rattle.js_parsing.proofs.Moving.{standing}
 use Rattle.js_parsing.proofs.Nesting.{nests_later, nested_room}
-use Rattle.js_patterns.proofs.RestInitialisers.{goes_on, initialiser_marked, kind_so, told_answers, value_stops}
+use Rattle.js_patterns.proofs.RestInitialisers.{goes_on, initialiser_marked, kind_so, told_initialiser, value_stops}
 use Rattle.js_patterns.proofs.binding.parse_rest_initialiser.Goals as goal
 
 pub advance-requires-clause-whole : goal.advance-requires-clause-whole
@@ -17,10 +17,10 @@ pub assignment_with_in-requires-clause-nests : goal.assignment_with_in-requires-
 assignment_with_in-requires-clause-nests g c = nests_later c.requires.nests (let r = nested_room c.requires.at (c.in_ok-advance.ensures _ _ c.requires.at) in omega arith)
 
 pub returns-in_err-initialiser : goal.returns-in_err-initialiser
-returns-in_err-initialiser g c = λ text f o a e x.
+returns-in_err-initialiser g c = λ text f a.
     let p = err_from_is_err_and c.from_residual-in_err-initialiser.result c.from_residual-in_err-initialiser.ensures.1 in
-    let m = c.in_ok-advance.ensures text f x.answer.at in
-    rw (p.1, p.2) (value_stops a x c.requires.equals m _ _ (c.in_err-initialiser.ensures text f m.at))
+    let m = c.in_ok-advance.ensures text f a in
+    rw (p.1, p.2) (value_stops a c.requires.equals m _ _ (c.in_err-initialiser.ensures text f m.at))
 
 pub end_span-span-requires : goal.end_span-span-requires
 end_span-span-requires g c =
@@ -39,6 +39,6 @@ error-requires-clause-mark g c =
     initialiser_marked c.requires.at m (c.in_ok-initialiser.ensures _ _ m.at) c.args.place _ (kind_so c.args.place _ c.rest_initialiser_kind.ensures c.diagnostic_at.ensures) c.requires.begins c.end_span-span.ensures.start c.end_span-span.ensures.end
 
 pub returns : goal.returns
-returns g c = λ text f o a e x.
-    let m = c.in_ok-advance.ensures text f x.answer.at in
-    told_answers a x c.requires.equals m (c.in_ok-initialiser.ensures text f m.at) c.in_ok-error.ensures (goes_on c.args.place (kind_so c.args.place _ c.rest_initialiser_kind.ensures c.diagnostic_at.ensures)) _ (c.end_span-span.ensures.start ∙ e) c.end_span-span.ensures.end c.in_ok-node.ensures
+returns g c = λ text f a.
+    let m = c.in_ok-advance.ensures text f a in
+    told_initialiser a c.requires.equals m (c.in_ok-initialiser.ensures text f m.at) c.in_ok-error.ensures (goes_on c.args.place (kind_so c.args.place _ c.rest_initialiser_kind.ensures c.diagnostic_at.ensures))
