@@ -10,3 +10,4 @@ mod RestInitialisers
 mod MethodParameters
 pub mod Peeks
 mod Accessors
+mod FurtherParameters

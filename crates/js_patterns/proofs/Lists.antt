@@ -30,7 +30,7 @@ use Rattle.js_cursor.specs.declared.stop.Stop.{Stop}
 use Rattle.js_parsing.specs.Answers.{Underived, Numbered, Stops, clean}
 use Rattle.js_parsing.specs.Arguments.{Partway, PartTaken, behind_item}
 use Rattle.js_parsing.specs.Lexemes.{Lex, nowhere}
-use Rattle.js_parsing.specs.Lists.{NoneLeft, OneMore, ReadsOneMore, ListRead, ListStops}
+use Rattle.js_parsing.specs.Lists.{NoneLeft, OneMore, ReadsOneMore, ListStops}
 use Rattle.js_parsing.specs.Moves.{Moved}
 use Rattle.js_parsing.specs.Nesting.{room}
 use Rattle.js_parsing.specs.States.{At, Standing}
@@ -44,6 +44,7 @@ use Rattle.js_parsing.proofs.Paths.{passes, skips, walked_both, walked_one}
 use Rattle.js_parsing.proofs.Stretches.{stretches}
 use Rattle.js_parsing.proofs.Verdicts.{verdict_of, either_way, and_then}
 use Rattle.js_parsing.proofs.Verdicts.{after as grown_behind}
+use Rattle.js_patterns.specs.Lists.{ListReadOn}
 
 -- ---- what is left of a list
 
@@ -293,28 +294,29 @@ module _ (gap item z : G) (close : Kind) {text : List ℕ} {f : Flags} {p q : Pa
 
 -- ---- the loop
 
-pub record ListLoop (g : Flags → G) (js : List (Option NodeId)) (p q : Parser) : Type 0 where
+-- From some state on, behind the children ids, the children js were read so far.
+pub record ListLoop (g : Flags → G) (ids js : List (Option NodeId)) (p q : Parser) : Type 0 where
   pub at : Standing q
   pub less : room q ≤ room p
-  pub goes : (text : List ℕ) (f : Flags) → At text f p → OneMore text f (g f) (g f) p q [] js
+  pub goes : (text : List ℕ) (f : Flags) → At text f p → OneMore text f (g f) (g f) p q ids js
 
-pub loop_start : {g : Flags → G} {p : Parser} {ids : List (Option NodeId)} → ids ≡ [] → Standing p → ListLoop g ids p p
-loop_start {g} {p} e a = subst (λ (is : List (Option NodeId)). ListLoop g is p p) (sym e) (record { at = a; less = omega arith; goes = λ text f b. none_yet [] b })
+pub loop_start : {g : Flags → G} {p : Parser} {ids js : List (Option NodeId)} → js ≡ ids → Standing p → ListLoop g ids js p p
+loop_start {g} {p} {ids} e a = subst (λ (is : List (Option NodeId)). ListLoop g ids is p p) (sym e) (record { at = a; less = omega arith; goes = λ text f b. none_yet ids b })
 
-pub loop_more : {g : Flags → G} (k : Kind) {p q r : Parser} {js ks : List (Option NodeId)} → ListLoop g js p q → ReadsOneMore g k js ks q r (Ok true) → ListLoop g ks p r
+pub loop_more : {g : Flags → G} (k : Kind) {p q r : Parser} {ids js ks : List (Option NodeId)} → ListLoop g ids js p q → ReadsOneMore g k js ks q r (Ok true) → ListLoop g ids ks p r
 loop_more k l y =
     let x = y.1 _ _ l.at in
     record { at = standing x.at; less = let a = later_room x.forward x.same in let b = l.less in omega arith; goes = λ text f a. let z = l.goes text f a in one_and_more z (y.1 text f z.at) }
 
-pub loop_less : {g : Flags → G} (k : Kind) {p q r : Parser} {js ks : List (Option NodeId)} → ListLoop g js p q → ReadsOneMore g k js ks q r (Ok true) → room r < room q
+pub loop_less : {g : Flags → G} (k : Kind) {p q r : Parser} {ids js ks : List (Option NodeId)} → ListLoop g ids js p q → ReadsOneMore g k js ks q r (Ok true) → room r < room q
 loop_less k l y =
     let x = y.1 _ _ l.at in
     let a = y.0 refl in let b = l.at.at.between.0 in let g = x.same.follows.text in let i = x.at.at.between.0 in omega (arith, ap length g)
 
-pub loop_end : {g : Flags → G} (k : Kind) {p q r : Parser} {js ks : List (Option NodeId)} → ListLoop g js p q → ReadsOneMore g k js ks q r (Ok false) → ListRead g k ks p r
+pub loop_end : {g : Flags → G} (k : Kind) {p q r : Parser} {ids js ks : List (Option NodeId)} → ListLoop g ids js p q → ReadsOneMore g k js ks q r (Ok false) → ListReadOn g k ids ks p r
 loop_end k l y = λ text f a. let z = l.goes text f a in one_and_more z (y.1 text f z.at)
 
-pub loop_stops : {g : Flags → G} {p q : Parser} {js : List (Option NodeId)} (r : Parser) (e : Stop) → ListLoop g js p q → ListStops g q r e → ListStops g p r e
+pub loop_stops : {g : Flags → G} {p q : Parser} {ids js : List (Option NodeId)} (r : Parser) (e : Stop) → ListLoop g ids js p q → ListStops g q r e → ListStops g p r e
 loop_stops r e l y = λ text f a. let z = l.goes text f a in more_stops r e z (y text f z.at)
 
 pub more_so : (g : Flags → G) (k : Kind) (js ks : List (Option NodeId)) (p q : Parser) {b r : Bool} → r ≡ b → ReadsOneMore g k js ks p q (Ok r) → ReadsOneMore g k js ks p q (Ok b)

@@ -173,6 +173,10 @@ module _ {text : List ℕ} {f : Flags} {p : Parser} (a : At text f p) where
 
 -- ---- the parameters and their parentheses
 
+-- the children that a list was begun with
+pub behind_children : {text : List ℕ} {f : Flags} {g g' : G} {p q : Parser} {ids is js : List (Option NodeId)} → is ≡ ids → OneMore text f g g' p q is js → OneMore text f g g' p q ids js
+behind_children {text} {f} {g} {g'} {p} {q} {js = js} e x = subst (λ (is : List (Option NodeId)). OneMore text f g g' p q is js) e x
+
 abbrev in_parentheses : Flags → G
 in_parentheses f = tok LParen ▸ parameters_left f
 

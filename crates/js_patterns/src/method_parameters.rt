@@ -1,23 +1,24 @@
 //! Parameters of methods (ECMA-262, section 15.4).
 
-ghost use Rattle.std.specs.Prelude.{◌≡◌, MatchResult};
-ghost use Rattle.js_base.specs.declared.kind.Kind.TheVariants.{LParen};
-ghost use Rattle.js_cursor.specs.Moves.{OnlyMemory};
+ghost use Rattle.std.specs.Prelude.{◌≡◌, ◌+◌, MatchResult};
+ghost use Rattle.js_base.specs.declared.kind.Kind.TheVariants.{Comma, LParen};
+ghost use Rattle.js_cursor.specs.Moves.{OnlyMemory, Opened};
 ghost use Rattle.js_parsing.specs.Methods.{ReadsWhole, parameters_of};
 ghost use Rattle.js_parsing.specs.Nesting.{CanNest, room};
 ghost use Rattle.js_parsing.specs.States.{Standing};
 ghost use Rattle.js_parsing.specs.declared.nested.MethodForm.TheVariants.{Getter, Setter};
-ghost use Rattle.js_patterns.specs.Accessors.{ClosesBehind, IsTold, TellsParameters};
+ghost use Rattle.js_patterns.specs.Accessors.{IsTold, KindBehind, ReadsFurther, TellsParameters};
+ghost use Rattle.js_patterns.specs.Bindings.{RestBegins};
 
-use crate::parameters::{parse_formal_parameter, parse_formal_parameters};
-use js_base::{DiagnosticKind, Kind};
+use crate::parameters::{parse_formal_parameter, parse_formal_parameters, parse_parameter_list};
+use js_base::{DiagnosticKind, Kind, Span};
 use js_cursor::{ParserImpl, Stop};
 use js_lex::ParserConfig;
 use js_operands::primary::close_parentheses;
 use js_parsing::diagnostics::diagnostic_at;
 use js_parsing::lexemes::{advance, stands};
 use js_parsing::nested::{MethodForm, Nested};
-use js_parsing::nodes::{make_leaf, make_one};
+use js_parsing::nodes::{make_leaf, make_list, make_one};
 use js_tree::{NodeId, NodeKind, Op};
 
 /// The parameters of a method in their parentheses (ECMA-262, section 15.4).
@@ -50,13 +51,14 @@ fn parse_getter_parameters<C: ParserConfig, N: Nested<C>>(
     requires open { p.old.token.kind ≡ LParen }
     ensures { ReadsWhole (parameters_of Getter) p.old p.new result }
 {
-    if closes_behind(p)? {
-        return parse_no_parameters(p);
+    match kind_behind(p)? {
+        Kind::RParen => parse_no_parameters(p),
+        _ => parse_told_parameters(p, nested, DiagnosticKind::GetterParameters),
     }
-    parse_told_parameters(p, nested, DiagnosticKind::GetterParameters)
 }
 
-/// The parameter of a setter in its parentheses. That none stands there is told, and reading goes on.
+/// The parameter of a setter in its parentheses. That none stands there, or a rest, or more of them, is told, and reading
+/// goes on.
 fn parse_setter_parameters<C: ParserConfig, N: Nested<C>>(
     p: &mut ParserImpl<'_, C>,
     nested: &N,
@@ -66,19 +68,20 @@ fn parse_setter_parameters<C: ParserConfig, N: Nested<C>>(
     requires open { p.old.token.kind ≡ LParen }
     ensures { ReadsWhole (parameters_of Setter) p.old p.new result }
 {
-    if closes_behind(p)? {
-        return parse_told_parameters(p, nested, DiagnosticKind::SetterWithParameters);
+    match kind_behind(p)? {
+        Kind::RParen => parse_told_parameters(p, nested, DiagnosticKind::SetterWithParameters),
+        Kind::Dot3 => parse_told_parameters(p, nested, DiagnosticKind::SetterWithRestParameter),
+        _ => parse_one_parameter(p, nested),
     }
-    parse_one_parameter(p, nested)
 }
 
-/// Whether `)` stands behind the current lexeme.
-fn closes_behind<C: ParserConfig>(p: &mut ParserImpl<'_, C>) -> Result<bool, Stop>
+/// The kind of the lexeme behind the current one.
+fn kind_behind<C: ParserConfig>(p: &mut ParserImpl<'_, C>) -> Result<Kind, Stop>
     requires { Standing p.old }
-    ensures { MatchResult result (λ b. ClosesBehind p.old p.new b) OnlyMemory }
+    ensures { MatchResult result (λ k. KindBehind p.old p.new k) OnlyMemory }
 {
     let next = p.peek_token()?;
-    Ok(matches!(next.kind(), Kind::RParen))
+    Ok(next.kind())
 }
 
 /// FormalParameters in parentheses, where an accessor may not have them: this is told of them.
@@ -115,7 +118,7 @@ fn parse_no_parameters<C: ParserConfig>(p: &mut ParserImpl<'_, C>) -> Result<Nod
     Ok(node)
 }
 
-/// One parameter in its parentheses.
+/// One parameter in its parentheses. More of them are told, and reading goes on.
 fn parse_one_parameter<C: ParserConfig, N: Nested<C>>(
     p: &mut ParserImpl<'_, C>,
     nested: &N,
@@ -128,9 +131,40 @@ fn parse_one_parameter<C: ParserConfig, N: Nested<C>>(
     let opening = p.cur_token().span();
     advance(p)?;
     let parameter = parse_formal_parameter(p, nested)?;
+    if p.at(Kind::Comma) {
+        return parse_further_parameters(p, nested, opening, parameter);
+    }
     close_parentheses(p, opening)?;
     let span = p.end_span(opening.start);
     let kind = NodeKind::FormalParameters;
     let node = make_one(p, kind, Op::None, span, parameter)?;
+    Ok(node)
+}
+
+/// What stands behind the one parameter of a setter, where a comma does, up to the closing parenthesis: it is told of all
+/// the parameters, and reading goes on.
+#[inline(never)]
+fn parse_further_parameters<C: ParserConfig, N: Nested<C>>(
+    p: &mut ParserImpl<'_, C>,
+    nested: &N,
+    opening: Span,
+    parameter: NodeId,
+) -> Result<NodeId, Stop>
+    requires at { Standing p.old }
+    requires nests { CanNest (N.can nested.now) (room p.old + 1) }
+    requires opened { Opened p.old opening }
+    requires begins { RestBegins opening.start p.old }
+    requires comma { p.old.token.kind ≡ Comma }
+    ensures { ReadsFurther opening parameter p.old p.new result }
+{
+    let mut parameters = Vec::new(p.alloc);
+    parameters.push(Some(parameter))?;
+    advance(p)?;
+    parse_parameter_list(p, nested, &mut parameters)?;
+    close_parentheses(p, opening)?;
+    let span = p.end_span(opening.start);
+    p.error(diagnostic_at(DiagnosticKind::SetterWithParameters, span))?;
+    let kind = NodeKind::FormalParameters;
+    let node = make_list(p, kind, Op::None, span, parameters)?;
     Ok(node)
 }

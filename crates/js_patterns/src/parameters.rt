@@ -5,8 +5,9 @@ ghost use Rattle.js_base.specs.Kinds.{one_of_kinds};
 ghost use Rattle.js_base.specs.declared.kind.Kind.TheVariants.{Dot3, LParen, RParen};
 ghost use Rattle.js_grammar.specs.Productions.{at, Param, Params, Rest};
 ghost use Rattle.js_parsing.specs.Answers.{Answers};
-ghost use Rattle.js_parsing.specs.Lists.{ListRead, ListStops, ReadsItem, ReadsOneMore};
+ghost use Rattle.js_parsing.specs.Lists.{ListStops, ReadsItem, ReadsOneMore};
 ghost use Rattle.js_parsing.specs.Nesting.{CanNest, room};
+ghost use Rattle.js_patterns.specs.Lists.{ListReadOn};
 ghost use Rattle.js_patterns.specs.Parameters.{parameters_left};
 ghost use Rattle.js_parsing.specs.States.{Standing};
 
@@ -34,7 +35,8 @@ pub fn parse_formal_parameters<C: ParserConfig, N: Nested<C>>(
 {
     let opening = p.cur_token().span();
     advance(p)?;
-    let parameters = parse_parameter_list(p, nested)?;
+    let mut parameters = Vec::new(p.alloc);
+    parse_parameter_list(p, nested, &mut parameters)?;
     close_parentheses(p, opening)?;
     let span = p.end_span(opening.start);
     let kind = NodeKind::FormalParameters;
@@ -42,23 +44,23 @@ pub fn parse_formal_parameters<C: ParserConfig, N: Nested<C>>(
     Ok(node)
 }
 
-/// The parameters behind an opening parenthesis, as many as stand there.
-fn parse_parameter_list<C: ParserConfig, N: Nested<C>>(
+/// The parameters up to the closing parenthesis, as many as stand there, behind those that were read.
+pub(crate) fn parse_parameter_list<C: ParserConfig, N: Nested<C>>(
     p: &mut ParserImpl<'_, C>,
     nested: &N,
-) -> Result<Vec<Option<NodeId>>, Stop>
+    parameters: &mut Vec<Option<NodeId>>,
+) -> Result<(), Stop>
     requires at { Standing p.old }
     requires nests { CanNest (N.can nested.now) (room p.old + 1) }
-    ensures { MatchResult result (λ v. ListRead parameters_left RParen v.items p.old p.new) (λ e. ListStops parameters_left p.old p.new e) }
+    ensures { MatchResult result (λ _. ListReadOn parameters_left RParen parameters.old.items parameters.new.items p.old p.new) (λ e. ListStops parameters_left p.old p.new e) }
 {
-    let mut parameters = Vec::new(p.alloc);
     'parameters: loop {
-        let more = parse_next_parameter(p, nested, &mut parameters)?;
+        let more = parse_next_parameter(p, nested, parameters)?;
         if !more {
             break;
         }
     }
-    Ok(parameters)
+    Ok(())
 }
 
 /// A parameter or a rest, if one stands here, and the comma behind it: whether another may stand behind that.

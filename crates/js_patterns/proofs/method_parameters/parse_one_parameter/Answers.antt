@@ -7,9 +7,10 @@ use Rattle.js_base.specs.Kinds.{one_of_kinds}
 use Rattle.js_cursor.specs.Moves.{Opened}
 use Rattle.js_operands.proofs.Parentheses.{paren_whole, unclosed}
 use Rattle.js_parsing.proofs.Bracketed.{opened_here, opened_later}
-use Rattle.js_parsing.proofs.Moving.{standing}
-use Rattle.js_parsing.proofs.Nesting.{nested_room, nests_later}
-use Rattle.js_patterns.proofs.MethodParameters.{no_parameter, one_between, parameters_taken, setter_unclosed}
+use Rattle.js_parsing.proofs.Moving.{same_both, standing}
+use Rattle.js_parsing.proofs.Nesting.{later_room, nested_room, nests_later}
+use Rattle.js_patterns.proofs.Accessors.{parentheses_begin}
+use Rattle.js_patterns.proofs.MethodParameters.{no_parameter, one_between, parameters_taken, setter_unclosed, with_parameter}
 use Rattle.js_patterns.proofs.method_parameters.parse_one_parameter.Goals as goal
 
 pub advance-requires-clause-whole : goal.advance-requires-clause-whole
@@ -26,6 +27,32 @@ returns-in_err-parameter g c = λ text f a.
     let p = err_from_is_err_and c.from_residual-in_err-parameter.result c.from_residual-in_err-parameter.ensures.1 in
     let m = c.in_ok-advance.ensures text f a in
     rw (p.1, p.2) (no_parameter a c.requires.open m _ _ (c.in_err-parameter.ensures text f m.at))
+
+pub parse_further_parameters-requires-clause-at : goal.parse_further_parameters-requires-clause-at
+parse_further_parameters-requires-clause-at g c = standing (c.in_ok-parameter.ensures _ _ (c.in_ok-advance.ensures _ _ c.requires.at).at).at
+
+pub parse_further_parameters-requires-clause-nests : goal.parse_further_parameters-requires-clause-nests
+parse_further_parameters-requires-clause-nests g c =
+    let m = c.in_ok-advance.ensures _ _ c.requires.at in
+    let x = c.in_ok-parameter.ensures _ _ m.at in
+    nests_later c.requires.nests (let r = nested_room c.requires.at m in let s = later_room (let i = x.further in let j = m.at.behind in omega arith) x.same in omega arith)
+
+pub parse_further_parameters-requires-clause-opened : goal.parse_further_parameters-requires-clause-opened
+parse_further_parameters-requires-clause-opened g c =
+    let m = c.in_ok-advance.ensures _ _ c.requires.at in
+    let x = c.in_ok-parameter.ensures _ _ m.at in
+    subst (λ (s : Span). Opened c.parse_formal_parameter.new.p s) (sym (c.span-opening.ensures ∙ ap (λ (t : Token). t.span) c.cur_token.ensures)) (opened_later x.same (let i = x.further in let j = m.at.behind in omega arith) (opened_here c.requires.at (ap (one_of_kinds (LParen ∷ LBrack ∷ LCurly ∷ TemplateHead ∷ TemplateMiddle ∷ [])) c.requires.open) m))
+
+pub parse_further_parameters-requires-clause-begins : goal.parse_further_parameters-requires-clause-begins
+parse_further_parameters-requires-clause-begins g c =
+    let m = c.in_ok-advance.ensures _ _ c.requires.at in
+    let x = c.in_ok-parameter.ensures _ _ m.at in
+    parentheses_begin c.requires.at c.requires.open (same_both m.same x.same) (let a = m.further in let b = m.at.behind in let d = x.further in omega arith) (ap (λ (s : Span). s.start) (c.span-opening.ensures ∙ ap (λ (t : Token). t.span) c.cur_token.ensures))
+
+pub returns-then-at : goal.returns-then-at
+returns-then-at g c = λ text f a.
+    let m = c.in_ok-advance.ensures text f a in
+    c.parse_further_parameters.ensures text f _ a (ap (λ (s : Span). s.start) (c.span-opening.ensures ∙ ap (λ (t : Token). t.span) c.cur_token.ensures)) (with_parameter a c.requires.open m (c.in_ok-parameter.ensures text f m.at))
 
 pub close_parentheses-requires-clause-at : goal.close_parentheses-requires-clause-at
 close_parentheses-requires-clause-at g c = standing (c.in_ok-parameter.ensures _ _ (c.in_ok-advance.ensures _ _ c.requires.at).at).at

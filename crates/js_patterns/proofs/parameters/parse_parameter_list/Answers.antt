@@ -1,4 +1,4 @@
-use Rattle.std.proofs.Common.{[], ◌≡◌, arith}
+use Rattle.std.proofs.Common.{refl, arith}
 use Rattle.std.proofs.lemmas.Result.{err_from_is_err_and}
 use Rattle.js_base.specs.declared.kind.Kind.TheVariants.{RParen}
 use Rattle.js_patterns.specs.Parameters.{parameters_left}
@@ -7,7 +7,7 @@ use Rattle.js_parsing.proofs.Nesting.{nests_later}
 use Rattle.js_patterns.proofs.parameters.parse_parameter_list.Goals as goal
 
 pub parameters-init : goal.parameters-init
-parameters-init g c = loop_start (let e : c.new-parameters.result.items ≡ [] = search in e) c.requires.at
+parameters-init g c = loop_start refl c.requires.at
 
 pub parse_next_parameter-requires-clause-at : goal.parse_next_parameter-requires-clause-at
 parse_next_parameter-requires-clause-at g c = c.parameters.invariant.at

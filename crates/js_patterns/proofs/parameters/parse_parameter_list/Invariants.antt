@@ -4,7 +4,7 @@ use Rattle.js_patterns.proofs.Lists.{ListLoop}
 use Rattle.js_patterns.proofs.parameters.parse_parameter_list.Given as goal
 
 abbrev pub invariant-parameters : goal.invariant-parameters
-invariant-parameters g l = ListLoop parameters_left l.parameters.items l.fn.p l.p
+invariant-parameters g l = ListLoop parameters_left l.fn.parameters.items l.parameters.items l.fn.p l.p
 
 abbrev pub decreases-parameters : goal.decreases-parameters
 decreases-parameters g l = room l.p
