@@ -387,9 +387,8 @@ rule_of ExportDecl f = mk export_all_declaration (tok 'export' ▸ tok Star ▸ 
   where
     decorators : G
     decorators = sym Decorator f ▸ many (sym Decorator f)
--- What may be the head of an arrow before it is known to be one (CoverParenthesizedExpressionAndArrowParameterList, 13.2; CoverCallExpressionAndAsyncArrowHead, 13.3): a newline may stand before `=>`, a comma behind a rest, and a rest may have an initialiser.
-rule_of LooseHead f = each (λ a. let p = record f { await_ = f.await_ || a } in only a (tok 'async' ▸ no_newline)
-    ▸ mk formal_parameters (parens (items never (sym Param p) (sym Rest p ▸ opt (keep (sym Init (plus_in p)) nothing) ▸ opt (tok Comma)))) ▸ tok Arrow)
+-- The head of an arrow function with its parameters in parentheses, before what stands behind `=>` is looked at (CoverParenthesizedExpressionAndArrowParameterList, 13.2; CoverCallExpressionAndAsyncArrowHead, 13.3): a newline may stand before `=>`.
+rule_of LooseHead f = each (λ a. only a (tok 'async' ▸ no_newline) ▸ sym Params (record f { await_ = f.await_ || a }) ▸ tok Arrow)
 
 unfoldable pub rule : Symbol → G
 unfolding rule_of

@@ -49,11 +49,6 @@ ListRead g k ids p q = (text : List ℕ) (f : Flags) → At text f p → OneMore
 abbrev pub ListStops : (Flags → G) → Parser → Parser → Stop → Type 0
 ListStops g p q e = (text : List ℕ) (f : Flags) → At text f p → Stops p q e (NoneLeft text (g f) p.prev_token_end)
 
--- The closing bracket is due; and so it is behind what was passed and told of.
-abbrev pub ClosingDue : Kind → Parser → Parser → Result (Unit {0}) Stop → Type 0
-ClosingDue k p q (Ok x) = (text : List ℕ) (f : Flags) → At text f p → (ids : List (Option NodeId)) → OneMore text f (tok k) (tok k) p q ids ids
-ClosingDue k p q (Err e) = (text : List ℕ) (f : Flags) → At text f p → Stops p q e (NoneLeft text (tok k) p.prev_token_end)
-
 -- an item of a list: whatever is derived from its beginning before a comma or a closing bracket
 abbrev pub ReadsItem : (Flags → Symbol) → Parser → Parser → Result NodeId Stop → Type 0
 ReadsItem n p q r = (text : List ℕ) (f : Flags) → At text f p → ItemOutcome text f (n f) p q r
