@@ -1,5 +1,5 @@
 -- Lists of statements in braces (ECMA-262, 14.2, 15.2).
-use Rattle.std.proofs.Common.{ℕ, ◌≡◌, ◌≤◌, max, List, ◌∷◌, length, Option, Bool, true, false, not, ◌||◌, refl, sym, ap, subst, arith, ◌∙◌}
+use Rattle.std.proofs.Common.{ℕ, ◌≡◌, ◌≤◌, max, List, ◌∷◌, length, Option, Bool, true, false, ◌||◌, refl, sym, ap, subst, arith, ◌∙◌}
 use Rattle.std.specs.Prelude.{Some, Err}
 use Rattle.std.proofs.lemmas.Bool.{false≢true, and_parts}
 use Rattle.js_base.specs.declared.diagnostic.Diagnostic.{Diagnostic}
@@ -58,8 +58,8 @@ use Rattle.js_statements.proofs.StatementLists.{none_left}
 use Rattle.js_statements.proofs.WordStatements.{Alone, alone_fails, alone_path}
 
 -- a path, and what passes some lexemes behind it or none
-pub then_some : {text : List ℕ} {X : Test} {f f' : Flags} {g g' g'' : G} {p q r : Parser} {h i : Slots → Slots} {pass : Lexemes → Lexemes} → Path text f X g p g' q h → At text f' r → q.prev_token_end ≤ r.prev_token_end → Walked text (spot q) (spot r) pass
-    → Verdict (f.wide ≡ true) q.errors r.errors (Stretch text (behind X h) g' q.prev_token_end g'' r.prev_token_end i pass) (Fails rule (Lex text) (behind X h) end g' q.prev_token_end) → Path text f' X g p g'' r (λ us. h (i us))
+pub then_some : {text : List ℕ} {X : Test} {f : Flags} {g g' g'' : G} {p q r : Parser} {h i : Slots → Slots} {pass : Lexemes → Lexemes} → Path text f X g p g' q h → At text f r → q.prev_token_end ≤ r.prev_token_end → Walked text (spot q) (spot r) pass
+    → Verdict (f.wide ≡ true) q.errors r.errors (Stretch text (behind X h) g' q.prev_token_end g'' r.prev_token_end i pass) (Fails rule (Lex text) (behind X h) end g' q.prev_token_end) → Path text f X g p g'' r (λ us. h (i us))
 then_some {pass = w} a b l u v = record {
   at = b;
   further = let i = a.further in omega arith;

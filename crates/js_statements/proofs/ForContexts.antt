@@ -14,6 +14,7 @@ use Rattle.js_cursor.specs.declared.stop.Stop.{Stop}
 use Rattle.js_cursor.proofs.Later.{follows_on}
 use Rattle.js_cursor.proofs.Changing.{ctx_set}
 use Rattle.js_parsing.specs.Answers.{Stops}
+use Rattle.js_parsing.specs.Heads.{widened}
 use Rattle.js_parsing.specs.Lexemes.{Lex}
 use Rattle.js_parsing.specs.States.{At, IsPlain, whole, sign, nothing, flags_of}
 use Rattle.js_parsing.proofs.Moving.{flags_same, stops_later}
@@ -54,7 +55,7 @@ module _ {text : List ℕ} where
   plain_under c (sign d k x) = sign d k x
   plain_under c (nothing d k n) = nothing d k n
 
-  at_under : {f g : Flags} {p : Parser} (c : Context) → flags_of (record p { ctx = c }) ≡ g → At text f p → At text g (record p { ctx = c })
+  at_under : {f g : Flags} {p : Parser} (c : Context) → widened g.wide (flags_of (record p { ctx = c })) ≡ g → At text f p → At text g (record p { ctx = c })
   at_under c e a = record { text_is = a.text_is; flags_are = e; at = (ctx_set c a.at).1; plain = plain_under c a.plain; behind = a.behind; heads = a.heads; kept_last = a.kept_last }
 
   out_of : {f : Flags} {w : Bool} {p q : Parser} {c : Context} {first : Option NodeId} → At text f p → FirstTaken text (minus_in f) w (record p { ctx = c }) q first → FirstTaken text f w p (record q { ctx = p.ctx }) first

@@ -97,7 +97,7 @@ ending_angle ending.In = refl
 ending_angle ending.Of = refl
 
 -- of what ends where another lexeme stands
-pub verdict_not : {text : List ℕ} {f : Flags} {g : G} {s : ℕ} {q : Parser} {es ds : List Diagnostic} {h : Slots → Slots} {pass : Lexemes → Lexemes} (e : Ending) → Verdict (f.wide ≡ true) es ds (Stretch text (plain (is (end_kind e))) g s nothing q.prev_token_end h pass) (Fails rule (Lex text) (plain (is (end_kind e))) end g s) → At text f q → StandsHere q (end_kind e) false → Fails rule (Lex text) (plain (is (end_kind e))) end g s
+pub verdict_not : {text : List ℕ} {f : Flags} {W : Type 0} {g : G} {s : ℕ} {q : Parser} {es ds : List Diagnostic} {h : Slots → Slots} {pass : Lexemes → Lexemes} (e : Ending) → Verdict W es ds (Stretch text (plain (is (end_kind e))) g s nothing q.prev_token_end h pass) (Fails rule (Lex text) (plain (is (end_kind e))) end g s) → At text f q → StandsHere q (end_kind e) false → Fails rule (Lex text) (plain (is (end_kind e))) end g s
 verdict_not e v a n = either_way v (λ z. stretch_not (end_kind e) z (stands_not a (ending_angle e) n)) (λ z. z)
 
 pub path_not : {text : List ℕ} {f f' : Flags} {g : G} {p q : Parser} {h : Slots → Slots} (e : Ending) → Path text f (plain (is (end_kind e))) g p nothing q h → At text f' q → StandsHere q (end_kind e) false → Fails rule (Lex text) (plain (is (end_kind e))) end g p.prev_token_end

@@ -35,10 +35,10 @@ use Rattle.js_tree.proofs.HoldingLemmas.{HoldsAll-none, HoldsAll-next, Holds-bel
 use Rattle.js_cursor.specs.Moves.{is_last}
 use Rattle.js_cursor.specs.Parsers.{Parser}
 use Rattle.js_parsing.specs.Lexemes.{Lex, name_kinds, nowhere}
-use Rattle.js_parsing.specs.States.{At, Same, flags_of, NodesLie}
+use Rattle.js_parsing.specs.States.{At, Same, NodesLie}
 use Rattle.js_parsing.specs.Nesting.{room}
 use Rattle.js_parsing.specs.Moves.{MadeHere, plain_label}
-use Rattle.js_parsing.specs.Answers.{Grown, Verdict, clean, unclean, Stretch, Underived, Answer, Numbered}
+use Rattle.js_parsing.specs.Answers.{Grown, Verdict, clean, unclean, wider, Stretch, Underived, Answer, Numbered}
 use Rattle.js_parsing.specs.Statements.{statement_kinds, no_link, after_statement, NoStatement, Statement, EndsStatement, NoEnd}
 use Rattle.js_statements.specs.StatementLists.{at_end, ends_at, ends_list, has_directives, item_of, list_of, with_directives, statements, NoList, OneTaken, Taken, OpeningTaken}
 use Rattle.js_statements.specs.declared.statement_list.StatementList.{StatementList}

@@ -1,4 +1,4 @@
-use Rattle.std.proofs.Common.{refl, ◌≡◌, ◌∙◌, sym, true, false}
+use Rattle.std.proofs.Common.{refl, ◌∙◌, sym}
 use Rattle.js_parsing.proofs.Escapes.{plain_here}
 use Rattle.js_parsing.proofs.Giving.{gives_up_here, fails_escaped}
 use Rattle.js_statements.proofs.Statements.{no_own_kind}

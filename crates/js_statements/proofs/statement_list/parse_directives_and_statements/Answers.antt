@@ -16,8 +16,8 @@ returns-in_err-statement t c =
     let p = err_from_is_err_and c.from_residual-in_err-statement.result c.from_residual-in_err-statement.ensures.1 in
     let n = goes_on_here c.args.list _ (sym c.at_last.ensures ∙ c.statements-test.true) in
     rw (p.1, p.2) (λ text f a.
-        let s = c.statements.invariant text f a in
-        stops_behind _ _ s.same (λ g. after s.verdict g) (λ z. none_left s (no_statement_here s.at c.args.list n z)) (c.in_err-statement.ensures _ _ s.at))
+    let s = c.statements.invariant text f a in
+    stops_behind _ _ s.same (λ g. after s.verdict g) (λ z. none_left s (no_statement_here s.at c.args.list n z)) (c.in_err-statement.ensures _ _ s.at))
 
 pub statements-smaller : goal.statements-smaller
 statements-smaller t c =
