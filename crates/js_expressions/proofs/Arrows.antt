@@ -223,19 +223,32 @@ or_false false = refl
 pub plain_head_flags : (f : Flags) → arrow_head false f ≡ f
 plain_head_flags f = ap (λ (b : Bool). record f { await_ = b }) (or_false f.await_)
 
+-- a head with `=>` behind it on its line
+abbrev on_line : Flags → G
+on_line f = head_of f ▸ no_newline ▸ tok Arrow
+
+abbrev NoneOnLine : Bool → List ℕ → Flags → ℕ → Type 0
+NoneOnLine a text f s = Fails rule (Lex text) (plain full) end (lead_of a ▸ on_line (arrow_head a f)) s
+
+none_on_line : {text : List ℕ} (f : Flags) {s : ℕ} (a : Bool) → NoLed a text f s → NoneOnLine a text f s
+none_on_line {text} f {s} a n = record { no = λ ts vs k ls rest l d e. go ts vs k ls rest l d }
+  where
+    go : (ts vs : Slots) (k : ℕ) (ls rest : Lexemes) → Lexes (Lex text) s ls → Takes rule (lead_of a ▸ on_line (arrow_head a f)) end ts s ls vs k rest → ⊥
+    go ts vs k ls rest l (is_seq w (is_seq h (is_seq (is_look o) q))) = n.no ts vs k ls rest l (is_seq w (is_seq h q)) (refl, refl)
+
 module _ {text : List ℕ} (f : Flags) {s : ℕ} where
-  line_fails : (a : Bool) {X : Test} → NoLed a text f s → Fails rule (Lex text) X end (arrow_line a f) s
+  line_fails : (a : Bool) {X : Test} → NoneOnLine a text f s → Fails rule (Lex text) X end (arrow_line a f) s
   line_fails a n = fails_node inside_full (record { no = λ ts vs k ls rest l d e. go ts vs k ls rest l d })
     where
       go : (ts vs : Slots) (k : ℕ) (ls rest : Lexemes) → Lexes (Lex text) s ls → Takes rule (arrow_slots a f) end ts s ls vs k rest → ⊥
       go ts vs k ls rest l (is_seq w (is_seq h (is_seq o (is_seq {us = us} {j = j} {mid = mid} q b)))) = n.no ts us j ls mid l (is_seq w (is_seq h (is_seq o q))) (refl, refl)
 
   to_line : (a : Bool) {X : Test} → NoLed (not a) text f s → Goes rule (Lex text) X end (rule (at Arrow' f)) s (arrow_line a f) s (λ us. us) (still 0)
-  to_line true {X} n = subst (λ (g : G). Goes rule (Lex text) X end g s (arrow_line true f) s (λ us. us) (still 0)) (sym (both_lines f)) (right (line_fails false n))
-  to_line false {X} n = subst (λ (g : G). Goes rule (Lex text) X end g s (arrow_line false f) s (λ us. us) (still 0)) (sym (both_lines f)) (left (line_fails true n))
+  to_line true {X} n = subst (λ (g : G). Goes rule (Lex text) X end g s (arrow_line true f) s (λ us. us) (still 0)) (sym (both_lines f)) (right (line_fails false (none_on_line f false n)))
+  to_line false {X} n = subst (λ (g : G). Goes rule (Lex text) X end g s (arrow_line false f) s (λ us. us) (still 0)) (sym (both_lines f)) (left (line_fails true (none_on_line f true n)))
 
   pub no_arrow : NoLed false text f s → NoLed true text f s → Underived text (at Arrow' f) s
-  no_arrow n m = fails_by (subst (λ (g : G). Fails rule (Lex text) (after (at Arrow' f)) end g s) (sym (both_lines f)) (fails_alt (line_fails false n) (line_fails true m)))
+  no_arrow n m = fails_by (subst (λ (g : G). Fails rule (Lex text) (after (at Arrow' f)) end g s) (sym (both_lines f)) (fails_alt (line_fails false (none_on_line f false n)) (line_fails true (none_on_line f true m))))
 
   pub no_plain_led : NoLine text f s → NoLed false text f s
   no_plain_led n = subst (λ (g : Flags). Fails rule (Lex text) (plain full) end (nothing ▸ line_of g) s) (sym (plain_head_flags f)) (done ▹✗ n)
@@ -257,7 +270,7 @@ one_arrow : {text : List ℕ} {f : Flags} {s : ℕ} {X : Test} → ((ls mid : Le
 one_arrow {text} {f} {s} n = record { no = λ ts vs k ls rest l d e. go ts vs k ls rest l d }
   where
     go : (ts vs : Slots) (k : ℕ) (ls rest : Lexemes) → Lexes (Lex text) s ls → Takes rule (line_of f) end ts s ls vs k rest → ⊥
-    go ts vs k ls rest l (is_seq {mid = mid} d (is_seq (is_look w) (is_lexeme {x = x} q))) = let z = head_one d in n ls mid z.0 l z.1 (and_parts (same_kind Arrow x.kind) _ q).0
+    go ts vs k ls rest l (is_seq {mid = mid} d (is_lexeme {x = x} q)) = let z = head_one d in n ls mid z.0 l z.1 (and_parts (same_kind Arrow x.kind) _ q).0
 
 -- a name is no bracket
 name_no_bracket : (k : Kind) → one_of_kinds name_kinds k ≡ true → bracket k ≡ bracket_plain
@@ -308,7 +321,7 @@ module _ {text : List ℕ} {f : Flags} {p : Parser} (a : At text f p) where
     where
       go : (ts vs : Slots) (j : ℕ) (ls rest : Lexemes) → Lexes (Lex text) p.prev_token_end ls → Takes rule (line_of g) end ts p.prev_token_end ls vs j rest → ⊥
       go ts vs j ls rest l (is_seq {us = us} {j = i} {mid = mid} (is_left d) e) = (no_name g {X = plain full} k).no ts us i ls mid l d (refl, refl)
-      go ts vs j ls rest l (is_seq (is_right d) (is_seq (is_look w) (is_lexeme q))) = n.no ts vs j ls rest l (is_seq d (is_lexeme q)) (refl, refl)
+      go ts vs j ls rest l (is_seq (is_right d) (is_lexeme q)) = n.no ts vs j ls rest l (is_seq d (is_lexeme q)) (refl, refl)
 
   -- so no arrow function does
   pub no_head_no_arrow : p.token.kind ≡ LParen → NoHead text f p.prev_token_end → Underived text (at Arrow' f) p.prev_token_end
@@ -823,9 +836,9 @@ arrow_flags true = refl
 arrow_flags false = refl
 
 -- neither line
-no_led : {text : List ℕ} (a : Bool) (f : Flags) {s : ℕ} → NoLed a text f s → NoLed (not a) text f s → Underived text (at Arrow' f) s
-no_led true f n m = no_arrow f m n
-no_led false f n m = no_arrow f n m
+no_led : {text : List ℕ} (a : Bool) (f : Flags) {s : ℕ} → NoneOnLine a text f s → NoLed (not a) text f s → Underived text (at Arrow' f) s
+no_led {text} true f {s} n m = fails_by (subst (λ (g : G). Fails rule (Lex text) (after (at Arrow' f)) end g s) (sym (both_lines f)) (fails_alt (line_fails f false (none_on_line f false m)) (line_fails f true n)))
+no_led {text} false f {s} n m = fails_by (subst (λ (g : G). Fails rule (Lex text) (after (at Arrow' f)) end g s) (sym (both_lines f)) (fails_alt (line_fails f false n) (line_fails f true (none_on_line f true m))))
 
 module _ {text : List ℕ} (a : Bool) {f : Flags} (o : Parser) {l p : Parser} {id : NodeId} (d : Leads a text f o l) (h : Head text f (arrow_head a f) l p id) (y : OnlyLed a text f o.prev_token_end) (k : p.token.kind ≡ Arrow) where
   on_body : (b : Bool) {e : ℕ} → On rule (record { base = widest Assignment; by = λ us. by_second f (tree h.label h.slots us) }) (after (body_of b a f)) end (such (body_of b a f) always) e

@@ -9,13 +9,13 @@ use Rattle.js_base.specs.Kinds.{same_kind, one_of_kinds}
 use Rattle.js_base.specs.Texts.{words}
 use Rattle.js_base.proofs.KindLemmas.{kind_of_same}
 use Rattle.js_grammar.specs.Trees.{Label, Slots, end, tree}
-use Rattle.js_grammar.specs.Grammar.{Lexeme, Lexemes, Look, here, next, seen, alt, such, Takes, is_seq, is_lexeme, is_look, is_left, is_right, is_such, is_node, ◌▸◌}
+use Rattle.js_grammar.specs.Grammar.{Lexeme, Lexemes, Look, here, is, next, seen, alt, such, Takes, is_seq, is_lexeme, is_look, is_left, is_right, is_such, is_node, ◌▸◌}
 use Rattle.js_grammar.specs.Follow.{after, looser}
 use Rattle.js_grammar.specs.Insertion.{Row, assign_operators, may_bind, after_expression, after_postfix, after_body, after_yield, after_declarator, after_word}
 use Rattle.js_grammar.specs.Lexed.{Lexes}
 use Rattle.js_grammar.specs.Lexemes.{is_word}
 use Rattle.js_grammar.specs.Parsing.{Fails, plain, full, always}
-use Rattle.js_grammar.specs.Productions.{Flags, Symbol, at, any_of, branches, Arrow', Assignment, Conditional, Short, SimpleTarget, Target, ArrayTarget, ObjectTarget}
+use Rattle.js_grammar.specs.Productions.{Flags, Symbol, at, any_of, branches, Arrow', Assignment, Conditional, Params, Short, SimpleTarget, Target, ArrayTarget, ObjectTarget}
 use Rattle.js_grammar.specs.Productions.{sym as symbol}
 use Rattle.js_grammar.specs.Table.{rule, rule_of, args}
 use Rattle.js_grammar.proofs.Behind.{lexed_behind}
@@ -53,9 +53,10 @@ use Rattle.js_parsing.proofs.Verdicts.{grown_then}
 use Rattle.js_operands.proofs.Operands.{name_signless}
 use Rattle.js_targets.proofs.ArraysBeforeSigns.{array_part, is_cover}
 use Rattle.js_targets.proofs.Assigned.{arrow_passes, assign_part, assign_slots, no_branch, no_yield, only_arrow, to_choice}
-use Rattle.js_expressions.specs.Arrows.{AsyncHead, list_head, name_head, AsyncHeadBegins, AsyncPassed, AttemptsHead, BeforeArrow, led_head, told_led, BehindWord, FindsAnyHead, FindsAsyncHead, FindsHead, Head, HeadBehindAsync, read_clean, read_unclean, IsHeadBefore, IsPlainHead, NoAsyncHere, NoLed, NoLine, OnlyLed, PlainHead, a_head, told_head, SearchesHead, SearchesPlainHead, ToldHead, Unmoved, WentOn, lead_of, line_of}
+use Rattle.js_expressions.specs.Arrows.{AsyncHead, list_head, name_head, AsyncHeadBegins, AsyncPassed, AttemptsHead, BeforeArrow, led_head, told_led, BehindWord, FindsAnyHead, FindsAsyncHead, FindsHead, Head, HeadBehindAsync, read_clean, read_unclean, IsHeadBefore, IsHeadOf, NoAsyncHere, NoLed, NoLine, OnlyLed, PlainHead, a_head, told_head, SearchesHead, SearchesPlainHead, ToldHead, Unmoved, WentOn, lead_of, line_of}
 use Rattle.js_expressions.specs.declared.arrow.ArrowHead.{ArrowHead}
 use Rattle.js_expressions.specs.HeadOperands.{NoTargetPart}
+use Rattle.js_expressions.specs.Lists.{NoParameters, parameters_of}
 use Rattle.js_expressions.proofs.Arrows.{from_unmoved, given_behind, head_one, no_arrow, no_arrow_behind, no_async_here, no_head_no_line, no_plain_led, plain_head_flags, unmoved, unmoved_went_on, went_back}
 use Rattle.js_expressions.proofs.CalledFronts.{Front, word_alone, with_arguments, word_front}
 use Rattle.js_lex.specs.Reading.{Tells, is_right_angle}
@@ -387,6 +388,11 @@ led_unless {text} {f} {p} a k n = record { no = λ ts vs j ls rest l d e. go ts 
         let y : Lex text x.to (here mid) = here_at (Lex text) mid l.1 in
         n (here mid) (subst (λ (v : ℕ). Lex text v (here mid)) (the_word a k x l.0).1 y) (is_off (here mid).newline w) (head_one h).2
 
+-- parameters begin with a parenthesis
+params_first : (g : Flags) {ts us : Slots} {i j : ℕ} {ls rest : Lexemes} → Takes rule (symbol Params g) end ts i ls us j rest → IsTrue (seen (is LParen) (here ls))
+unfolding rule rule_of
+params_first g (is_such (is_node (is_seq (is_lexeme q) d)) h) = q
+
 module _ {text : List ℕ} {f : Flags} {p : Parser} {t : Token} (a : At text f p) (h : Peeks p t) where
   -- what begins a head is told whole
   head_told : (y : Lexeme) → Lex text p.token.span.end y → IsTrue (seen begins_head y) → Tells y t
@@ -409,6 +415,17 @@ module _ {text : List ℕ} {f : Flags} {p : Parser} {t : Token} (a : At text f p
 
   async_other : p.token.kind ≡ Async → one_of_kinds (LParen ∷ name_kinds) t.kind ≡ false → NoLed true text f p.prev_token_end
   async_other k q = led_unless a k (λ y l n b. false≢true (sym q ∙ (ap (one_of_kinds (LParen ∷ name_kinds)) (head_told y l b).kind ∙ covered (λ k w e. begins_head k w e && one_of_kinds read_kinds k) a_first begins_first y.kind y.newline y.escaped (and_from _ _ b (and_parts (one_of_kinds read_kinds y.kind) _ l.1).0))))
+
+  -- no parenthesis stands behind the word
+  pub list_other : p.token.kind ≡ Async → (t.kind ≡ LParen → ⊥) → NoParameters true text f p.prev_token_end
+  list_other k q = record { no = λ ts vs j ls rest l d e. go ts vs j ls rest l d }
+    where
+      go : (ts vs : Slots) (j : ℕ) (ls rest : Lexemes) → Lexes (Lex text) p.prev_token_end ls → Takes rule (parameters_of true f) end ts p.prev_token_end ls vs j rest → ⊥
+      go ts vs j ls rest l (is_seq (is_seq (is_lexeme {x = x} {ls = mid} c) (is_look w)) (is_seq d z)) =
+          let i : LParen ≡ (here mid).kind = kind_of_same LParen (here mid).kind (and_parts (same_kind LParen (here mid).kind) _ (params_first (arrow_head true f) d)).0 in
+          let y : Lex text p.token.span.end (here mid) = subst (λ (v : ℕ). Lex text v (here mid)) (the_word a k x l.0).1 (here_at (Lex text) mid l.1) in
+          let b : IsTrue (seen begins_head (here mid)) = covered a_first begins_head firsts_begin (here mid).kind (here mid).newline (here mid).escaped (ap (one_of_kinds (LParen ∷ name_kinds)) (sym i)) in
+          q ((head_told (here mid) y b).kind ∙ sym i)
 
   async_follows : t.is_on_new_line ≡ false → one_of_kinds (LParen ∷ name_kinds) t.kind ≡ true → BehindWord text p.token.span.end
   async_follows w q y l =
@@ -476,11 +493,11 @@ module _ {p r : Parser} (a : Standing p) (u : Unmoved p r) (n : NoAsyncHere p) w
   plain_before {text} {f} {q} {id} b (a_head h y v) = led_head p refl (subst (λ (g : Flags). Head text f g p q id) (sym (plain_head_flags f)) h) (record { arrow = only_arrow f (is_cover b) y (conditional_none f v) v; other = n text f b })
   plain_before b (told_head t v) = told_led t v
 
-  plain_any : (q : Parser) (found : Option NodeId) (res : Option ArrowHead) → FindsHead p q found → IsPlainHead found res → FindsAnyHead p q res
+  plain_any : (q : Parser) (found : Option NodeId) (res : Option ArrowHead) → FindsHead p q found → IsHeadOf false found res → FindsAnyHead p q res
   plain_any q (Some id) res y e = subst (FindsAnyHead p q) (sym e) (y.0, (λ text f b. plain_before b (y.1 text f b)), λ text f b i. from_none i b (y.2 text f b))
   plain_any q None res y e = subst (FindsAnyHead p q) (sym e) (y.0, λ text f b. no_arrow f (no_plain_led f (y.1 text f b)) (n text f b))
 
-  pub plain_found : (q : Parser) (found : Option NodeId) (res : Option ArrowHead) → FindsHead r q found → IsPlainHead found res → FindsAnyHead p q res
+  pub plain_found : (q : Parser) (found : Option NodeId) (res : Option ArrowHead) → FindsHead r q found → IsHeadOf false found res → FindsAnyHead p q res
   plain_found q found res x e = plain_any q found res (found_there u q found x) e
 
   pub plain_stops : (q : Parser) (e : Stop) → SearchesPlainHead r q (Err e) → SearchesHead p q (Err e)

@@ -54,6 +54,9 @@ made_no_target {l} a b m = λ lo hi k cs h.
     let e : k ≡ l = held_label h.stands ∙ (ap label (made_node m.made) ∙ m.label_is) in
     (subst (λ (v : Label). is_literal v.kind ≡ false) (sym e) a, subst (λ (v : Label). target_of v cs ≡ None) (sym e) (b cs))
 
+pub made_kind : {l : Label} {ids : List (Option NodeId)} {p q : Parser} {id : NodeId} → MadeHere l ids p q id → kind_of (node_at q.nodes id).kind ≡ l.kind
+made_kind m = ap (λ (v : Label). v.kind) (ap label (made_node m.made) ∙ m.label_is)
+
 -- ---- parentheses before `=>`
 
 -- the arrow binds tighter than what may stand behind parentheses

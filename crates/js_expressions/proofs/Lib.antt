@@ -13,6 +13,7 @@ pub mod FreeOfAwait
 pub mod HeadContexts
 pub mod HeadOperands
 pub mod HeadsAsArguments
+pub mod Lists
 pub mod Lookaheads
 pub mod NotedHeads
 pub mod OnePlace

@@ -41,9 +41,9 @@ use Rattle.js_expressions.specs.HeadOperands.{NoTargetSeen}
 abbrev pub head_of : Flags → G
 head_of f = mk formal_parameters (mk formal_parameter (sym BindingIdentifier f ▸ empty_slot)) ◇ sym Params f
 
--- such a head with `=>` behind it on its line
+-- such a head with `=>` behind it, on its line or on another
 abbrev pub line_of : Flags → G
-line_of f = head_of f ▸ no_newline ▸ tok Arrow
+line_of f = head_of f ▸ tok Arrow
 
 -- the word before it, on its line
 abbrev pub lead_of : Bool → G
@@ -217,10 +217,10 @@ abbrev pub SearchesHead : Parser → Parser → Result (Option ArrowHead) Stop �
 SearchesHead p q (Ok found) = FindsAnyHead p q found
 SearchesHead p q (Err e) = NoAssignment p q e × (e ≡ Fatal → NoOperandHere p)
 
--- these parameters as a head without `async`
-abbrev pub IsPlainHead : Option NodeId → Option ArrowHead → Type 0
-IsPlainHead (Some id) r = r ≡ Some (record { is_async = false; parameters = id })
-IsPlainHead None r = r ≡ None
+-- these parameters as a head, behind `async` or not
+abbrev pub IsHeadOf : Bool → Option NodeId → Option ArrowHead → Type 0
+IsHeadOf a (Some id) r = r ≡ Some (record { is_async = a; parameters = id })
+IsHeadOf a None r = r ≡ None
 
 -- a head was read, or nothing is derived here
 abbrev pub ReadsHead : Parser → Parser → Result NodeId Stop → Type 0

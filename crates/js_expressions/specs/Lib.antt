@@ -3,6 +3,7 @@ pub mod Closings
 pub mod Coalescing
 pub mod Exponents
 pub mod HeadOperands
+pub mod Lists
 pub mod Lookaheads
 pub mod Rests
 pub mod Yields

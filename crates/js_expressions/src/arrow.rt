@@ -3,11 +3,15 @@
 ghost use Rattle.std.specs.Prelude.{true, false, ◌≡◌, ◌≤◌, ◌+◌, [], ◌∷◌, Some, length, MatchResult, IfOk, IsCharBoundary};
 ghost use Rattle.js_base.specs.declared.kind.Kind.TheVariants.{Arrow, LParen};
 ghost use Rattle.js_cursor.specs.Moves.{OnlyMemory};
+ghost use Rattle.js_grammar.specs.Trees.{arrow_function_expression};
 ghost use Rattle.js_grammar.specs.Productions.{at, Params};
 ghost use Rattle.js_parsing.specs.Answers.{Answers};
-ghost use Rattle.js_expressions.specs.Arrows.{ArgumentsTold, ArrowBehind, AsyncHeadBegins, AttemptsHead, ChecksLine, EntersHead, FindsAsyncHead, FindsHead, HeadBehindAsync, HeadStands, IsPlainHead, LooksForHead, NamesHead, NoHeadHere, NoOperandHere, OperandExcluded, ReadsArrowBody, ReadsBody, ReadsHead, SearchesHead, SearchesPlainHead, Single, SlashFound, TriesHead, TriesParameters, Unmoved, arrow_label};
+ghost use Rattle.js_expressions.specs.Arrows.{ArgumentsTold, ArrowBehind, AsyncHeadBegins, AttemptsHead, ChecksLine, EntersHead, FindsAsyncHead, FindsHead, HeadBehindAsync, HeadStands, IsHeadOf, LooksForHead, NamesHead, NoHeadHere, NoOperandHere, OperandExcluded, ReadsArrowBody, ReadsBody, ReadsHead, SearchesHead, SearchesPlainHead, Single, SlashFound, TriesHead, TriesParameters, Unmoved, arrow_label};
 ghost use Rattle.js_expressions.specs.HeadOperands.{IsNoTarget};
+ghost use Rattle.js_expressions.specs.Lists.{AsyncListBegins, SearchesList, TriesArrow};
 ghost use Rattle.js_base.specs.Kinds.{one_of_kinds};
+ghost use Rattle.js_tree.specs.Labels.{kind_of};
+ghost use Rattle.js_tree.specs.Nodes.{node_at};
 ghost use Rattle.js_parsing.specs.Lexemes.{name_kinds};
 ghost use Rattle.js_parsing.specs.Moves.{MadeHere};
 ghost use Rattle.js_parsing.specs.Nesting.{CanNest, room};
@@ -59,22 +63,73 @@ pub(crate) fn parse_arrow_head<C: ParserConfig, N: Nested<C>>(
         }));
     }
     let found = parse_plain_head(p, nested)?;
-    Ok(plain_head(found))
+    Ok(head_of(found, false))
 }
 
-/// These parameters as a head without `async`.
-fn plain_head(found: Option<NodeId>) -> Option<ArrowHead>
-    ensures { IsPlainHead found result }
+/// These parameters as a head, behind `async` or not.
+fn head_of(found: Option<NodeId>, is_async: bool) -> Option<ArrowHead>
+    ensures { IsHeadOf is_async found result }
 {
     match found {
         Some(parameters) => {
             Some(ArrowHead {
-                is_async: false,
+                is_async,
                 parameters,
             })
         }
         None => None,
     }
+}
+
+/// An arrow function whose parameters stand in parentheses, behind `async` on their line or not (ECMA-262, sections 15.3
+/// and 15.9). None where no such parameters stand here with `=>` behind them, on their line or on another; the parser is
+/// then where it was. `Fatal` where none stands here and nothing else can.
+pub fn try_parse_parenthesized_arrow_function_expression<C: ParserConfig, N: Nested<C>>(
+    p: &mut ParserImpl<'_, C>,
+    nested: &N,
+) -> Result<Option<NodeId>, Stop>
+    requires at { Standing p.old }
+    requires nests { CanNest (N.can nested.now) (room p.old) }
+    ensures { TriesArrow p.old p.new result }
+{
+    let start = p.cur_start();
+    let Some(head) = parse_list_head(p, nested)? else {
+        return Ok(None);
+    };
+    let node = parse_arrow_function_expression(p, nested, start, head)?;
+    Ok(Some(node))
+}
+
+/// The head of an arrow function whose parameters stand in parentheses.
+fn parse_list_head<C: ParserConfig, N: Nested<C>>(
+    p: &mut ParserImpl<'_, C>,
+    nested: &N,
+) -> Result<Option<ArrowHead>, Stop>
+    requires at { Standing p.old }
+    requires nests { CanNest (N.can nested.now) (room p.old) }
+    ensures { SearchesList p.old p.new result }
+{
+    if stands(p, Kind::LParen) {
+        let found = parse_head_at_parenthesis(p, nested)?;
+        return Ok(head_of(found, false));
+    }
+    if !begins_async_list(p)? {
+        return Ok(None);
+    }
+    let found = parse_async_head(p, nested)?;
+    Ok(head_of(found, true))
+}
+
+/// Whether `async` stands here, and `(` behind it.
+fn begins_async_list<C: ParserConfig>(p: &mut ParserImpl<'_, C>) -> Result<bool, Stop>
+    requires { Standing p.old }
+    ensures { MatchResult result (λ found. AsyncListBegins p.old p.new found) OnlyMemory }
+{
+    if !stands(p, Kind::Async) {
+        return Ok(false);
+    }
+    let next = p.peek_token()?;
+    Ok(matches!(next.kind(), Kind::LParen))
 }
 
 /// The parameters of an arrow function without `async`, where they stand here with `=>` behind them.
@@ -487,6 +542,7 @@ pub(crate) fn parse_arrow_function_expression<C: ParserConfig, N: Nested<C>>(
     requires arrow { p.old.token.kind ≡ Arrow }
     ensures answers { ReadsBody start head p.old p.new result }
     ensures node { IfOk result (λ id. IsNoTarget p.new id) }
+    ensures kind { IfOk result (λ id. kind_of (node_at p.new.nodes id).kind ≡ arrow_function_expression) }
 {
     check_line(p)?;
     advance(p)?;

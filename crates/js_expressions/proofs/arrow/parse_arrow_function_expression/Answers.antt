@@ -1,4 +1,4 @@
-use Rattle.js_expressions.proofs.HeadOperands.{made_no_target}
+use Rattle.js_expressions.proofs.HeadOperands.{made_kind, made_no_target}
 use Rattle.std.proofs.Common.{arith, refl, ap, ◌∙◌}
 use Rattle.std.proofs.lemmas.Result.{err_from_is_err_and}
 use Rattle.js_base.specs.declared.kind.Kind.TheVariants.{Arrow}
@@ -46,3 +46,6 @@ returns-clause-answers g c = λ text f o a e h.
 
 pub returns-clause-node : goal.returns-clause-node
 returns-clause-node g c = made_no_target refl (λ cs. refl) c.in_ok-node.ensures
+
+pub returns-clause-kind : goal.returns-clause-kind
+returns-clause-kind g c = made_kind c.in_ok-node.ensures

@@ -25,4 +25,4 @@ returns-in_err-found g c =
 pub returns : goal.returns
 returns g c =
     let n = none_async c.args.p.now c.parse_async_head.new.p _ c.in_default.is c.in_ok-parameters.ensures in
-    plain_found c.requires.at n.0 n.1 _ _ _ c.in_ok-found.ensures c.plain_head.ensures
+    plain_found c.requires.at n.0 n.1 _ _ _ c.in_ok-found.ensures c.head_of.ensures
