@@ -7,5 +7,5 @@ pub use parse::{
     Parser, parse_assignment_expression_or_higher, parse_binary_expression_or_higher,
     parse_binding_pattern, parse_expr, parse_formal_parameters, parse_function_body,
     parse_lhs_expression_or_higher, parse_property_name, parse_statement_list_item,
-    parse_statements,
+    parse_statements, try_parse_parenthesized_arrow_function_expression,
 };

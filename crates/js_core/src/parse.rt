@@ -5,6 +5,7 @@ ghost use Rattle.js_base.specs.Contexts.{has_flag, in_flag};
 ghost use Rattle.js_base.specs.Places.{is_single};
 ghost use Rattle.js_core.specs.Calls.{above};
 ghost use Rattle.js_grammar.specs.Productions.{at, Assignment, Binding, Body, Exponent, Expression, LeftHandSide, Params};
+ghost use Rattle.js_expressions.specs.Lists.{TriesArrow};
 ghost use Rattle.js_operands.specs.PropertyNames.{NamesProperty};
 ghost use Rattle.js_parsing.specs.Answers.{Answers};
 ghost use Rattle.js_parsing.specs.Methods.{ReadsWhole, parameters_of};
@@ -16,6 +17,7 @@ ghost use Rattle.js_parsing.specs.States.{Standing};
 
 use js_base::{Kind, Precedence, StatementContext};
 use js_cursor::{ParserImpl, Stop};
+use js_expressions::arrow;
 use js_expressions::assignment::parse_assignment_expression;
 use js_expressions::operators::{self, parse_exponentiation_expression, parse_operators};
 use js_expressions::sequence::parse_sequence_expression;
@@ -156,6 +158,18 @@ pub fn parse_binding_pattern(p: &mut Parser<'_>) -> Result<NodeId, Stop>
     ensures { Answers (at Binding) p.old p.new result }
 {
     parse(p, Goal::Binding)
+}
+
+/// An arrow function whose parameters stand in parentheses, behind `async` on their line or not (ECMA-262, sections 15.3
+/// and 15.9). None where no such parameters stand here with `=>` behind them, on their line or on another; the parser is
+/// then where it was. `Fatal` where no AssignmentExpression stands here.
+pub fn try_parse_parenthesized_arrow_function_expression(
+    p: &mut Parser<'_>,
+) -> Result<Option<NodeId>, Stop>
+    requires { Standing p.old }
+    ensures { TriesArrow p.old p.new result }
+{
+    arrow::try_parse_parenthesized_arrow_function_expression(p, &By(parse))
 }
 
 /// FormalParameters in their parentheses (ECMA-262, section 15.1).

@@ -6,14 +6,14 @@ use Rattle.js_base.specs.Texts.{words}
 use Rattle.js_base.specs.declared.token.Token.{Token}
 use Rattle.js_grammar.specs.Lexemes.{is_word}
 use Rattle.js_grammar.specs.Trees.{Slots, end}
-use Rattle.js_grammar.specs.Grammar.{Lexemes, Takes, is_right, is_seq, nothing, ◌▸◌}
+use Rattle.js_grammar.specs.Grammar.{Lexemes, Takes, alt, is_right, is_seq, nothing, ◌▸◌}
 use Rattle.js_grammar.specs.Lexed.{Lexes}
 use Rattle.js_grammar.specs.Parsing.{Fails, full, plain}
-use Rattle.js_grammar.specs.Productions.{Flags, tok, Params}
+use Rattle.js_grammar.specs.Productions.{G, Flags, at, tok, LooseHead, Params}
 use Rattle.js_grammar.specs.Productions.{sym as symbol}
-use Rattle.js_grammar.specs.Table.{rule}
+use Rattle.js_grammar.specs.Table.{rule, rule_of}
 use Rattle.js_base.specs.declared.kind.Kind.TheVariants.{Arrow}
-use Rattle.js_grammar.proofs.Calculus.{done, ◌▹✗◌}
+use Rattle.js_grammar.proofs.Calculus.{done, fails_alt, ◌▹✗◌}
 use Rattle.js_grammar.proofs.Looks.{apart, covers}
 use Rattle.js_tree.specs.declared.id.NodeId.{NodeId}
 use Rattle.js_cursor.specs.Moves.{Peeks}
@@ -41,6 +41,14 @@ unled {text} f {s} a n = record { no = λ ts vs j ls rest l d e. go ts vs j ls r
     go : (ts vs : Slots) (j : ℕ) (ls rest : Lexemes) → Lexes (Lex text) s ls → Takes rule (parameters_of a f) end ts s ls vs j rest → ⊥
     go ts vs j ls rest l (is_seq w (is_seq d q)) = n.no ts vs j ls rest l (is_seq w (is_seq (is_right d) q)) (refl, refl)
 
+-- the production of both
+loose_head : (f : Flags) → rule (at LooseHead f) ≡ alt (parameters_of false f) (parameters_of true f)
+unfolding rule rule_of
+loose_head f = refl
+
+neither_list : {text : List ℕ} (f : Flags) {s : ℕ} → NoParameters false text f s → NoParameters true text f s → Fails rule (Lex text) (plain full) end (rule (at LooseHead f)) s
+neither_list {text} f {s} n m = subst (λ (g : G). Fails rule (Lex text) (plain full) end g s) (sym (loose_head f)) (fails_alt n m)
+
 -- nor where no parenthesis stands
 no_list : {text : List ℕ} {f : Flags} {p : Parser} → At text f p → (p.token.kind ≡ LParen → ⊥) → NoParameters false text f p.prev_token_end
 unfolding covers apart
@@ -53,17 +61,17 @@ unopened a n k = n k (plain_sign LParen a k refl refl open_plain)
 
 pub list_found : {p : Parser} → Standing p → p.token.kind ≡ LParen → (q : Parser) (found : Option NodeId) (res : Option ArrowHead) → FindsHead p q found → IsHeadOf false found res → FindsList p q res
 list_found {p} a k q (Some id) res x e = subst (FindsList p q) (sym e) (subst (FindsAnyHead p q) e (plain_found a (unmoved refl) (λ text f b. no_async_here b (ap (one_of_kinds (Async ∷ [])) k)) q (Some id) res x e))
-list_found {p} a k q None res x e = subst (FindsList p q) (sym e) (x.0, λ text f b. (unled f false (no_plain_led f (x.1 text f b)), unled f true (no_async_here b (ap (one_of_kinds (Async ∷ [])) k))))
+list_found {p} a k q None res x e = subst (FindsList p q) (sym e) (x.0, λ text f b. neither_list f (unled f false (no_plain_led f (x.1 text f b))) (unled f true (no_async_here b (ap (one_of_kinds (Async ∷ [])) k))))
 
 pub async_list_found : {p o : Parser} → AsyncListBegins p o true → (q : Parser) (found : Option NodeId) (res : Option ArrowHead) → FindsAsyncHead o q found → IsHeadOf true found res → FindsList p q res
 async_list_found {p} {o} b q found res x e = by found (subst (λ (z : Parser). FindsAsyncHead z q found) b.0 x) e
   where
     by : (found : Option NodeId) → FindsAsyncHead p q found → IsHeadOf true found res → FindsList p q res
     by (Some id) x e = subst (FindsList p q) (sym e) x
-    by None x e = subst (FindsList p q) (sym e) (x.0, λ text f c. (no_list c (λ k. let z : Async ≡ LParen = sym b.1.0 ∙ k in absurd (cc)), unled f true (x.1 text f c)))
+    by None x e = subst (FindsList p q) (sym e) (x.0, λ text f c. neither_list f (no_list c (λ k. let z : Async ≡ LParen = sym b.1.0 ∙ k in absurd (cc))) (unled f true (x.1 text f c)))
 
 pub none_listed : {p q : Parser} → StandsHere p LParen false → AsyncListBegins p q false → FindsList p q None
-none_listed n b = (unmoved b.0, λ text f a. (no_list a (unopened a n), b.1 text f a))
+none_listed n b = (unmoved b.0, λ text f a. neither_list f (no_list a (unopened a n)) (b.1 text f a))
 
 -- ---- whether `async` stands before a parenthesis
 

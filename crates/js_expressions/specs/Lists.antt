@@ -4,7 +4,7 @@ use Rattle.js_base.specs.declared.kind.Kind.TheVariants.{Arrow, Async}
 use Rattle.js_grammar.specs.Trees.{end as no_slots, arrow_function_expression}
 use Rattle.js_grammar.specs.Grammar.{◌▸◌}
 use Rattle.js_grammar.specs.Parsing.{plain, full, Fails}
-use Rattle.js_grammar.specs.Productions.{G, Flags, at, sym, tok, Assignment, Params}
+use Rattle.js_grammar.specs.Productions.{G, Flags, at, sym, tok, Assignment, LooseHead, Params}
 use Rattle.js_grammar.specs.Table.{rule}
 use Rattle.js_tree.specs.declared.id.NodeId.{NodeId}
 use Rattle.js_tree.specs.Labels.{kind_of}
@@ -26,9 +26,9 @@ parameters_of a f = lead_of a ▸ sym Params (arrow_head a f) ▸ tok Arrow
 abbrev pub NoParameters : Bool → List ℕ → Flags → ℕ → Type 0
 NoParameters a text f s = Fails rule (Lex text) (plain full) no_slots (parameters_of a f) s
 
--- none of either are derived from here; the parameters in force may be the wider ones too
+-- Neither are derived from here, under the parameters in force and in the wider form.
 abbrev pub NoListHere : Parser → Type 0
-NoListHere p = (text : List ℕ) (f : Flags) → At text f p → NoParameters false text f p.prev_token_end × NoParameters true text f p.prev_token_end
+NoListHere p = (text : List ℕ) (f : Flags) → At text f p → Fails rule (Lex text) (plain full) no_slots (rule (at LooseHead f)) p.prev_token_end
 
 -- whether `async` stands here, and `(` behind it; if not, none are derived from here where no parenthesis stands
 abbrev pub AsyncListBegins : Parser → Parser → Bool → Type 0
