@@ -80,7 +80,7 @@ use Rattle.js_cursor.specs.Tokens.{may_be_read_again}
 use Rattle.js_parsing.proofs.KeptTokens.{before_back, last_back}
 use Rattle.js_parsing.specs.Lexemes.{Lex, escaped_word, name_kinds, other_goals, signs, spot, slashes, Plain, may_name, Walked}
 use Rattle.js_parsing.specs.Moves.{Moved, MadeHere, LeafTaken, TakesLeaf, plain_label}
-use Rattle.js_parsing.specs.States.{At, Same, Standing, flags_of, IsPlain, whole, sign, nothing as nothing_here, NodesLie, SpansLie}
+use Rattle.js_parsing.specs.States.{At, Same, Standing, IsPlain, whole, sign, nothing as nothing_here, NodesLie, SpansLie}
 use Rattle.js_targets.proofs.ArraysBeforeSigns.{is_cover}
 use Rattle.js_targets.proofs.Assigned.{arrow_passes, no_yield, only_arrow}
 use Rattle.js_targets.specs.Others.{NoYield}
@@ -89,7 +89,6 @@ use Rattle.js_expressions.specs.Yields.{BeginsYield}
 use Rattle.js_expressions.proofs.Assignments.{by_second, second}
 use Rattle.js_expressions.proofs.Conditionals.{conditional_none}
 use Rattle.js_parsing.proofs.Signs.{other_kind, plain_sign}
-use Rattle.js_expressions.proofs.Exponents.{longer}
 use Rattle.js_parsing.proofs.Told.{beside_errors}
 use Rattle.js_parsing.proofs.Unbuilt.{nothing_unbuilt}
 use Rattle.js_parsing.proofs.ToEnd.{to_end_stays}

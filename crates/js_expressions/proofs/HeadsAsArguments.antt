@@ -2,10 +2,10 @@
 use Rattle.std.proofs.Common.{ℕ, zero, suc, ◌<◌, arith, ◌≡◌, Bool, true, false, IsTrue, refl, sym, ◌∙◌}
 use Rattle.std.proofs.lemmas.Bool.{false≢true}
 use Rattle.js_base.specs.declared.kind.Kind.TheVariants.{LBrack, RBrack, LCurly, RCurly, Comma, Colon, Dot3, Eq}
-use Rattle.js_grammar.specs.Trees.{Label, Slots, end, hole, tree, binding_rest_element}
+use Rattle.js_grammar.specs.Trees.{Label, Slots, end, hole, tree}
 use Rattle.js_grammar.specs.Grammar.{Lexeme, Lexemes, next, seen, is, nothing, never, empty_slot, many, commas, such, ◌▸◌, ◌◇◌, Takes, is_nothing, is_lexeme, is_ahead, is_empty_slot, is_seq, is_left, is_right, is_when, is_many, is_commas, is_such, is_node}
 use Rattle.js_grammar.specs.Parsing.{always}
-use Rattle.js_grammar.specs.Productions.{G, Flags, at, mk, opt, tok, plus_in, Params, Param, Rest, Init, Assignment, Argument, LeftHandSide, IdentifierReference, BindingIdentifier, SimpleTarget, Target, ArrayTarget, ObjectTarget, TargetElement, TargetProperty, Binding, BElement, Pattern, PatternProperty, BindingRest}
+use Rattle.js_grammar.specs.Productions.{G, Flags, at, opt, tok, plus_in, Params, Param, Rest, Init, Assignment, Argument, LeftHandSide, IdentifierReference, BindingIdentifier, SimpleTarget, Target, ArrayTarget, ObjectTarget, TargetElement, TargetProperty, Binding, BElement, Pattern, PatternProperty, BindingRest}
 use Rattle.js_grammar.specs.Productions.{sym as symbol}
 use Rattle.js_grammar.specs.Table.{rule, rule_of, name, args, bound_rest, rest_of}
 use Rattle.js_grammar.proofs.Frame.{framed}

@@ -23,12 +23,11 @@ use Rattle.js_parsing.specs.Stands.{StandsHere}
 use Rattle.js_parsing.specs.States.{At, Standing}
 use Rattle.js_parsing.proofs.Paths.{fails_at}
 use Rattle.js_parsing.proofs.Signs.{other_kind, plain_sign}
-use Rattle.js_expressions.specs.Arrows.{FindsAnyHead, FindsAsyncHead, FindsHead, IsHeadOf, NoAsyncHere, NoLed, lead_of, line_of}
+use Rattle.js_expressions.specs.Arrows.{FindsAnyHead, FindsAsyncHead, FindsHead, IsHeadOf, NoLed}
 use Rattle.js_expressions.specs.Lists.{AsyncListBegins, FindsList, NoParameters, parameters_of}
 use Rattle.js_expressions.specs.declared.arrow.ArrowHead.{ArrowHead}
 use Rattle.js_expressions.proofs.Arrows.{no_async_here, no_plain_led, plain_head_flags, unmoved}
 use Rattle.js_expressions.proofs.AsyncHeads.{list_other, no_async_word, plain_found}
-use Rattle.js_parsing.specs.Contexts.{arrow_head}
 
 open_plain : (is_word LParen || same_kind PrivateIdentifier LParen) ≡ false
 unfolding words

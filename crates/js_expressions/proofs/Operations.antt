@@ -10,7 +10,7 @@ use Rattle.js_grammar.specs.Trees.{Label, Slots, end, tree}
 use Rattle.js_grammar.specs.Grammar.{Lexeme, Lexemes, next, seen, seq, such, nothing}
 use Rattle.js_grammar.specs.Insertion.{Row, edge_is_last}
 use Rattle.js_grammar.specs.Parsing.{Test, Goes, always, passing}
-use Rattle.js_grammar.specs.Productions.{G, Flags, Symbol, at, tok, Exponent}
+use Rattle.js_grammar.specs.Productions.{G, Flags, at, tok, Exponent}
 use Rattle.js_grammar.specs.Table.{rule}
 use Rattle.js_grammar.specs.Levels.{level_at, node_at, operators_at, operators_of}
 use Rattle.js_grammar.specs.Follow.{row_of, tight, looser, after}
@@ -27,14 +27,12 @@ use Rattle.js_tree.specs.Nodes.{Node}
 use Rattle.js_tree.specs.Holding.{Holds, Keeps}
 use Rattle.js_tree.proofs.HoldingLemmas.{Keeps-trans, Keeps-made}
 use Rattle.js_cursor.specs.Moves.{is_last}
-use Rattle.js_cursor.specs.declared.stop.Stop.{Stop}
 use Rattle.js_cursor.specs.Parsers.{Parser}
-use Rattle.std.specs.Prelude.{Result}
 use Rattle.js_parsing.specs.Lexemes.{Lex, Plain, other_goals, Walked, spot, read_kinds}
-use Rattle.js_parsing.specs.States.{At, Same, flags_of}
+use Rattle.js_parsing.specs.States.{At, Same}
 use Rattle.js_parsing.specs.Moves.{Moved, Tightness, MadeHere, operation_label}
 use Rattle.js_parsing.specs.Operators.{power_of}
-use Rattle.js_parsing.specs.Answers.{Grown, Verdict, Stretch, Underived, Numbered, Outcome, beside}
+use Rattle.js_parsing.specs.Answers.{Grown, Verdict, Stretch, Underived, Numbered, beside}
 use Rattle.js_parsing.proofs.Here.{told_plain, begins_here, found, plain_token, slash_here}
 use Rattle.js_parsing.proofs.Paths.{skips, read_of, walked_both, walked_one, walked_to, walked_from}
 use Rattle.js_parsing.proofs.Escapes.{no_name_where, read_plain, read_unnamed}

@@ -2,17 +2,17 @@
 use Rattle.std.proofs.Common.{ℕ, ◌≡◌, ◌<◌, inl, inr, List, length, Bool, true, false, not, IsTrue, Option, Some, None, refl, sym, ap, subst, arith, ◌∙◌}
 use Rattle.std.specs.Prelude.{IfOk, IsCharBoundary, IsUtf8, MatchResult, Result, Ok, Err}
 use Rattle.std.proofs.Math.Dec.{eqb}
-use Rattle.std.proofs.lemmas.Bool.{and_parts, eqb-true, false≢true}
+use Rattle.std.proofs.lemmas.Bool.{eqb-true, false≢true}
 use Rattle.js_base.specs.Contexts.{bits_of}
 use Rattle.js_base.specs.Kinds.{same_kind}
 use Rattle.js_base.specs.declared.diagnostic.Diagnostic.{Diagnostic}
 use Rattle.js_base.specs.declared.kind.Kind.TheVariants.{Arrow, LParen}
 use Rattle.js_base.proofs.KindLemmas.{kind_of_same}
 use Rattle.js_grammar.specs.Trees.{Slots, end, tree}
-use Rattle.js_grammar.specs.Grammar.{Lexemes, here, nothing, Takes, is_lexeme, is_seq, ◌▸◌}
+use Rattle.js_grammar.specs.Grammar.{Lexemes, here, nothing, Takes}
 use Rattle.js_grammar.specs.Lexed.{Lexes}
 use Rattle.js_grammar.specs.Parsing.{Fails, plain, full}
-use Rattle.js_grammar.specs.Productions.{Flags, at, tok, Assignment, Params, Short}
+use Rattle.js_grammar.specs.Productions.{Flags, at, Assignment, Params, Short}
 use Rattle.js_grammar.specs.Productions.{sym as symbol}
 use Rattle.js_grammar.specs.Table.{rule, args}
 use Rattle.js_grammar.proofs.Calculus.{ends, here_at}

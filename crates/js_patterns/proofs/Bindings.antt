@@ -8,10 +8,10 @@ use Rattle.js_base.specs.declared.span.Span.{Span}
 use Rattle.js_base.specs.Kinds.{same_kind, one_of_kinds}
 use Rattle.js_base.specs.Texts.{words}
 use Rattle.js_grammar.specs.Lexemes.{is_word}
-use Rattle.js_grammar.specs.Trees.{Slots, end, tree, Label, no_op, array_pattern, assignment_pattern, binding_identifier, binding_rest_element, formal_parameter_rest}
-use Rattle.js_grammar.specs.Grammar.{Look, here, alt, such, nothing, ◌▸◌}
-use Rattle.js_grammar.specs.Parsing.{Test, plain, full, always, behind, still, Goes, Fails}
-use Rattle.js_grammar.specs.Productions.{G, Flags, Symbol, at, tok, mk, plus_in, Assignment, BElement, Binding, BindingIdentifier, BindingRest, Pattern, Rest}
+use Rattle.js_grammar.specs.Trees.{Slots, end, tree, Label, no_op, array_pattern, assignment_pattern, binding_identifier, formal_parameter_rest}
+use Rattle.js_grammar.specs.Grammar.{Look, here, alt, nothing, ◌▸◌}
+use Rattle.js_grammar.specs.Parsing.{Test, plain, full, behind, still, Goes, Fails}
+use Rattle.js_grammar.specs.Productions.{G, Flags, at, tok, mk, plus_in, Assignment, BElement, Binding, BindingIdentifier, BindingRest, Pattern, Rest}
 use Rattle.js_grammar.specs.Productions.{sym as symbol}
 use Rattle.js_grammar.specs.Table.{bound_rest, rule, rule_of}
 use Rattle.js_grammar.specs.Follow.{after, surest}

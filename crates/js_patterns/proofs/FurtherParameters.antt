@@ -1,5 +1,5 @@
 -- What stands behind the one parameter of a setter (ECMA-262, 15.4), where a comma does: it is told, and nothing is derived.
-use Rattle.std.proofs.Common.{ℕ, ◌≡◌, ◌<◌, List, [], ◌∷◌, ◌++◌, length, Option, Some, false, IsCharBoundary, refl, sym, ap, subst, arith, ◌∙◌}
+use Rattle.std.proofs.Common.{ℕ, ◌≡◌, List, [], ◌∷◌, ◌++◌, length, Option, Some, false, IsCharBoundary, refl, sym, ap, subst, arith, ◌∙◌}
 use Rattle.js_base.specs.declared.diagnostic.Diagnostic.{Diagnostic}
 use Rattle.js_base.specs.declared.diagnostic.DiagnosticKind.TheVariants.{SetterWithParameters}
 use Rattle.js_base.specs.declared.kind.Kind.TheVariants.{Comma, RParen}

@@ -30,7 +30,7 @@ use Rattle.js_cursor.specs.Moves.{Expects, IsKind}
 use Rattle.js_cursor.specs.declared.stop.Stop.{Stop}
 use Rattle.js_operands.specs.PropertyNames.{NameRead, NoName}
 use Rattle.js_operands.proofs.Members.{name_taken}
-use Rattle.js_operands.proofs.Operands.{plain_leaf, name_signless}
+use Rattle.js_operands.proofs.Operands.{name_signless}
 use Rattle.js_operands.proofs.PropertyNames.{literal_kinds, word_named}
 use Rattle.js_parsing.specs.Answers.{Underived, Answer, Numbered, Stops}
 use Rattle.js_parsing.specs.Arguments.{behind_item, ItemTaken, NoItem}

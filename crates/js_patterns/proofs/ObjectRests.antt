@@ -1,5 +1,5 @@
 -- The rest of an object pattern (ECMA-262, 14.3.3): it binds a name.
-use Rattle.std.proofs.Common.{ℕ, ◌≡◌, ◌<◌, List, length, Bool, true, false, IsCharBoundary, refl, sym, ap, subst, arith, ◌∙◌}
+use Rattle.std.proofs.Common.{ℕ, ◌≡◌, ◌<◌, List, Bool, true, false, IsCharBoundary, refl, sym, ap, subst, arith, ◌∙◌}
 use Rattle.js_base.specs.declared.diagnostic.Diagnostic.{Diagnostic}
 use Rattle.js_base.specs.declared.diagnostic.DiagnosticKind.TheVariants.{InvalidBindingRestElement}
 use Rattle.js_base.specs.declared.kind.Kind.TheVariants.{Dot3}

@@ -1,5 +1,3 @@
-use Rattle.std.proofs.Common.{arith}
-use Rattle.std.proofs.lemmas.Result.{err_from_is_err_and}
 use Rattle.js_base.specs.declared.kind.Kind.TheVariants.{LParen}
 use Rattle.js_operands.proofs.Members.{stands_so}
 use Rattle.js_expressions.proofs.Lists.{async_list_found, begins_so, list_found, none_listed}

@@ -1,4 +1,4 @@
-use Rattle.std.proofs.Common.{sym, arith, subst, ℕ, ◌+◌, ◌-◌, ◌≤◌, Ok, true}
+use Rattle.std.proofs.Common.{sym, arith, subst, ℕ, ◌+◌, ◌-◌, ◌≤◌, true}
 use Rattle.std.proofs.lemmas.Result.{err_from_is_err_and}
 use Rattle.js_grammar.specs.Levels.{level_at}
 use Rattle.js_base.specs.declared.kind.Kind.{Kind}

@@ -1,4 +1,4 @@
-use Rattle.std.proofs.Common.{◌∙◌, ap, arith}
+use Rattle.std.proofs.Common.{◌∙◌, arith}
 use Rattle.std.proofs.lemmas.Result.{err_from_is_err_and}
 use Rattle.js_parsing.proofs.Moving.{stops_so}
 use Rattle.js_patterns.proofs.Accessors.{kept_so, parameters_marked}
