@@ -1,6 +1,6 @@
 -- What is derived as an array target is derived as an array literal too, over the same lexemes (ECMA-262, 13.15.5).
-use Rattle.std.proofs.Common.{ℕ, zero, suc, ◌+◌, ◌<◌, arith, ◌≡◌, Bool, true, false, not, ◌&&◌, ◌||◌, IsTrue, List, [], ◌∷◌, refl, sym, ◌∙◌}
-use Rattle.std.proofs.lemmas.Bool.{false≢true, and_parts}
+use Rattle.std.proofs.Common.{ℕ, zero, suc, ◌+◌, ◌<◌, arith, ◌≡◌, Bool, true, false, not, ◌&&◌, IsTrue, List, [], ◌∷◌, refl}
+use Rattle.std.proofs.lemmas.Bool.{and_parts}
 use Rattle.js_base.specs.declared.kind.Kind.{Kind}
 use Rattle.js_base.specs.declared.kind.Kind.TheVariants.{Await, Yield, Eq, Colon, Comma, Dot3, LBrack, RBrack, LCurly, RCurly}
 use Rattle.js_base.specs.Kinds.{same_kind}

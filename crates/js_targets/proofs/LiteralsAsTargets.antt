@@ -11,7 +11,7 @@ use Rattle.js_grammar.specs.Insertion.{assign_operators, other_operators}
 use Rattle.js_grammar.specs.Lexed.{Lexes}
 use Rattle.js_grammar.specs.LexicalFaults.{Reached}
 use Rattle.js_grammar.specs.Parsing.{always}
-use Rattle.js_grammar.specs.Productions.{G, branches, Flags, at, tok, mk, items, plus_in, flag, has_flag, computed_flag, shorthand_flag, Assignment, LeftHandSide, SimpleTarget, Target, ArrayTarget, ObjectTarget, TargetElement, TargetProperty}
+use Rattle.js_grammar.specs.Productions.{G, branches, Flags, at, tok, mk, items, plus_in, flag, has_flag, computed_flag, shorthand_flag, Assignment, LeftHandSide, SimpleTarget, Target, ArrayTarget, ObjectTarget, TargetElement, TargetProperty, Property}
 use Rattle.js_grammar.specs.Productions.{sym as symbol}
 use Rattle.js_grammar.specs.Table.{rule, rule_of, rest_of, name}
 use Rattle.js_grammar.proofs.Behind.{lexed_behind}
@@ -633,6 +633,17 @@ module _ (text : List ℕ) where
   pub led : (s : ℕ) (ls : Lexemes) → IsUtf8 text → Reached text s → IsCharBoundary text s → Lexes (Lex text) s ls → Lexes (Led text) s ls
   led s (last x) u r b l = (l, r, b)
   led s (next x ls) u r b l = ((l.0, r, b), led x.to ls u (reached_next r l.0.0) (lexeme_between u b l.0).1 l.1)
+
+  -- An element alone, and a property, as those of a target.
+  pub element_target : {f : Flags} {l : Label} {cs : Slots} (ds : Slots) {i j : ℕ} {ls rest : Lexemes} → Takes rule (rule (at Assignment (plus_in f))) end (tree l cs end) i ls end j rest → Lexes (Led text) i ls → element_before l cs (elements_in (within l.kind) cs) end ≡ Some ds → Taken text f (places_of false l cs (places_in (within l.kind) cs)) → Takes rule (symbol TargetElement f) end ds i ls end j rest
+  element_target {f} {cs = cs} ds d m e o = element_made ((one_of f (claim_of cs (converts cs)) d m e).takes o)
+
+  pub property_target : {f : Flags} {l : Label} {cs : Slots} (ds : Slots) {i j : ℕ} {ls rest : Lexemes} → is_spread l.kind ≡ false → Takes rule (rule (at Property f)) end (tree l cs end) i ls end j rest → Lexes (Led text) i ls → element_before l cs (elements_in (within l.kind) cs) end ≡ Some ds → Taken text f (places_of true l cs (places_in (within l.kind) cs)) → Takes rule (symbol TargetProperty f) end ds i ls end j rest
+  property_target {f} {l} {cs} ds n d m e o = go (property_part (property_of f d) m (converts cs)) n e o
+    where
+      go : {l : Label} {cs : Slots} {i j : ℕ} {ls rest : Lexemes} → Part true f l cs i ls j rest → is_spread l.kind ≡ false → element_before l cs (elements_in (within l.kind) cs) end ≡ Some ds → Taken text f (places_of true l cs (places_in (within l.kind) cs)) → Takes rule (symbol TargetProperty f) end ds i ls end j rest
+      go (an_item g) n e o = (g end ds e).takes o
+      go (a_rest q g) n e o = absurd (false≢true (sym n))
 
   -- A literal as a target.
   pub record Targeted (o : Bool) (f : Flags) (l : Label) (cs ds : Slots) (i : ℕ) (ls : Lexemes) (j : ℕ) (rest : Lexemes) : Type 0 where

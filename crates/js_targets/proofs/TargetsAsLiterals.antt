@@ -21,7 +21,7 @@ use Rattle.js_targets.specs.declared.widening.Widening.TheVariants.{Rest}
 use Rattle.js_targets.specs.Taken.{target_name}
 use Rattle.js_targets.specs.Targets.{Each, Closed, Shut, in_literal, within, is_literal, literal_kind, is_pattern, is_target, is_parens, target_in, target_of, relabelled, pattern_kind, before_all, before_value, followed, named_slot, elements_in, argument_places, places_of, places_in}
 use Rattle.js_targets.proofs.ArrayElements.{gap_label}
-use Rattle.js_targets.proofs.ArrayTargets.{target_step, target_last, literal_step, literal_items, with_operator, default_label, assigned_label, by_other, more_items, left_line, target_property, last_property, properties, bound_word, deep}
+use Rattle.js_targets.proofs.ArrayTargets.{target_step, target_last, literal_items, with_operator, default_label, assigned_label, by_other, more_items, left_line, target_property, last_property, properties, bound_word, deep}
 use Rattle.js_parsing.proofs.FreeOfIn.{any_in}
 use Rattle.js_targets.proofs.LiteralsAsTargets.{all_of, rest_before, literal_before, simple_before, element_before}
 use Rattle.js_targets.proofs.Properties.{property_label, named}
@@ -79,15 +79,15 @@ target_kind (tree l cs (tree m ds us)) t e = absurd (cc)
 -- a text, and whether targets are wide
 module _ (text : List ℕ) (wide : Bool) where
   -- An element of a literal (with o: a property), or what a symbol derives: as an element it is the first of these slots.
-  record Source (o : Bool) (n : Symbol) (ts us : Slots) (i : ℕ) (ls : Lexemes) (j : ℕ) (rest : Lexemes) : Type 0 where
-    label : Label
-    slots : Slots
-    target : Label
-    inside : Slots
-    is_tree : ts ≡ tree target inside us
-    derived : Takes rule (rule n) end (tree label slots end) i ls end j rest
-    covers : (vs : Slots) → element_before label slots (elements_in (within label.kind) slots) vs ≡ Some (tree target inside vs)
-    closed : wide ≡ false → Each (Shut text) (places_of o label slots (places_in (within label.kind) slots))
+  pub record Source (o : Bool) (n : Symbol) (ts us : Slots) (i : ℕ) (ls : Lexemes) (j : ℕ) (rest : Lexemes) : Type 0 where
+    pub label : Label
+    pub slots : Slots
+    pub target : Label
+    pub inside : Slots
+    pub is_tree : ts ≡ tree target inside us
+    pub derived : Takes rule (rule n) end (tree label slots end) i ls end j rest
+    pub covers : (vs : Slots) → element_before label slots (elements_in (within label.kind) slots) vs ≡ Some (tree target inside vs)
+    pub closed : wide ≡ false → Each (Shut text) (places_of o label slots (places_in (within label.kind) slots))
 
   -- one whose target has no initialiser
   record Bare (f : Flags) (ts us : Slots) (i : ℕ) (ls : Lexemes) (j : ℕ) (rest : Lexemes) : Type 0 where
@@ -495,3 +495,14 @@ module _ (text : List ℕ) (wide : Bool) where
     pub literal_back : (o : Bool) {ts us : Slots} {i j : ℕ} {ls rest : Lexemes} → Takes rule (rule (at (target_name o) f)) end ts i ls us j rest → Lexes (Lex text) i ls → Literal o f ts us i ls j rest
     literal_back false d c = array_back d c
     literal_back true d c = object_back d c
+
+    -- the same of an element, and of a property
+    pub element_source : {l : Label} {cs : Slots} {i j : ℕ} {ls rest : Lexemes} → Takes rule (rule (at TargetElement f)) end (tree l cs end) i ls end j rest → Lexes (Lex text) i ls → Source false (at Assignment (plus_in f)) (tree l cs end) end i ls j rest
+    element_source d c = element_back (up_to (suc (deep d))) d (omega arith) c
+
+    pub property_source : {l : Label} {cs : Slots} {i j : ℕ} {ls rest : Lexemes} → Takes rule (rule (at TargetProperty f)) end (tree l cs end) i ls end j rest → Lexes (Lex text) i ls → Source true (at Property f) (tree l cs end) end i ls j rest
+    property_source d c = property_back (up_to (suc (deep d))) d (omega arith) c
+
+    -- and of a target
+    pub target_source : {l : Label} {cs : Slots} {i j : ℕ} {ls rest : Lexemes} → Takes rule (rule (at Target f)) end (tree l cs end) i ls end j rest → Lexes (Lex text) i ls → Source false (at Assignment (plus_in f)) (tree l cs end) end i ls j rest
+    target_source {l} {cs} {i} {j} {ls} {rest} d c = (up_to (suc (deep d)) l cs end i j ls rest d (omega arith) c).source

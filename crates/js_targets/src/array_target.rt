@@ -103,7 +103,7 @@ fn is_equals(op: Op) -> bool
 /// The node of the target that an array or object literal stands for; none where it stands for none. The places where it
 /// may be wider than a target are noted.
 #[cycle(targets)]
-fn convert_literal(
+pub fn convert_literal(
     alloc: Global,
     ast: &mut ParserAstBuilder,
     id: NodeId,
@@ -259,7 +259,7 @@ fn note_operator(notes: &mut Notes, op: Op, element: Span) -> Result<(), NoMemor
 }
 
 /// An assignment, as a target with its initialiser. Another operator than `=` is noted.
-fn convert_assignment(
+pub fn convert_assignment(
     alloc: Global,
     ast: &mut ParserAstBuilder,
     id: NodeId,
@@ -291,7 +291,7 @@ fn convert_shorthand(ast: &mut ParserAstBuilder, id: NodeId) -> Result<Option<No
 
 /// A property of an object literal, as one of a target.
 #[cycle(targets)]
-fn convert_property(
+pub fn convert_property(
     alloc: Global,
     ast: &mut ParserAstBuilder,
     id: NodeId,
@@ -317,7 +317,7 @@ fn convert_property(
 
 /// The node of the target that an expression stands for; none where it stands for none (ECMA-262, section 13.15.1).
 #[cycle(targets)]
-fn convert_target(
+pub fn convert_target(
     alloc: Global,
     ast: &mut ParserAstBuilder,
     id: NodeId,
