@@ -12,7 +12,7 @@ use Rattle.js_cursor.specs.Moves.{GivesUp, IsUnexpected}
 use Rattle.js_cursor.specs.Parsers.{Parser}
 use Rattle.js_cursor.specs.declared.stop.Stop.{Stop}
 use Rattle.js_cursor.specs.declared.stop.Stop.TheVariants.{Fatal, NoMemory}
-use Rattle.js_parsing.specs.Answers.{Grown, Stops, Verdict}
+use Rattle.js_parsing.specs.Answers.{Grown, Stops, Verdict, clean}
 use Rattle.js_parsing.specs.States.{At, Same, NodesLie, Standing, flags_of}
 use Rattle.js_parsing.proofs.Giving.{gives_up_here}
 use Rattle.js_parsing.proofs.Moving.{beside_nodes, same_both, same_itself, same_with, standing, stops_behind}
@@ -44,9 +44,13 @@ held_of {os} {ns} {lo} {rs} w i j x = held_node x.stands (within_reused lo (leng
 abbrev pub Answer : (Label → Slots → List Widening) → (Label → Slots → Option Slots) → List Node → List Node → NodeId → Noted → Option NodeId → Type 0
 Answer places r os ns id notes found = OfNode os id (λ l cs rs. Converted os ns rs unnoted notes (places l cs) (one_node found) (r l cs))
 
--- by notes that were begun with no place
-pub answer_of : {places : Label → Slots → List Widening} {r : Label → Slots → Option Slots} {os ns : List Node} {id : NodeId} {notes : Noted} (found : Option NodeId) {xs : List Widening} → xs ≡ [] → OfNode os id (λ l cs rs. Converted os ns rs (record { places = xs; misplaced = None }) notes (places l cs) (one_node found) (r l cs)) → Answer places r os ns id notes found
-answer_of {places} {r} {os} {ns} {id} {notes} found e v = subst (λ (ws : List Widening). OfNode os id (λ l cs rs. Converted os ns rs (record { places = ws; misplaced = None }) notes (places l cs) (one_node found) (r l cs))) e v
+-- by notes in which nothing stood
+pub answer_of : {places : Label → Slots → List Widening} {r : Label → Slots → Option Slots} {os ns : List Node} {id : NodeId} {notes : Noted} (found : Option NodeId) {first : Noted} → first ≡ unnoted → OfNode os id (λ l cs rs. Converted os ns rs first notes (places l cs) (one_node found) (r l cs)) → Answer places r os ns id notes found
+answer_of {places} {r} {os} {ns} {id} {notes} found e v = subst (λ (n : Noted). OfNode os id (λ l cs rs. Converted os ns rs n notes (places l cs) (one_node found) (r l cs))) e v
+
+-- no place was told
+pub nothing_told : (p : Parser) → PlacesTold [] p p
+nothing_told p = record { at = λ text f a. a; same = same_itself; is = refl; verdict = clean refl tt }
 
 made_of : {os ns : List Node} {rs : List ℕ} {notes : Noted} {ws : List Widening} {ids : List (Option NodeId)} {r : Option Slots} → Converted os ns rs unnoted notes ws (Some ids) r → Converts os ns rs unnoted notes ws ids r
 made_of (converts x) = x

@@ -49,13 +49,13 @@ abbrev pub literal_slots : Bool → Label → Slots → Option Slots
 literal_slots o l cs = slot_of (literal_tree l (elements_in (in_literal o) cs))
 
 -- the target's elements are those of the literal
-elements_are : (o : Bool) (l : Label) (cs ts : Slots) → l.kind ≡ literal_kind o → literal_slots o l cs ≡ Some ts → (ds : Slots) × (elements_in (in_literal o) cs ≡ Some ds) × (ts ≡ tree (relabelled (pattern_kind o) l) ds end)
+pub elements_are : (o : Bool) (l : Label) (cs ts : Slots) → l.kind ≡ literal_kind o → literal_slots o l cs ≡ Some ts → (ds : Slots) × (elements_in (in_literal o) cs ≡ Some ds) × (ts ≡ tree (relabelled (pattern_kind o) l) ds end)
 elements_are o l cs ts h e =
     let s = slot_parts (literal_tree l (elements_in (in_literal o) cs)) ts e in
     let p = literal_parts l (elements_in (in_literal o) cs) s.0 s.1 in
     (p.0, p.1, s.2 ∙ (ap (λ (t : Tree). tree t.label t.slots end) p.2 ∙ ap (λ (b : Bool). tree (relabelled (pattern_kind b) l) p.0 end) (literal_is_object o l.kind h)))
 
-no_elements : (o : Bool) (l : Label) (cs ds : Slots) → literal_slots o l cs ≡ None → elements_in (in_literal o) cs ≡ Some ds → ⊥
+pub no_elements : (o : Bool) (l : Label) (cs ds : Slots) → literal_slots o l cs ≡ None → elements_in (in_literal o) cs ≡ Some ds → ⊥
 no_elements o l cs ds e h = let k : Some (tree (relabelled (pattern_kind (is_object l.kind)) l) ds end) ≡ None = sym (ap (λ (r : Option Slots). slot_of (literal_tree l r)) h) ∙ e in absurd (cc)
 
 pub literal_at : (text : List ℕ) (o : Bool) (f : Flags) → f.cover ≡ true → f.wide ≡ true → {ns : List Node} {id : NodeId} (x : Read text (at Primary f) ns id) → IsLiteral o x.label → Lawful text (at (target_name o) f) x (places_in (in_literal o) x.slots) (literal_slots o x.label x.slots)
