@@ -19,8 +19,8 @@ use Rattle.js_parsing.proofs.Moving.{beside_nodes, same_both, same_itself, same_
 use Rattle.js_targets.specs.declared.widening.Widening.{Widening}
 use Rattle.js_targets.specs.Taken.{PlacesTold}
 use Rattle.js_targets.specs.Targets.{Each, Fits, Narrow, Spotted, Noted, unnoted, Converted, converts, refuses, Converts, Refuses, OfNode, Reused, Slotted, Stood, one_node}
-use Rattle.js_targets.proofs.ReusedNodes.{below_in}
-use Rattle.js_covers.specs.Covered.{Covers, CoversAs, CoversOr, Finishes, NoneCovered, Read, ReadBefore}
+use Rattle.js_targets.proofs.ReusedNodes.{below_in, children_of}
+use Rattle.js_covers.specs.Covered.{Answered, Covers, CoversAs, CoversOr, Finishes, NoneCovered, Read, ReadBefore}
 use Rattle.js_covers.proofs.Laws.{Law}
 
 -- ---- the target's node
@@ -42,11 +42,11 @@ held_of {os} {ns} {lo} {rs} w i j x = held_node x.stands (within_reused lo (leng
 -- ---- what was converted
 
 abbrev pub Answer : (Label → Slots → List Widening) → (Label → Slots → Option Slots) → List Node → List Node → NodeId → Noted → Option NodeId → Type 0
-Answer places r os ns id notes found = OfNode os id (λ l cs rs. Converted os ns rs unnoted notes (places l cs) (one_node found) (r l cs))
+Answer places r os ns id notes found = Answered places r os ns id unnoted notes found
 
 -- by notes in which nothing stood
-pub answer_of : {places : Label → Slots → List Widening} {r : Label → Slots → Option Slots} {os ns : List Node} {id : NodeId} {notes : Noted} (found : Option NodeId) {first : Noted} → first ≡ unnoted → OfNode os id (λ l cs rs. Converted os ns rs first notes (places l cs) (one_node found) (r l cs)) → Answer places r os ns id notes found
-answer_of {places} {r} {os} {ns} {id} {notes} found e v = subst (λ (n : Noted). OfNode os id (λ l cs rs. Converted os ns rs n notes (places l cs) (one_node found) (r l cs))) e v
+pub answer_of : {places : Label → Slots → List Widening} {r : Label → Slots → Option Slots} {os ns : List Node} {id : NodeId} {notes : Noted} (found : Option NodeId) {first : Noted} → first ≡ unnoted → Answered places r os ns id first notes found → Answer places r os ns id notes found
+answer_of {places} {r} {os} {ns} {id} {notes} found e v = subst (λ (n : Noted). Answered places r os ns id n notes found) e v
 
 -- no place was told
 pub nothing_told : (p : Parser) → PlacesTold [] p p
@@ -61,6 +61,10 @@ none_of (refuses x) = x
 -- the node was read before
 pub was_stood : {n : Flags → Symbol} {Is : Label → Type 0} {p : Parser} {id : NodeId} → ReadBefore n Is p id → Stood p.nodes id
 was_stood b = let x = b.read in record { lo = x.lo; hi = x.hi; label = x.label; slots = x.slots; holds = x.holds }
+
+-- its label is that of the node, whatever tree is meant
+pub of_the_node : {n : Flags → Symbol} {Is : Label → Type 0} {p : Parser} {id : NodeId} → ReadBefore n Is p id → OfNode p.nodes id (λ l cs rs. Is l)
+of_the_node {Is = Is} {id = id} b = λ l cs rs s d. let x = b.read in subst Is ((children_of {id = id} (x.holds).stands).label_is ∙ sym (children_of {id = id} s).label_is) b.is
 
 pub at_there : {p q : Parser} → q ≡ record p { nodes = q.nodes } → Standing p → Standing q
 at_there {p} {q} e a = standing (subst (λ (z : Parser). At p.text (flags_of p) z) (sym e) (beside_nodes q.nodes a))

@@ -15,7 +15,7 @@ use Rattle.js_targets.proofs.LiteralsAsTargets.{Targeted, literal_target}
 use Rattle.js_targets.proofs.Spots.{literal_spots}
 use Rattle.js_targets.proofs.Targets.{by_primary}
 use Rattle.js_targets.proofs.TargetsAsLiterals.{literal_back}
-use Rattle.js_covers.specs.Covered.{OnlyTree, Read, NoneCovered, IsLiteral, in_a_literal}
+use Rattle.js_covers.specs.Covered.{OnlyTree, Read, NoneCovered, IsLiteral, in_a_literal, literal_answer}
 
 -- The slots that an expression is converted to are those of a target over its lexemes; where there are none, no target is derived. And its places can be told.
 pub record Lawful (text : List ℕ) (m : Symbol) {n : Symbol} {ns : List Node} {id : NodeId} (x : Read text n ns id) (ws : List Widening) (r : Option Slots) : Type 0 where
@@ -73,9 +73,6 @@ literal_at text o f v w x h = record {
   where
     targeted : (ds : Slots) → elements_in (in_literal o) x.slots ≡ Some ds → Targeted text o f x.label x.slots ds x.place x.lexemes x.behind x.rest
     targeted ds e = literal_target text o ds h e (x.only).utf8 (x.only).reached (x.only).between (x.only).lexed (by_primary (x.only).derived)
-
-abbrev pub literal_answer : Label → Slots → Option Slots
-literal_answer l cs = literal_slots (is_object l.kind) l cs
 
 pub literal_law : (o : Bool) → Law (at Primary) (IsLiteral o) (at (target_name o)) in_a_literal literal_answer
 literal_law o = record { of = λ text f v w x h. subst (λ (b : Bool). Lawful text (at (target_name o) f) x (places_in (in_literal b) x.slots) (literal_slots b x.label x.slots)) (sym (literal_is_object o x.label.kind h)) (literal_at text o f v w x h) }

@@ -1,3 +1,4 @@
 mod Laws
 mod Answers
 mod TargetLaws
+mod ElementLaws

@@ -1,7 +1,9 @@
--- Expressions as targets, simple and others, as elements and as properties (ECMA-262, 8.6.4 and 13.15.5).
+-- Expressions as targets, simple ones and others (ECMA-262, 8.6.4 and 13.15.5).
 use Rattle.std.proofs.Common.{ℕ, ◌≡◌, Bool, true, false, cond, List, [], ◌∷◌, ◌++◌, Option, Some, None, inl, refl, sym, ap, subst, ◌∙◌}
-use Rattle.std.proofs.lemmas.Bool.{false≢true}
+use Rattle.std.specs.Prelude.{IsCharBoundary, IsUtf8}
 use Rattle.js_grammar.specs.Grammar.{Lexemes, such, Takes, Derives, is_such, is_left, is_right}
+use Rattle.js_grammar.specs.Lexed.{Lexes}
+use Rattle.js_grammar.specs.LexicalFaults.{Reached}
 use Rattle.js_grammar.specs.Parsing.{always}
 use Rattle.js_grammar.specs.Productions.{Flags, Symbol, at, plus_in, ArrayTarget, ObjectTarget, LeftHandSide, SimpleTarget, Target}
 use Rattle.js_grammar.specs.Productions.{sym as symbol}
@@ -9,6 +11,7 @@ use Rattle.js_grammar.specs.Table.{rule, rule_of}
 use Rattle.js_grammar.specs.Trees.{NodeKind, Label, Slots, end, tree, Tree}
 use Rattle.js_tree.specs.declared.id.NodeId.{NodeId}
 use Rattle.js_tree.specs.Nodes.{Node}
+use Rattle.js_parsing.specs.Lexemes.{Lex}
 use Rattle.js_parsing.proofs.FreeOfIn.{any_in}
 use Rattle.js_targets.specs.declared.widening.Widening.{Widening}
 use Rattle.js_targets.specs.Taken.{target_name}
@@ -17,14 +20,8 @@ use Rattle.js_targets.proofs.LiteralsAsTargets.{Targeted, literal_target}
 use Rattle.js_targets.proofs.Spots.{literal_spots}
 use Rattle.js_targets.proofs.Targets.{by_primary, is_literal_kind, kind_of_literal, left_hand_side_target, may_be, may_literal, may_target, of_assignment, target_left_hand_side}
 use Rattle.js_targets.proofs.TargetsAsLiterals.{literal_back, target_no_literal}
-use Rattle.js_covers.specs.Covered.{OnlyTree, Read, NoneCovered, AnyLabel, an_expression, no_places, in_a_target}
+use Rattle.js_covers.specs.Covered.{OnlyTree, Read, NoneCovered, AnyLabel, an_expression, no_places, in_a_target, simple_answer, target_answer}
 use Rattle.js_covers.proofs.Laws.{Lawful, Law, slot_parts, literal_parts, within as inside, elements_are, no_elements, literal_slots}
-
-abbrev pub simple_answer : Label → Slots → Option Slots
-simple_answer l cs = slot_of (target_of l cs)
-
-abbrev pub target_answer : Label → Slots → Option Slots
-target_answer l cs = slot_of (target_by l cs (elements_in (within l.kind) cs))
 
 pub none_some : {a : Option Slots} {b : Slots} → a ≡ None → a ≡ Some b → ⊥
 none_some {b = b} e h = let k : None ≡ Some b = sym e ∙ h in absurd (cc)
@@ -80,6 +77,42 @@ simple_answered l cs h = ap (λ (b : Bool). slot_of (cond b (literal_tree l (ele
 simple_placed : (l : Label) (cs : Slots) → is_literal l.kind ≡ false → in_a_target l cs ≡ []
 simple_placed l cs h = ap (λ (b : Bool). cond b (places_in (within l.kind) cs) []) h
 
+-- ---- what its places need
+
+module _ (text : List ℕ) (f : Flags) {l : Label} {cs : Slots} {i j : ℕ} {ls rest : Lexemes} (u : IsUtf8 text) (r : Reached text i) (b : IsCharBoundary text i) (m : Lexes (Lex text) i ls) (d : Takes rule (rule (an_expression f)) end (tree l cs end) i ls end j rest) where
+  literal_line : (o : Bool) → l.kind ≡ literal_kind o → Takes rule (such (at LeftHandSide (plus_in f)) always) end (tree l cs end) i ls end j rest
+  literal_line o h = lowered f (may_literal l.kind (is_literal_kind o l.kind h)) d
+
+  literal_targeted : (o : Bool) (ds : Slots) → l.kind ≡ literal_kind o → elements_in (in_literal o) cs ≡ Some ds → Targeted text o (plus_in f) l cs ds i ls j rest
+  literal_targeted o ds h e = literal_target text o ds h e u r b m (literal_line o h)
+
+  pub target_spotted : Each (Spotted text) (in_a_target l cs)
+  target_spotted = by (is_literal l.kind) refl
+    where
+      by : (g : Bool) → is_literal l.kind ≡ g → Each (Spotted text) (in_a_target l cs)
+      by true k = let h = kind_of_literal l.kind k in subst (λ (ws : List Widening). Each (Spotted text) ws) (sym (literal_placed (is_object l.kind) l cs h)) (literal_spots text u (is_object l.kind) h r b m (literal_line (is_object l.kind) h))
+      by false k = subst (λ (ws : List Widening). Each (Spotted text) ws) (sym (simple_placed l cs k)) tt
+
+  pub target_fits : (ts : Slots) → target_answer l cs ≡ Some ts → Each (Fits text) (in_a_target l cs)
+  target_fits ts e = by (is_literal l.kind) refl
+    where
+      by : (g : Bool) → is_literal l.kind ≡ g → Each (Fits text) (in_a_target l cs)
+      by true k =
+          let h = kind_of_literal l.kind k in
+          let p = elements_are (is_object l.kind) l cs ts h (sym (literal_answered (is_object l.kind) l cs h) ∙ e) in
+          subst (λ (ws : List Widening). Each (Fits text) ws) (sym (literal_placed (is_object l.kind) l cs h)) (literal_targeted (is_object l.kind) p.0 h p.1).ended
+      by false k = subst (λ (ws : List Widening). Each (Fits text) ws) (sym (simple_placed l cs k)) tt
+
+  target_taken : f.wide ≡ true → (ts : Slots) → target_answer l cs ≡ Some ts → (t : Tree) × (ts ≡ tree t.label t.slots end) × Derives rule (at Target f) t i ls j rest
+  target_taken w ts e = by (is_literal l.kind) refl
+    where
+      by : (g : Bool) → is_literal l.kind ≡ g → (t : Tree) × (ts ≡ tree t.label t.slots end) × Derives rule (at Target f) t i ls j rest
+      by true k =
+          let h = kind_of_literal l.kind k in
+          let p = elements_are (is_object l.kind) l cs ts h (sym (literal_answered (is_object l.kind) l cs h) ∙ e) in
+          (record { label = relabelled (pattern_kind (is_object l.kind)) l; slots = p.0 }, p.2, literal_as_target (is_object l.kind) f (inside (literal_name_in (is_object l.kind) f ((literal_targeted (is_object l.kind) p.0 h p.1).takes (inl w)))))
+      by false k = let s = slot_parts (target_of l cs) ts (sym (simple_answered l cs k) ∙ e) in (s.0, s.2, simple_as_target f (simple_taken f l cs s.0 s.1 d))
+
 -- ---- the laws
 
 module _ {text : List ℕ} (f : Flags) {ns : List Node} {id : NodeId} (x : Read text (an_expression f) ns id) where
@@ -111,35 +144,13 @@ module _ {text : List ℕ} (f : Flags) {ns : List Node} {id : NodeId} (x : Read 
             let u = (x.only).only (record { label = y.label; slots = y.slots }) (raised f (by_primary y.derived)) in
             no_elements o x.label x.slots y.inside (sym (literal_answered o x.label x.slots (ap (λ (z : Tree). z.label.kind) (sym u) ∙ y.kind)) ∙ e) (ap (λ (z : Tree). elements_in (in_literal o) z.slots) (sym u) ∙ y.covers)
 
-    literal_there : (o : Bool) (ds : Slots) → x.label.kind ≡ literal_kind o → elements_in (in_literal o) x.slots ≡ Some ds → Targeted text o (plus_in f) x.label x.slots ds x.place x.lexemes x.behind x.rest
-    literal_there o ds h e = literal_target text o ds h e (x.only).utf8 (x.only).reached (x.only).between (x.only).lexed (lowered f (may_literal x.label.kind (is_literal_kind o x.label.kind h)) (x.only).derived)
-
-    literal_at : (o : Bool) → x.label.kind ≡ literal_kind o → Lawful text (at Target f) x (in_a_target x.label x.slots) (target_answer x.label x.slots)
-    literal_at o h = record {
-      sound = λ ts e.
-          let p = elements_are o x.label x.slots ts h (sym (literal_answered o x.label x.slots h) ∙ e) in
-          (record { label = relabelled (pattern_kind o) x.label; slots = p.0 }, p.2, literal_as_target o f (inside (literal_name_in o f ((literal_there o p.0 h p.1).takes (inl w)))));
-      complete = target_source;
-      spotted = subst (λ (ws : List Widening). Each (Spotted text) ws) (sym (literal_placed o x.label x.slots h)) (literal_spots text (x.only).utf8 o h (x.only).reached (x.only).between (x.only).lexed (lowered f (may_literal x.label.kind (is_literal_kind o x.label.kind h)) (x.only).derived));
-      fits = λ ts e.
-          let p = elements_are o x.label x.slots ts h (sym (literal_answered o x.label x.slots h) ∙ e) in
-          subst (λ (ws : List Widening). Each (Fits text) ws) (sym (literal_placed o x.label x.slots h)) (literal_there o p.0 h p.1).ended;
-    }
-
-    other_at : is_literal x.label.kind ≡ false → Lawful text (at Target f) x (in_a_target x.label x.slots) (target_answer x.label x.slots)
-    other_at h = record {
-      sound = λ ts e. let s = simple_at.sound ts (sym (simple_answered x.label x.slots h) ∙ e) in (s.0, s.1, simple_as_target f s.2);
-      complete = target_source;
-      spotted = subst (λ (ws : List Widening). Each (Spotted text) ws) (sym (simple_placed x.label x.slots h)) tt;
-      fits = λ ts e. subst (λ (ws : List Widening). Each (Fits text) ws) (sym (simple_placed x.label x.slots h)) tt;
-    }
-
     pub target_at : Lawful text (at Target f) x (in_a_target x.label x.slots) (target_answer x.label x.slots)
-    target_at = by (is_literal x.label.kind) refl
-      where
-        by : (b : Bool) → is_literal x.label.kind ≡ b → Lawful text (at Target f) x (in_a_target x.label x.slots) (target_answer x.label x.slots)
-        by true h = literal_at (is_object x.label.kind) (kind_of_literal x.label.kind h)
-        by false h = other_at h
+    target_at = record {
+      sound = target_taken text f (x.only).utf8 (x.only).reached (x.only).between (x.only).lexed (x.only).derived w;
+      complete = target_source;
+      spotted = target_spotted text f (x.only).utf8 (x.only).reached (x.only).between (x.only).lexed (x.only).derived;
+      fits = target_fits text f (x.only).utf8 (x.only).reached (x.only).between (x.only).lexed (x.only).derived;
+    }
 
 pub simple_law : Law an_expression AnyLabel (at SimpleTarget) no_places simple_answer
 simple_law = record { of = λ text f v w x i. simple_at f x }

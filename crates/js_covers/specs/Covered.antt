@@ -5,7 +5,7 @@ use Rattle.js_grammar.specs.Lexed.{Lexes}
 use Rattle.js_grammar.specs.LexicalFaults.{Reached}
 use Rattle.js_grammar.specs.Productions.{Flags, Symbol, at, plus_in, Assignment}
 use Rattle.js_grammar.specs.Table.{rule}
-use Rattle.js_grammar.specs.Trees.{Label, Slots, Tree}
+use Rattle.js_grammar.specs.Trees.{Label, Slots, Tree, tree, end, assignment_target_with_default}
 use Rattle.js_tree.specs.declared.id.NodeId.{NodeId}
 use Rattle.js_tree.specs.Holding.{Holds, Keeps as KeepsNodes}
 use Rattle.js_tree.specs.Nodes.{Node}
@@ -17,7 +17,7 @@ use Rattle.js_parsing.specs.Answers.{Stops, Verdict}
 use Rattle.js_parsing.specs.Lexemes.{Lex}
 use Rattle.js_parsing.specs.States.{At, Same}
 use Rattle.js_targets.specs.Taken.{PlacesTold}
-use Rattle.js_targets.specs.Targets.{Each, Narrow, in_literal, in_property, within, is_assignment, is_literal, is_object, is_property, literal_kind, operator_places, property_places, places_in, made_span}
+use Rattle.js_targets.specs.Targets.{Each, Narrow, in_literal, in_property, within, is_assignment, is_literal, is_object, is_property, literal_kind, operator_places, property_places, places_in, made_span, Converted, Noted, OfNode, one_node, elements_in, literal_tree, property_slot, relabelled, slot_of, target_by, target_of}
 use Rattle.js_targets.specs.declared.widening.Widening.{Widening}
 
 -- ---- what was read
@@ -117,6 +117,28 @@ in_an_element l cs = cond (is_assignment l.kind) (operator_places l.op (made_spa
 -- of a property
 abbrev pub in_a_property : Label → Slots → List Widening
 in_a_property l cs = property_places l (places_in in_property cs)
+
+-- ---- what an expression is converted to
+
+abbrev pub literal_answer : Label → Slots → Option Slots
+literal_answer l cs = slot_of (literal_tree l (elements_in (in_literal (is_object l.kind)) cs))
+
+abbrev pub simple_answer : Label → Slots → Option Slots
+simple_answer l cs = slot_of (target_of l cs)
+
+abbrev pub target_answer : Label → Slots → Option Slots
+target_answer l cs = slot_of (target_by l cs (elements_in (within l.kind) cs))
+
+-- an assignment, whatever its operator, is a target and its initialiser
+abbrev pub element_answer : Label → Slots → Option Slots
+element_answer l cs = cond (is_assignment l.kind) (Some (tree (relabelled assignment_target_with_default l) cs end)) (target_answer l cs)
+
+abbrev pub property_answer : Label → Slots → Option Slots
+property_answer l cs = property_slot l cs (elements_in in_property cs)
+
+-- The node of an expression was converted to this, and its places were noted behind others.
+abbrev pub Answered : (places : Label → Slots → List Widening) (slots : Label → Slots → Option Slots) → List Node → List Node → NodeId → Noted → Noted → Option NodeId → Type 0
+Answered places slots os ns id noted notes found = OfNode os id (λ l cs rs. Converted os ns rs noted notes (places l cs) (one_node found) (slots l cs))
 
 -- ---- what is told of a conversion
 

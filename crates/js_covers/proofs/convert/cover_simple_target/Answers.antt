@@ -2,9 +2,9 @@ use Rattle.std.proofs.Common.{Option, Some, None, refl, subst}
 use Rattle.std.specs.Prelude.{Ok, Err}
 use Rattle.js_tree.specs.declared.id.NodeId.{NodeId}
 use Rattle.js_targets.specs.Targets.{unnoted}
-use Rattle.js_covers.specs.Covered.{no_places}
+use Rattle.js_covers.specs.Covered.{no_places, simple_answer}
 use Rattle.js_covers.proofs.Answers.{Answer, covers_there, nothing_told}
-use Rattle.js_covers.proofs.TargetLaws.{simple_answer, simple_law}
+use Rattle.js_covers.proofs.TargetLaws.{simple_law}
 use Rattle.js_covers.proofs.convert.cover_simple_target.Goals as goal
 
 pub returns-in_default : goal.returns-in_default
