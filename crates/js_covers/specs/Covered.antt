@@ -148,3 +148,10 @@ Finishes (Some id) ws old new (Ok t) = (t ≡ id) × PlacesTold ws old new
 Finishes None ws old new (Ok t) = ⊥
 Finishes (Some id) ws old new (Err Fatal) = ⊥
 Finishes found ws old new (Err e) = GivesUp (IsUnexpected old) old new e
+
+-- ---- numbers of nodes with types of their own
+
+-- the node's number in an answer
+abbrev pub numbered : {W : Type 0} → (W → NodeId) → Result W Stop → Result NodeId Stop
+numbered number (Ok w) = Ok (number w)
+numbered number (Err e) = Err e

@@ -2,3 +2,5 @@
 #![tactic(auto)]
 
 pub mod convert;
+pub mod grammar;
+pub mod ids;
