@@ -1,9 +1,10 @@
 -- What a call answers, by what the conversion says and what was told (ECMA-262, 13.15.5).
-use Rattle.std.proofs.Common.{ℕ, suc, ◌≡◌, ◌≤◌, ◌<◌, inl, inr, true, List, [], ◌∷◌, length, Option, Some, None, refl, sym, ap, subst, arith, ◌∙◌, append-nil}
+use Rattle.std.proofs.Common.{ℕ, suc, ◌≡◌, ◌≤◌, ◌<◌, inl, inr, Bool, true, false, cond, List, [], ◌∷◌, length, Option, Some, None, refl, sym, ap, subst, arith, ◌∙◌, append-nil}
 use Rattle.std.specs.Prelude.{Result, Ok, Err}
+use Rattle.std.proofs.lemmas.Bool.{false≢true}
 use Rattle.js_base.specs.declared.diagnostic.Diagnostic.{Diagnostic}
 use Rattle.js_grammar.specs.Productions.{Flags, Symbol}
-use Rattle.js_grammar.specs.Trees.{Label, Slots, end, tree, Tree}
+use Rattle.js_grammar.specs.Trees.{Label, Slots, end, tree, assignment_target_with_default}
 use Rattle.js_tree.specs.declared.id.NodeId.{NodeId}
 use Rattle.js_tree.specs.Nodes.{Node}
 use Rattle.js_tree.specs.Holding.{StandsAll, no_slots, next_child, AreWithin, AreDistinct, Holds, Keeps}
@@ -18,9 +19,9 @@ use Rattle.js_parsing.proofs.Giving.{gives_up_here}
 use Rattle.js_parsing.proofs.Moving.{beside_nodes, same_both, same_itself, same_with, standing, stops_behind}
 use Rattle.js_targets.specs.declared.widening.Widening.{Widening}
 use Rattle.js_targets.specs.Taken.{PlacesTold}
-use Rattle.js_targets.specs.Targets.{Each, Fits, Narrow, Spotted, Noted, unnoted, Converted, converts, refuses, Converts, Refuses, OfNode, Reused, Slotted, Stood, one_node}
+use Rattle.js_targets.specs.Targets.{Each, Fits, Narrow, Spotted, Noted, unnoted, Converted, converts, refuses, Converts, Refuses, OfNode, Reused, Slotted, Stood, one_node, is_assignment, relabelled}
 use Rattle.js_targets.proofs.ReusedNodes.{below_in, children_of}
-use Rattle.js_covers.specs.Covered.{Answered, Covers, CoversAs, CoversOr, Finishes, NoneCovered, Read, ReadBefore}
+use Rattle.js_covers.specs.Covered.{Answered, IsAssignment, KeepsInitialiser, an_expression, in_an_element, element_answer, target_answer, Covers, CoversAs, Finishes, NoneCovered, Read, ReadBefore}
 use Rattle.js_covers.proofs.Laws.{Law}
 
 -- ---- the target's node
@@ -38,6 +39,13 @@ held_node {lo = lo} {hi = hi} (next_child {rs = rs} b h no_slots) w d = record {
 
 held_of : {os ns : List Node} {lo : ℕ} {rs : List ℕ} {id : NodeId} {l : Label} {cs : Slots} → AreWithin lo (length os) rs → lo ≤ length os → length os ≤ length ns → Slotted os ns rs (Some id ∷ []) (tree l cs end) → Holds ns lo (length ns) id.0 l cs
 held_of {os} {ns} {lo} {rs} w i j x = held_node x.stands (within_reused lo (length os) (length ns) rs x.numbers w i j x.reused) x.distinct
+
+bounded : {text : List ℕ} {n : Symbol} {ns : List Node} {id : NodeId} (x : Read text n ns id) → AreWithin x.lo (length ns) (x.holds).numbers
+bounded {ns = ns} {id = id} x = both (x.holds).numbers (x.holds).within (AreWithin-wider 0 (suc id.0) 0 (length ns) (x.holds).numbers (omega arith) (let i = Stands-below (x.holds).stands in omega arith) (Stands-within (x.holds).stands))
+  where
+    both : (rs : List ℕ) → AreWithin x.lo x.hi rs → AreWithin 0 (length ns) rs → AreWithin x.lo (length ns) rs
+    both [] a b = tt
+    both (r ∷ rs) a b = (a.0, b.1, both rs a.2 b.2)
 
 -- ---- what was converted
 
@@ -110,7 +118,7 @@ module _ {n : Flags → Symbol} {Is : Label → Type 0} {m : Flags → Symbol} {
         record {
           target = y.0;
           derived = y.2;
-          holds = subst (λ (ns : List Node). Holds ns x.lo (length ns) t.0 y.0.label y.0.slots) (sym nodes) (held_of (bounded (x.holds)) (let k = (Holds-range x.holds).0 in let j = Holds-below x.holds in omega arith) (Keeps-longer c.keeps) (subst (λ (ts : Slots). Slotted p.nodes q.nodes (x.holds).numbers (Some t ∷ []) ts) y.1 c.slotted));
+          holds = subst (λ (ns : List Node). Holds ns x.lo (length ns) t.0 y.0.label y.0.slots) (sym nodes) (held_of (bounded x) (let k = (Holds-range x.holds).0 in let j = Holds-below x.holds in omega arith) (Keeps-longer c.keeps) (subst (λ (ts : Slots). Slotted p.nodes q.nodes (x.holds).numbers (Some t ∷ []) ts) y.1 c.slotted));
           keeps = subst (λ (ns : List Node). Keeps p.nodes ns) (sym nodes) c.keeps;
           is = g.is ∙ (ap (λ (z : Parser). record z { errors = s.errors }) e ∙ ap (λ (ns : List Node). record p { nodes = ns; errors = s.errors }) (sym nodes));
           at = λ text k h. g.at text k (subst (λ (z : Parser). At text k z) (sym e) (beside_nodes q.nodes h));
@@ -120,13 +128,6 @@ module _ {n : Flags → Symbol} {Is : Label → Type 0} {m : Flags → Symbol} {
       where
         told : notes.places ≡ places x.label x.slots → PlacesTold notes.places q s → Verdict ⊥ p.errors s.errors (Each (Narrow p.text) (places x.label x.slots)) (Each (Narrow p.text) (places x.label x.slots) → ⊥)
         told h g = subst (λ (ws : List Widening). Verdict ⊥ p.errors s.errors (Each (Narrow p.text) ws) (Each (Narrow p.text) ws → ⊥)) h (subst (λ (ds : List Diagnostic). Verdict ⊥ ds s.errors (Each (Narrow p.text) notes.places) (Each (Narrow p.text) notes.places → ⊥)) (ap (λ (z : Parser). z.errors) e) (subst (λ (v : List ℕ). Verdict ⊥ q.errors s.errors (Each (Narrow v) notes.places) (Each (Narrow v) notes.places → ⊥)) (text_there p e) g.verdict))
-
-        bounded : (h : Holds p.nodes x.lo x.hi id.0 x.label x.slots) → AreWithin x.lo (length p.nodes) h.numbers
-        bounded h = both h.numbers h.within (AreWithin-wider 0 (suc id.0) 0 (length p.nodes) h.numbers (omega arith) (let i = Stands-below h.stands in omega arith) (Stands-within h.stands))
-          where
-            both : (rs : List ℕ) → AreWithin x.lo x.hi rs → AreWithin 0 (length p.nodes) rs → AreWithin x.lo (length p.nodes) rs
-            both [] a b = tt
-            both (r ∷ rs) a b = (a.0, b.1, both rs a.2 b.2)
 
     -- none was found
     uncovered : (st : Stop) → Answer places r p.nodes q.nodes id notes None → Standing p → GivesUp (IsUnexpected q) q s st → Stops p s st (NoneCovered (m f) x)
@@ -144,3 +145,35 @@ module _ {n : Flags → Symbol} {Is : Label → Type 0} {m : Flags → Symbol} {
 
   pub covers_there : (found : Option NodeId) (o : Result NodeId Stop) (s : Parser) → Answer places r p.nodes q.nodes id notes found → Standing p → Finishes found notes.places q s o → CoversAs n Is m places id p s o
   covers_there = finished
+
+-- ---- assignments
+
+default_slots : (l : Label) (cs ts : Slots) → IsAssignment l → element_answer l cs ≡ Some ts → ts ≡ tree (relabelled assignment_target_with_default l) cs end
+default_slots l cs ts h e = by (is_assignment l.kind) h e
+  where
+    by : (g : Bool) → g ≡ true → cond g (Some (tree (relabelled assignment_target_with_default l) cs end)) (target_answer l cs) ≡ Some ts → ts ≡ tree (relabelled assignment_target_with_default l) cs end
+    by true h e = (let k : tree (relabelled assignment_target_with_default l) cs end ≡ ts = cc in sym k)
+    by false h e = absurd (false≢true h)
+
+always_some : (l : Label) (cs : Slots) → IsAssignment l → element_answer l cs ≡ None → ⊥
+always_some l cs h e = by (is_assignment l.kind) h e
+  where
+    by : (g : Bool) → g ≡ true → cond g (Some (tree (relabelled assignment_target_with_default l) cs end)) (target_answer l cs) ≡ None → ⊥
+    by true h e = absurd (cc)
+    by false h e = absurd (false≢true h)
+
+module _ {p : Parser} (q : Parser) {id : NodeId} {notes : Noted} (b : ReadBefore an_expression IsAssignment p id) where
+  kept : (found : Option NodeId) (o : Result NodeId Stop) (s : Parser) → Answer in_an_element element_answer p.nodes q.nodes id notes found → Finishes found notes.places q s o → KeepsInitialiser id p s o
+  kept (Some t) (Ok u) s a g = λ f x i.
+      let c = made_of {ids = Some t ∷ []} (a x.label x.slots (x.holds).numbers (x.holds).stands (x.holds).distinct) in
+      let nodes : s.nodes ≡ q.nodes = ap (λ (z : Parser). z.nodes) g.1.is in
+      subst (λ (z : NodeId). Holds s.nodes x.lo (length s.nodes) z.0 (relabelled assignment_target_with_default x.label) x.slots) (sym g.0) (subst (λ (ns : List Node). Holds ns x.lo (length ns) t.0 (relabelled assignment_target_with_default x.label) x.slots) (sym nodes) (held_of (bounded x) (let k = (Holds-range x.holds).0 in let j = Holds-below x.holds in omega arith) (Keeps-longer c.keeps) (subst (λ (ts : Slots). Slotted p.nodes q.nodes (x.holds).numbers (Some t ∷ []) ts) (default_slots x.label x.slots c.slots i c.is) c.slotted)))
+  kept (Some t) (Err Fatal) s a g = absurd g
+  kept (Some t) (Err NoMemory) s a g = refl
+  kept None o s a g =
+      let x = b.read in
+      let c = none_of (a x.label x.slots (x.holds).numbers (x.holds).stands (x.holds).distinct) in
+      absurd (always_some x.label x.slots b.is c.is)
+
+  pub keeps_there : (found : Option NodeId) (o : Result NodeId Stop) (s : Parser) → Answer in_an_element element_answer p.nodes q.nodes id notes found → Finishes found notes.places q s o → KeepsInitialiser id p s o
+  keeps_there = kept

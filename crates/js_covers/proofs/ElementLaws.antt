@@ -4,25 +4,25 @@ use Rattle.std.proofs.lemmas.Bool.{false≢true, or_left, or_right}
 use Rattle.std.specs.Prelude.{IsUtf8}
 use Rattle.js_base.specs.declared.kind.Kind.{Kind}
 use Rattle.js_base.specs.declared.span.Span.{Span}
-use Rattle.js_grammar.specs.Grammar.{Lexeme, Lexemes, last, next, such, ◌▸◌, Takes, Derives, is_lexeme, is_seq}
+use Rattle.js_grammar.specs.Grammar.{Lexemes, last, next, such, ◌▸◌, Takes, is_lexeme, is_seq}
 use Rattle.js_grammar.specs.Lexed.{Lexes}
 use Rattle.js_grammar.specs.Parsing.{always}
 use Rattle.js_grammar.specs.Productions.{Flags, at, tok, plus_in, has_flag, shorthand_flag, Assignment, Property, SimpleTarget, TargetElement, TargetProperty}
 use Rattle.js_grammar.specs.Table.{rule}
-use Rattle.js_grammar.specs.Trees.{NodeKind, Op, Span as TreeSpan, Label, Slots, end, hole, tree, Tree, object_property, function_expression, assignment_target_with_default}
+use Rattle.js_grammar.specs.Trees.{NodeKind, Span as TreeSpan, Label, Slots, end, hole, tree, Tree, object_property, function_expression, assignment_target_with_default}
 use Rattle.js_grammar.proofs.Behind.{lexed_behind}
 use Rattle.js_tree.specs.declared.id.NodeId.{NodeId}
 use Rattle.js_tree.specs.Nodes.{Node}
 use Rattle.js_parsing.specs.Lexemes.{Lex}
 use Rattle.js_targets.specs.declared.widening.Widening.{Widening}
 use Rattle.js_targets.specs.declared.widening.Widening.TheVariants.{Operator}
-use Rattle.js_targets.specs.Targets.{Each, Fits, Spotted, Spanned, in_literal, in_property, within, is_assignment, is_elision, is_equals, is_literal, is_property, is_spread, made_span, operator_places, property_places, places_in, places_of, relabelled, slot_of, target_by, elements_in, element_slot, rest_slot, property_slot, shorthand_slot, behind_first, reference_slot, named_slot, before_value, followed}
+use Rattle.js_targets.specs.Targets.{Each, Fits, Spotted, Spanned, in_property, within, is_assignment, is_elision, is_equals, is_literal, is_property, is_spread, made_span, operator_places, places_in, places_of, relabelled, slot_of, target_by, elements_in, element_slot, rest_slot, property_slot, behind_first, reference_slot, named_slot, before_value, followed}
 use Rattle.js_targets.proofs.ArrayElements.{Operated, operated, no_gap}
 use Rattle.js_targets.proofs.Edges.{Ends, first_led, taken, one_ends, then_ends, ends_then, spanned}
 use Rattle.js_targets.proofs.LiteralsAsTargets.{Led, led, all_of, assignment_kind, element_before, element_target, other_operator, property_target}
 use Rattle.js_targets.proofs.Properties.{PropertyOf, a_shorthand, a_value, a_method, a_spread, property_of}
 use Rattle.js_targets.proofs.TargetsAsLiterals.{element_source, property_source}
-use Rattle.js_covers.specs.Covered.{Read, NoneCovered, AnyLabel, IsAssignment, IsProperty, an_expression, in_a_target, in_an_element, in_a_property, target_answer, element_answer, property_answer}
+use Rattle.js_covers.specs.Covered.{Read, AnyLabel, IsAssignment, IsProperty, an_expression, in_a_target, in_an_element, in_a_property, target_answer, element_answer, property_answer}
 use Rattle.js_covers.proofs.Laws.{Lawful, Law, slot_parts, within as inside}
 use Rattle.js_covers.proofs.TargetLaws.{none_some, target_fits, target_spotted}
 

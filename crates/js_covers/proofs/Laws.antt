@@ -1,11 +1,10 @@
 -- What the conversion of an expression to a target says of derivations (ECMA-262, 13.15.5).
-use Rattle.std.proofs.Common.{ℕ, ◌≡◌, Bool, true, false, cond, List, [], ◌∷◌, Option, Some, None, inl, refl, sym, ap, subst, ◌∙◌}
+use Rattle.std.proofs.Common.{ℕ, ◌≡◌, Bool, true, false, List, Option, Some, None, inl, refl, sym, ap, subst, ◌∙◌}
 use Rattle.js_grammar.specs.Grammar.{Lexemes, such, Takes, Derives, is_such}
 use Rattle.js_grammar.specs.Parsing.{always}
-use Rattle.js_grammar.specs.Productions.{Flags, Symbol, at, LeftHandSide, Primary}
+use Rattle.js_grammar.specs.Productions.{Flags, Symbol, at, Primary}
 use Rattle.js_grammar.specs.Table.{rule}
 use Rattle.js_grammar.specs.Trees.{NodeKind, Label, Slots, end, tree, Tree}
-use Rattle.js_grammar.proofs.Calculus.{label_is, slots_are}
 use Rattle.js_tree.specs.declared.id.NodeId.{NodeId}
 use Rattle.js_tree.specs.Nodes.{Node}
 use Rattle.js_targets.specs.declared.widening.Widening.{Widening}
@@ -15,7 +14,7 @@ use Rattle.js_targets.proofs.LiteralsAsTargets.{Targeted, literal_target}
 use Rattle.js_targets.proofs.Spots.{literal_spots}
 use Rattle.js_targets.proofs.Targets.{by_primary}
 use Rattle.js_targets.proofs.TargetsAsLiterals.{literal_back}
-use Rattle.js_covers.specs.Covered.{OnlyTree, Read, NoneCovered, IsLiteral, in_a_literal, literal_answer}
+use Rattle.js_covers.specs.Covered.{Read, NoneCovered, IsLiteral, in_a_literal, literal_answer}
 
 -- The slots that an expression is converted to are those of a target over its lexemes; where there are none, no target is derived. And its places can be told.
 pub record Lawful (text : List ℕ) (m : Symbol) {n : Symbol} {ns : List Node} {id : NodeId} (x : Read text n ns id) (ws : List Widening) (r : Option Slots) : Type 0 where

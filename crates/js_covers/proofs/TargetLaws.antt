@@ -1,27 +1,27 @@
 -- Expressions as targets, simple ones and others (ECMA-262, 8.6.4 and 13.15.5).
-use Rattle.std.proofs.Common.{ℕ, ◌≡◌, Bool, true, false, cond, List, [], ◌∷◌, ◌++◌, Option, Some, None, inl, refl, sym, ap, subst, ◌∙◌}
+use Rattle.std.proofs.Common.{ℕ, ◌≡◌, Bool, true, false, cond, List, [], Option, Some, None, inl, refl, sym, ap, subst, ◌∙◌}
 use Rattle.std.specs.Prelude.{IsCharBoundary, IsUtf8}
 use Rattle.js_grammar.specs.Grammar.{Lexemes, such, Takes, Derives, is_such, is_left, is_right}
 use Rattle.js_grammar.specs.Lexed.{Lexes}
 use Rattle.js_grammar.specs.LexicalFaults.{Reached}
 use Rattle.js_grammar.specs.Parsing.{always}
-use Rattle.js_grammar.specs.Productions.{Flags, Symbol, at, plus_in, ArrayTarget, ObjectTarget, LeftHandSide, SimpleTarget, Target}
+use Rattle.js_grammar.specs.Productions.{Flags, at, plus_in, ArrayTarget, ObjectTarget, LeftHandSide, SimpleTarget, Target}
 use Rattle.js_grammar.specs.Productions.{sym as symbol}
 use Rattle.js_grammar.specs.Table.{rule, rule_of}
-use Rattle.js_grammar.specs.Trees.{NodeKind, Label, Slots, end, tree, Tree}
+use Rattle.js_grammar.specs.Trees.{Label, Slots, end, tree, Tree}
 use Rattle.js_tree.specs.declared.id.NodeId.{NodeId}
 use Rattle.js_tree.specs.Nodes.{Node}
 use Rattle.js_parsing.specs.Lexemes.{Lex}
 use Rattle.js_parsing.proofs.FreeOfIn.{any_in}
 use Rattle.js_targets.specs.declared.widening.Widening.{Widening}
 use Rattle.js_targets.specs.Taken.{target_name}
-use Rattle.js_targets.specs.Targets.{Each, Fits, Spotted, in_literal, within, is_literal, is_object, literal_kind, pattern_kind, relabelled, literal_tree, slot_of, target_by, target_of, elements_in, places_in}
+use Rattle.js_targets.specs.Targets.{Each, Fits, Spotted, in_literal, within, is_literal, is_object, literal_kind, pattern_kind, relabelled, literal_tree, slot_of, target_of, elements_in, places_in}
 use Rattle.js_targets.proofs.LiteralsAsTargets.{Targeted, literal_target}
 use Rattle.js_targets.proofs.Spots.{literal_spots}
 use Rattle.js_targets.proofs.Targets.{by_primary, is_literal_kind, kind_of_literal, left_hand_side_target, may_be, may_literal, may_target, of_assignment, target_left_hand_side}
 use Rattle.js_targets.proofs.TargetsAsLiterals.{literal_back, target_no_literal}
-use Rattle.js_covers.specs.Covered.{OnlyTree, Read, NoneCovered, AnyLabel, an_expression, no_places, in_a_target, simple_answer, target_answer}
-use Rattle.js_covers.proofs.Laws.{Lawful, Law, slot_parts, literal_parts, within as inside, elements_are, no_elements, literal_slots}
+use Rattle.js_covers.specs.Covered.{Read, NoneCovered, AnyLabel, an_expression, no_places, in_a_target, simple_answer, target_answer}
+use Rattle.js_covers.proofs.Laws.{Lawful, Law, slot_parts, within as inside, elements_are, no_elements, literal_slots}
 
 pub none_some : {a : Option Slots} {b : Slots} → a ≡ None → a ≡ Some b → ⊥
 none_some {b = b} e h = let k : None ≡ Some b = sym e ∙ h in absurd (cc)

@@ -1,5 +1,5 @@
 -- What an expression covers: the target that is derived from its lexemes (ECMA-262, 13.15.5).
-use Rattle.std.specs.Prelude.{ℕ, ◌≡◌, Bool, true, cond, List, [], ◌∷◌, length, Option, Some, None, Result, Ok, Err, IsCharBoundary, IsUtf8}
+use Rattle.std.specs.Prelude.{ℕ, ◌≡◌, Bool, true, cond, List, [], length, Option, Some, None, Result, Ok, Err, IsCharBoundary, IsUtf8}
 use Rattle.js_grammar.specs.Grammar.{Lexemes, Derives}
 use Rattle.js_grammar.specs.Lexed.{Lexes}
 use Rattle.js_grammar.specs.LexicalFaults.{Reached}
@@ -139,6 +139,11 @@ property_answer l cs = property_slot l cs (elements_in in_property cs)
 -- The node of an expression was converted to this, and its places were noted behind others.
 abbrev pub Answered : (places : Label → Slots → List Widening) (slots : Label → Slots → Option Slots) → List Node → List Node → NodeId → Noted → Noted → Option NodeId → Type 0
 Answered places slots os ns id noted notes found = OfNode os id (λ l cs rs. Converted os ns rs noted notes (places l cs) (one_node found) (slots l cs))
+
+-- An assignment is answered as a target with an initialiser, whose slots are its own; and no assignment is refused.
+abbrev pub KeepsInitialiser : NodeId → Parser → Parser → Result NodeId Stop → Type 0
+KeepsInitialiser from old new (Ok id) = (f : Flags) (x : Read old.text (an_expression f) old.nodes from) → IsAssignment x.label → Holds new.nodes x.lo (length new.nodes) id.0 (relabelled assignment_target_with_default x.label) x.slots
+KeepsInitialiser from old new (Err e) = e ≡ NoMemory
 
 -- ---- what is told of a conversion
 

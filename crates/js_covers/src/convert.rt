@@ -8,12 +8,14 @@ ghost use Rattle.js_parsing.specs.States.{Standing};
 ghost use Rattle.js_targets.specs.Targets.{Each, Fits, OfNode, Spotted, Stood, noted_in, unnoted};
 ghost use Rattle.js_targets.specs.Targets as target;
 ghost use Rattle.js_tree.specs.Labels.{kind_of};
-ghost use Rattle.js_covers.specs.Covered.{AnyLabel, Answered, CoversAs, Finishes, IsAssignment, IsLiteral, IsProperty, ReadBefore, an_expression, element_answer, in_a_literal, in_a_property, in_a_target, in_an_element, literal_answer, no_places, property_answer, simple_answer, target_answer};
+ghost use Rattle.js_covers.specs.Covered.{AnyLabel, Answered, CoversAs, Finishes, IsAssignment, IsLiteral, IsProperty, KeepsInitialiser, ReadBefore, an_expression, element_answer, in_a_literal, in_a_property, in_a_target, in_an_element, literal_answer, no_places, property_answer, simple_answer, target_answer};
 
 use js_base::NoMemory;
 use js_cursor::{ParserImpl, Stop};
 use js_lex::ParserConfig;
-use js_targets::array_target::{convert_assignment, convert_literal, convert_property, convert_target};
+use js_targets::array_target::{
+    convert_assignment, convert_literal, convert_property, convert_target,
+};
 use js_targets::cover::simple_target;
 use js_targets::widening::{Notes, Widening, tell_places};
 use js_tree::{NodeId, NodeKind, ParserAstBuilder};
@@ -157,10 +159,7 @@ fn property_node<C: ParserConfig>(
 /// # Errors
 ///
 /// `Fatal` where no target is derived from its lexemes, with what is told of the current lexeme; `NoMemory`.
-pub fn cover_array<C: ParserConfig>(
-    p: &mut ParserImpl<'_, C>,
-    id: NodeId,
-) -> Result<NodeId, Stop>
+pub fn cover_array<C: ParserConfig>(p: &mut ParserImpl<'_, C>, id: NodeId) -> Result<NodeId, Stop>
     requires at { Standing p.old }
     requires read { ReadBefore (at Primary) (IsLiteral false) p.old id }
     ensures { CoversAs (at Primary) (IsLiteral false) (at ArrayTarget) in_a_literal id p.old p.new result }
@@ -177,10 +176,7 @@ pub fn cover_array<C: ParserConfig>(
 /// # Errors
 ///
 /// `Fatal` where no target is derived from its lexemes, with what is told of the current lexeme; `NoMemory`.
-pub fn cover_object<C: ParserConfig>(
-    p: &mut ParserImpl<'_, C>,
-    id: NodeId,
-) -> Result<NodeId, Stop>
+pub fn cover_object<C: ParserConfig>(p: &mut ParserImpl<'_, C>, id: NodeId) -> Result<NodeId, Stop>
     requires at { Standing p.old }
     requires read { ReadBefore (at Primary) (IsLiteral true) p.old id }
     ensures { CoversAs (at Primary) (IsLiteral true) (at ObjectTarget) in_a_literal id p.old p.new result }
@@ -216,10 +212,7 @@ pub fn cover_simple_target<C: ParserConfig>(
 /// # Errors
 ///
 /// `Fatal` where no target is derived from its lexemes, with what is told of the current lexeme; `NoMemory`.
-pub fn cover_target<C: ParserConfig>(
-    p: &mut ParserImpl<'_, C>,
-    id: NodeId,
-) -> Result<NodeId, Stop>
+pub fn cover_target<C: ParserConfig>(p: &mut ParserImpl<'_, C>, id: NodeId) -> Result<NodeId, Stop>
     requires at { Standing p.old }
     requires read { ReadBefore an_expression AnyLabel p.old id }
     ensures { CoversAs an_expression AnyLabel (at Target) in_a_target id p.old p.new result }
@@ -235,10 +228,7 @@ pub fn cover_target<C: ParserConfig>(
 /// # Errors
 ///
 /// `Fatal` where no target is derived from its lexemes, with what is told of the current lexeme; `NoMemory`.
-pub fn cover_element<C: ParserConfig>(
-    p: &mut ParserImpl<'_, C>,
-    id: NodeId,
-) -> Result<NodeId, Stop>
+pub fn cover_element<C: ParserConfig>(p: &mut ParserImpl<'_, C>, id: NodeId) -> Result<NodeId, Stop>
     requires at { Standing p.old }
     requires read { ReadBefore an_expression AnyLabel p.old id }
     ensures { CoversAs an_expression AnyLabel (at TargetElement) in_an_element id p.old p.new result }
@@ -253,14 +243,15 @@ pub fn cover_element<C: ParserConfig>(
 ///
 /// # Errors
 ///
-/// `Fatal` where no target is derived from its lexemes, with what is told of the current lexeme; `NoMemory`.
+/// `NoMemory` alone: each assignment covers one.
 pub fn cover_with_default<C: ParserConfig>(
     p: &mut ParserImpl<'_, C>,
     id: NodeId,
 ) -> Result<NodeId, Stop>
     requires at { Standing p.old }
     requires read { ReadBefore an_expression IsAssignment p.old id }
-    ensures { CoversAs an_expression IsAssignment (at TargetElement) in_an_element id p.old p.new result }
+    ensures covers { CoversAs an_expression IsAssignment (at TargetElement) in_an_element id p.old p.new result }
+    ensures keeps { KeepsInitialiser id p.old p.new result }
 {
     let mut notes = no_notes(p.alloc);
     let found = assignment_node(p, id, &mut notes)?;

@@ -3,7 +3,7 @@
 ghost use Rattle.std.specs.Prelude.{Result, false, true};
 ghost use Rattle.js_grammar.specs.Productions.{at, ArrayTarget, ObjectTarget, Primary, Property, SimpleTarget, Target, TargetElement, TargetProperty};
 ghost use Rattle.js_parsing.specs.States.{Standing};
-ghost use Rattle.js_covers.specs.Covered.{AnyLabel, CoversAs, IsAssignment, IsLiteral, IsProperty, ReadBefore, an_expression, in_a_literal, in_a_property, in_a_target, in_an_element, no_places, numbered};
+ghost use Rattle.js_covers.specs.Covered.{AnyLabel, CoversAs, IsAssignment, IsLiteral, IsProperty, KeepsInitialiser, ReadBefore, an_expression, in_a_literal, in_a_property, in_a_target, in_an_element, no_places, numbered};
 
 use crate::convert::{
     cover_array, cover_element, cover_object, cover_property, cover_simple_target, cover_target,
@@ -96,7 +96,7 @@ impl<C: ParserConfig> CoverGrammar<ObjectExpressionId, C> for ObjectAssignmentTa
 impl<C: ParserConfig> CoverGrammar<AssignmentExpressionId, C> for AssignmentTargetWithDefaultId {
     ghost can = { λ value p. ReadBefore an_expression IsAssignment p value.0 };
 
-    ghost gives = { λ value old new r. CoversAs an_expression IsAssignment (at TargetElement) in_an_element value.0 old new (numbered (λ t. t.0) r) };
+    ghost gives = { λ value old new r. CoversAs an_expression IsAssignment (at TargetElement) in_an_element value.0 old new (numbered (λ t. t.0) r) × KeepsInitialiser value.0 old new (numbered (λ t. t.0) r) };
 
     fn cover(value: AssignmentExpressionId, p: &mut ParserImpl<'_, C>) -> Result<Self, Stop> {
         let id = cover_with_default(p, value.0)?;
