@@ -13,7 +13,7 @@ use Rattle.js_cursor.specs.Moves.{GivesUp, IsUnexpected}
 use Rattle.js_cursor.specs.Parsers.{Parser}
 use Rattle.js_cursor.specs.declared.stop.Stop.{Stop}
 use Rattle.js_cursor.specs.declared.stop.Stop.TheVariants.{Fatal, NoMemory}
-use Rattle.js_parsing.specs.Answers.{Grown, Stops, Verdict, clean}
+use Rattle.js_parsing.specs.Answers.{Grown, Verdict, clean}
 use Rattle.js_parsing.specs.States.{At, Same, NodesLie, Standing, flags_of}
 use Rattle.js_parsing.proofs.Giving.{gives_up_here}
 use Rattle.js_parsing.proofs.Moving.{beside_nodes, same_both, same_itself, same_with, standing, stops_behind}
@@ -21,7 +21,7 @@ use Rattle.js_targets.specs.declared.widening.Widening.{Widening}
 use Rattle.js_targets.specs.Taken.{PlacesTold}
 use Rattle.js_targets.specs.Targets.{Each, Fits, Narrow, Spotted, Noted, unnoted, Converted, converts, refuses, Converts, Refuses, OfNode, Reused, Slotted, Stood, one_node, is_assignment, relabelled}
 use Rattle.js_targets.proofs.ReusedNodes.{below_in, children_of}
-use Rattle.js_covers.specs.Covered.{Answered, IsAssignment, KeepsInitialiser, an_expression, in_an_element, element_answer, target_answer, Covers, CoversAs, Finishes, NoneCovered, Read, ReadBefore}
+use Rattle.js_covers.specs.Covered.{Answered, IsAssignment, KeepsInitialiser, an_expression, in_an_element, element_answer, target_answer, Covers, CoversAs, Finishes, Refused, Read, ReadBefore}
 use Rattle.js_covers.proofs.Laws.{Law}
 
 -- ---- the target's node
@@ -130,17 +130,24 @@ module _ {n : Flags → Symbol} {Is : Label → Type 0} {m : Flags → Symbol} {
         told h g = subst (λ (ws : List Widening). Verdict ⊥ p.errors s.errors (Each (Narrow p.text) ws) (Each (Narrow p.text) ws → ⊥)) h (subst (λ (ds : List Diagnostic). Verdict ⊥ ds s.errors (Each (Narrow p.text) notes.places) (Each (Narrow p.text) notes.places → ⊥)) (ap (λ (z : Parser). z.errors) e) (subst (λ (v : List ℕ). Verdict ⊥ q.errors s.errors (Each (Narrow v) notes.places) (Each (Narrow v) notes.places → ⊥)) (text_there p e) g.verdict))
 
     -- none was found
-    uncovered : (st : Stop) → Answer places r p.nodes q.nodes id notes None → Standing p → GivesUp (IsUnexpected q) q s st → Stops p s st (NoneCovered (m f) x)
-    uncovered st a h g =
+    uncovered : Answer places r p.nodes q.nodes id notes None → Standing p → GivesUp (IsUnexpected q) q s Fatal → Refused (m f) p s x
+    uncovered a h g =
         let c = none_of (of_read None x a) in
-        stops_behind s st (same_there e c.keeps c.lies) (λ k. subst (λ (ds : List Diagnostic). Grown ds s.errors) (ap (λ (z : Parser). z.errors) e) k) (λ z. z) (gives_up_here q s st (at_there e h) g ((law.of p.text f v w x i).complete c.is))
+        let n = (law.of p.text f v w x i).complete c.is in
+        record {
+          none = n;
+          nodes = q.nodes;
+          keeps = c.keeps;
+          told = subst (λ (z : Parser). GivesUp (IsUnexpected z) z s Fatal) e g;
+          stops = stops_behind s Fatal (same_there e c.keeps c.lies) (λ k. subst (λ (ds : List Diagnostic). Grown ds s.errors) (ap (λ (z : Parser). z.errors) e) k) (λ z. z) (gives_up_here q s Fatal (at_there e h) g n);
+        }
 
   finished : (found : Option NodeId) (o : Result NodeId Stop) (s : Parser) → Answer places r p.nodes q.nodes id notes found → Standing p → Finishes found notes.places q s o → CoversAs n Is m places id p s o
   finished (Some t) (Ok u) s a h g = λ f v w x i. subst (λ (z : NodeId). Covers (m f) places p s x z) (sym g.0) (covered v w x i s a g.1)
   finished (Some t) (Err Fatal) s a h g = absurd g
   finished (Some t) (Err NoMemory) s a h g = λ f v w x i. tt
   finished None (Ok u) s a h g = absurd g
-  finished None (Err Fatal) s a h g = λ f v w x i. uncovered v w x i s Fatal a h g
+  finished None (Err Fatal) s a h g = λ f v w x i. uncovered v w x i s a h g
   finished None (Err NoMemory) s a h g = λ f v w x i. tt
 
   pub covers_there : (found : Option NodeId) (o : Result NodeId Stop) (s : Parser) → Answer places r p.nodes q.nodes id notes found → Standing p → Finishes found notes.places q s o → CoversAs n Is m places id p s o

@@ -69,10 +69,22 @@ pub record Covers (m : Symbol) {text : List ℕ} {n : Symbol} {from : NodeId} (p
 abbrev pub NoneCovered : Symbol → {text : List ℕ} {n : Symbol} {ns : List Node} {from : NodeId} → Read text n ns from → Type 0
 NoneCovered m x = (t : Tree) → Derives rule m t x.place x.lexemes x.behind x.rest → ⊥
 
+-- No target is derived from the same lexemes, and what stands here was told. Nodes may have been made before that was known.
+pub record Refused (m : Symbol) {text : List ℕ} {n : Symbol} {from : NodeId} (old new : Parser) (x : Read text n old.nodes from) : Type 0 where
+  pub none : NoneCovered m x
+  pub nodes : List Node
+  pub keeps : KeepsNodes old.nodes nodes
+  pub told : GivesUp (IsUnexpected (record old { nodes = nodes })) (record old { nodes = nodes }) new Fatal
+  pub stops : Stops old new Fatal (NoneCovered m x)
+
+abbrev pub Stopped : Symbol → {text : List ℕ} {n : Symbol} {from : NodeId} (old new : Parser) → Read text n old.nodes from → Stop → Type 0
+Stopped m old new x Fatal = Refused m old new x
+Stopped m old new x NoMemory = Unit {0}
+
 -- of each tree that the node stands for
 abbrev pub CoversOr : Symbol → {text : List ℕ} {n : Symbol} {from : NodeId} (places : Label → Slots → List Widening) (old new : Parser) → Read text n old.nodes from → Result NodeId Stop → Type 0
 CoversOr m places old new x (Ok id) = Covers m places old new x id
-CoversOr m places old new x (Err e) = Stops old new e (NoneCovered m x)
+CoversOr m places old new x (Err e) = Stopped m old new x e
 
 -- An expression of the symbol n with such a label is answered as a target of the symbol m, over the same lexemes. The node is any that was read, and the parameters are any of a cover grammar with targets in their wider form.
 abbrev pub CoversAs : (Flags → Symbol) → (Label → Type 0) → (Flags → Symbol) → (Label → Slots → List Widening) → NodeId → Parser → Parser → Result NodeId Stop → Type 0
