@@ -2,3 +2,4 @@ mod Laws
 mod Answers
 mod TargetLaws
 mod ElementLaws
+pub mod WasRead
