@@ -1,0 +1,5 @@
+mod Laws
+mod Answers
+mod TargetLaws
+mod ElementLaws
+pub mod WasRead
