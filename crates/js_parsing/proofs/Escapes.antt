@@ -1,18 +1,24 @@
--- What is read has no escape, unless it is a plain name.
-use Rattle.std.proofs.Common.{ℕ, ◌≡◌, Bool, true, false, not, ◌&&◌, List, IsTrue, refl, sym, ap, subst, ◌∙◌}
+-- Which lexemes have an escape: names and words alone.
+use Rattle.std.proofs.Common.{ℕ, ◌≡◌, Bool, true, false, not, ◌&&◌, ◌||◌, List, IsTrue, refl, sym, ap, subst, ◌∙◌}
 use Rattle.std.proofs.lemmas.Bool.{false≢true, and_parts, and_from}
 use Rattle.js_base.specs.declared.kind.Kind.{Kind}
-use Rattle.js_base.specs.declared.kind.Kind.TheVariants.{Ident}
+use Rattle.js_base.specs.declared.kind.Kind.TheVariants.{Ident, PrivateIdentifier}
 use Rattle.js_base.specs.declared.token.Token.{Token}
 use Rattle.js_base.specs.Kinds.{same_kind, one_of_kinds}
+use Rattle.js_base.specs.Texts.{words}
 use Rattle.js_base.proofs.KindLemmas.{kind_of_same}
-use Rattle.js_grammar.specs.Grammar.{Lexeme}
+use Rattle.js_grammar.specs.Grammar.{Lexeme, Look}
+use Rattle.js_grammar.specs.Lexemes.{is_word}
+use Rattle.js_grammar.specs.Names.{has_backslash}
 use Rattle.js_grammar.specs.Productions.{Flags}
+use Rattle.js_grammar.specs.Pruning.{every_kind}
+use Rattle.js_grammar.proofs.Looks.{covers, covered}
 use Rattle.js_lex.specs.Reading.{Tells, is_right_angle}
 use Rattle.js_cursor.specs.Parsers.{Parser}
-use Rattle.js_parsing.specs.Lexemes.{Lex, escaped_word, is_read, other_goals, read_kinds}
+use Rattle.js_parsing.specs.Lexemes.{Lex, escaped_word, is_read, other_goals, read_kinds, read_word}
 use Rattle.js_parsing.specs.States.{At}
 use Rattle.js_parsing.proofs.Here.{angled, escaped_here, told_plain}
+use Rattle.js_parsing.proofs.Paths.{of_every}
 
 -- what holds of a kind, and not of a plain name's
 pub no_name_where : (P : Kind → Bool) (k : Kind) → P k ≡ true → P Ident ≡ false → same_kind Ident k ≡ false
@@ -60,48 +66,63 @@ plain_here p e n w h = (e, plain_word p.token e n (sym w ∙ h))
 pub unescaped_word : (k : Kind) (e : Bool) → e ≡ false → escaped_word k e ≡ false
 unescaped_word k e h = ap (λ (b : Bool). b && not (same_kind Ident k)) h
 
+abbrev sign_like : Look
+sign_like k w e = one_of_kinds read_kinds k && not (read_word k)
+
+abbrev unescapable : Look
+unescapable k w e = not (is_word k || same_kind PrivateIdentifier k)
+
+signs_unescapable : covers sign_like unescapable ≡ true
+unfolding covers words
+signs_unescapable = refl
+
 is_not : (b : Bool) → not b ≡ true → b ≡ false
 is_not true h = absurd (false≢true h)
 is_not false h = refl
 
-pub read_word_plain : (y : Lexeme) → IsTrue (is_read y) → escaped_word y.kind y.escaped ≡ false
-read_word_plain y h = is_not (escaped_word y.kind y.escaped) (and_parts (one_of_kinds read_kinds y.kind) _ h).1
-
--- what is read and is no plain name has no escape
-pub read_unnamed : (y : Lexeme) → IsTrue (is_read y) → same_kind Ident y.kind ≡ false → y.escaped ≡ false
-read_unnamed y h n = word_plain y.kind y.escaped n (read_word_plain y h)
+-- what is read and is no word has no escape
+pub read_unnamed : {text : List ℕ} {s : ℕ} (y : Lexeme) → Lex text s y → read_word y.kind ≡ false → y.escaped ≡ false
+read_unnamed y l n = l.0.escaped ∙ ap (λ (b : Bool). b && has_backslash l.0.word) (is_not (is_word y.kind || same_kind PrivateIdentifier y.kind) (covered sign_like unescapable signs_unescapable y.kind false false (and_from _ _ l.1 (ap not n))))
 
 -- of a kind
-pub read_plain : {k : Kind} (y : Lexeme) → IsTrue (is_read y) → y.kind ≡ k → same_kind Ident k ≡ false → y.escaped ≡ false
-read_plain y h e n = read_unnamed y h (ap (same_kind Ident) e ∙ n)
+pub read_plain : {k : Kind} {text : List ℕ} {s : ℕ} (y : Lexeme) → Lex text s y → y.kind ≡ k → read_word k ≡ false → y.escaped ≡ false
+read_plain y l e n = read_unnamed y l (ap read_word e ∙ n)
 
 -- one of these kinds
-pub read_listed : (ks : List Kind) (y : Lexeme) → IsTrue (is_read y) → one_of_kinds ks y.kind ≡ true → one_of_kinds ks Ident ≡ false → y.escaped ≡ false
-read_listed ks y h m n = read_unnamed y h (no_name_where (one_of_kinds ks) y.kind m n)
+pub read_listed : (ks : List Kind) {text : List ℕ} {s : ℕ} (y : Lexeme) → Lex text s y → one_of_kinds ks y.kind ≡ true → every_kind (λ k. not (read_word k)) ks ≡ true → y.escaped ≡ false
+read_listed ks y l m n = read_unnamed y l (is_not (read_word y.kind) (of_every (λ k. not (read_word k)) ks y.kind n m))
 
--- a token of a kind that is read, which is no word with an escape, is the whole of a lexeme that is
-pub read_as : (y : Lexeme) {t : Token} → Tells y t → escaped_word t.kind t.escaped ≡ false → one_of_kinds read_kinds t.kind ≡ true → IsTrue (is_read y)
-read_as y {t} s n h =
-    let same : escaped_word t.kind t.escaped ≡ escaped_word y.kind y.escaped = λ i. escaped_word (s.kind i) (s.escaped i) in
-    and_from _ _ (subst (λ (k : Kind). one_of_kinds read_kinds k ≡ true) s.kind h) (ap not (sym same ∙ n))
+-- a token of a kind that is read is the whole of a lexeme that is
+pub read_as : (y : Lexeme) {t : Token} → Tells y t → one_of_kinds read_kinds t.kind ≡ true → IsTrue (is_read y)
+read_as y s h = subst (λ (k : Kind). one_of_kinds read_kinds k ≡ true) s.kind h
 
--- and the token of a lexeme that is read is none
-pub token_read : {y : Lexeme} {t : Token} → Tells y t → IsTrue (is_read y) → escaped_word t.kind t.escaped ≡ false
-token_read {y} {t} s h =
-    let same : escaped_word t.kind t.escaped ≡ escaped_word y.kind y.escaped = λ i. escaped_word (s.kind i) (s.escaped i) in
-    same ∙ read_word_plain y h
+-- where a word with an escape stands, every lexeme has one
+pub all_escaped : {text : List ℕ} {f : Flags} {p : Parser} → At text f p → escaped_word p.token.kind p.token.escaped ≡ true → (y : Lexeme) → Lex text p.prev_token_end y → y.escaped ≡ true
+all_escaped {p = p} a e y l = escaped_here a y l ∙ (and_parts p.token.escaped (not (same_kind Ident p.token.kind)) e).0
 
--- where a word with an escape stands, no lexeme is read
-pub none_escaped : {text : List ℕ} {f : Flags} {p : Parser} → At text f p → escaped_word p.token.kind p.token.escaped ≡ true → (y : Lexeme) → Lex text p.prev_token_end y → ⊥
-none_escaped {text} {p = p} a e y l = go (same_kind Ident y.kind) refl
+abbrev a_word : Look
+a_word k w e = read_word k
+
+abbrev settled_look : Look
+settled_look k w e = not (is_right_angle k) && not (one_of_kinds other_goals k)
+
+words_settled : covers a_word settled_look ≡ true
+unfolding covers
+words_settled = refl
+
+-- it is of the token's kind
+pub kind_escaped : {text : List ℕ} {f : Flags} {p : Parser} → At text f p → p.token.escaped ≡ true → (y : Lexeme) → Lex text p.prev_token_end y → y.kind ≡ p.token.kind
+kind_escaped {p = p} a e y l = go p.cut refl
   where
-    parts : (p.token.escaped ≡ true) × (not (same_kind Ident p.token.kind) ≡ true)
-    parts = and_parts p.token.escaped (not (same_kind Ident p.token.kind)) e
+    word : (b : Bool) → read_word y.kind ≡ b → read_word y.kind ≡ true
+    word true q = q
+    word false q = absurd (false≢true (sym (read_unnamed y l q) ∙ (escaped_here a y l ∙ e)))
 
-    at_name : y.kind ≡ Ident → (c : Bool) → p.cut ≡ c → ⊥
-    at_name k true c = false≢true (sym (ap is_right_angle k) ∙ angled a c y l)
-    at_name k false c = false≢true (sym (ap (λ (v : Kind). not (same_kind Ident v)) ((told_plain a c y (ap (one_of_kinds other_goals) k) l).kind ∙ k)) ∙ parts.1)
+    apart : (is_right_angle y.kind ≡ false) × (one_of_kinds other_goals y.kind ≡ false)
+    apart =
+        let z = and_parts (not (is_right_angle y.kind)) _ (covered a_word settled_look words_settled y.kind false false (word (read_word y.kind) refl)) in
+        (is_not (is_right_angle y.kind) z.0, is_not (one_of_kinds other_goals y.kind) z.1)
 
-    go : (b : Bool) → same_kind Ident y.kind ≡ b → ⊥
-    go true i = at_name (sym (kind_of_same Ident y.kind i)) p.cut refl
-    go false n = false≢true (sym (read_unnamed y l.1 n) ∙ (escaped_here a y l ∙ parts.0))
+    go : (b : Bool) → p.cut ≡ b → y.kind ≡ p.token.kind
+    go true c = absurd (false≢true (sym apart.0 ∙ angled a c y l))
+    go false c = sym (told_plain a c y apart.1 l).kind

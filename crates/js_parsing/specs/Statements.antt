@@ -17,7 +17,7 @@ use Rattle.js_tree.specs.Holding.{Holds, Keeps}
 use Rattle.js_cursor.specs.Parsers.{Parser}
 use Rattle.js_cursor.specs.Moves.{Ends, MayEnd}
 use Rattle.js_cursor.specs.declared.stop.Stop.{Stop}
-use Rattle.js_parsing.specs.Lexemes.{Lex, Walked, escaped_word, may_name, spot}
+use Rattle.js_parsing.specs.Lexemes.{Lex, Walked, may_name, spot}
 use Rattle.js_parsing.specs.States.{At, Same}
 use Rattle.js_parsing.specs.Answers.{Verdict, Stretch, Stops, Numbered}
 
@@ -84,7 +84,6 @@ EndsStatement old new = (old.token.is_on_new_line ≡ true → one_of_kinds link
 pub record IsLabel (t : Token) (p : Parser) : Type 0 where
   pub colon : p.token.kind ≡ Colon
   pub name : may_name (has_flag yield_flag p.ctx) (has_flag await_flag p.ctx) t.kind ≡ true
-  pub plain : escaped_word t.kind t.escaped ≡ false
   pub place : t.span.end ≡ p.prev_token_end
 
 -- a statement doesn't end here

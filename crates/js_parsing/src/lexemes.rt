@@ -70,8 +70,8 @@ pub fn stands<C: ParserConfig>(p: &ParserImpl<'_, C>, kind: Kind) -> bool
     p.at(kind) && !p.cur_token().escaped()
 }
 
-/// Whether it has an escape, and is no plain name: a word of the keyword table, of which the rules are others then
-/// (ECMA-262, section 12.7.2).
+/// Whether it has an escape, and is no plain name: a word of the keyword table, which is no keyword then (ECMA-262,
+/// section 12.7.2).
 #[inline(always)]
 pub fn is_escaped_word(token: Token) -> bool
     ensures { result ≡ escaped_word token.kind token.escaped }
@@ -147,15 +147,15 @@ pub fn is_name_here<C: ParserConfig>(p: &ParserImpl<'_, C>, kind: Kind) -> bool
     is_name_under(kind, p.ctx.has_yield(), p.ctx.has_await())
 }
 
-/// Whether a name stands here, with no escape but in a plain name, where the parameters Yield and Await are these.
+/// Whether a name stands here, with an escape or without, where the parameters Yield and Await are these.
 #[inline(always)]
 pub fn name_stands_under<C: ParserConfig>(p: &ParserImpl<'_, C>, yields: bool, awaits: bool) -> bool
     ensures { NameUnder yields awaits p.now result }
 {
-    is_name_under(p.cur_kind(), yields, awaits) && !escaped_word_stands(p)
+    is_name_under(p.cur_kind(), yields, awaits)
 }
 
-/// Whether a name stands here, with no escape but in a plain name.
+/// Whether a name stands here, with an escape or without.
 #[inline(always)]
 pub fn name_stands<C: ParserConfig>(p: &ParserImpl<'_, C>) -> bool
     ensures { NameHere p.now result }
@@ -312,7 +312,7 @@ pub fn reads_here<C: ParserConfig>(p: &ParserImpl<'_, C>) -> bool
     requires { Standing p.now }
     ensures { ReadsHere p.now result }
 {
-    !escaped_word_stands(p) && is_read_kind(p.cur_kind())
+    is_read_kind(p.cur_kind())
 }
 
 /// Whether a production that isn't built yet begins with this lexeme: all that begins with the kinds that are read is built.
