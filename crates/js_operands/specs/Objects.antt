@@ -1,8 +1,9 @@
 -- What the parse functions of object literals answer (ECMA-262, 13.2.5): each form of a property, and the list of them as far as it was read.
-use Rattle.std.specs.Prelude.{ℕ, ◌+◌, ◌≡◌, ◌||◌, Bool, false, true, List, [], ◌∷◌, ◌++◌, Option, Some, None, if◌then◌else◌, Result, Ok, Err}
+use Rattle.std.specs.Prelude.{ℕ, ◌+◌, ◌≡◌, ◌||◌, Bool, cond, false, true, List, [], ◌∷◌, ◌++◌, Option, Some, None, if◌then◌else◌, Result, Ok, Err}
 use Rattle.js_base.specs.declared.kind.Kind.{Kind}
-use Rattle.js_base.specs.declared.kind.Kind.TheVariants.{Async, Colon, Comma, Eq, Get, LCurly, LParen, RBrack, RCurly, RParen, Set, Star}
+use Rattle.js_base.specs.declared.kind.Kind.TheVariants.{Async, Colon, Comma, Eq, Get, Ident, LCurly, LParen, RBrack, RCurly, RParen, Set, Star}
 use Rattle.js_base.specs.declared.span.Span.{Span}
+use Rattle.js_base.specs.declared.token.Token.{Token}
 use Rattle.js_base.specs.Kinds.{same_kind, one_of_kinds}
 use Rattle.js_grammar.specs.Trees.{Label, Op, end, function_expression, init, no_op, object_property, of}
 use Rattle.js_grammar.specs.Grammar.{ahead, commas, never, nothing, when, ◌▸◌, ◌◇◌}
@@ -23,7 +24,7 @@ use Rattle.js_parsing.specs.declared.nested.MethodForm.{MethodForm}
 use Rattle.js_parsing.specs.declared.nested.MethodForm.TheVariants.{Method, Getter, Setter}
 use Rattle.js_parsing.specs.Answers.{Stops}
 use Rattle.js_parsing.specs.Arguments.{Partway}
-use Rattle.js_parsing.specs.Lexemes.{Lex, escaped_word, may_name}
+use Rattle.js_parsing.specs.Lexemes.{Lex, may_name}
 use Rattle.js_parsing.specs.Methods.{parameters_of}
 use Rattle.js_parsing.specs.Moves.{Moved}
 use Rattle.js_parsing.specs.States.{At}
@@ -96,6 +97,10 @@ function_label a s from to = record { kind = function_expression; op = no_op; fl
 abbrev pub ends_name_kinds : List Kind
 ends_name_kinds = Colon ∷ LParen ∷ Eq ∷ Comma ∷ RParen ∷ RBrack ∷ RCurly ∷ []
 
+-- which keyword it is: with an escape it is a name and none (ECMA-262, 12.7.2)
+abbrev pub keyword_kind : Token → Kind
+keyword_kind t = cond t.escaped Ident t.kind
+
 -- which accessor a word begins before another lexeme
 abbrev pub form_of : Kind → Kind → Option MethodForm
 form_of word behind = if one_of_kinds ends_name_kinds behind then None else (if same_kind Get word then Some Getter else (if same_kind Set word then Some Setter else None))
@@ -130,7 +135,6 @@ ReadsBehindName start n old new r = (text : List ℕ) (f : Flags) (first : Parse
 -- a name stands here, by these parameters
 pub record IsName (f : Flags) (p : Parser) : Type 0 where
   pub kind : may_name f.yield_ f.await_ p.token.kind ≡ true
-  pub plain : escaped_word p.token.kind p.token.escaped ≡ false
 
 -- Its first word was passed: what stands behind it makes of it an accessor, or a name alone.
 abbrev pub ReadsAccessor : ℕ → MethodForm → Parser → Parser → Result NodeId Stop → Type 0

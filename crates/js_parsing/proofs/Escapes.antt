@@ -88,9 +88,13 @@ read_unnamed y l n = l.0.escaped ∙ ap (λ (b : Bool). b && has_backslash l.0.w
 pub read_plain : {k : Kind} {text : List ℕ} {s : ℕ} (y : Lexeme) → Lex text s y → y.kind ≡ k → read_word k ≡ false → y.escaped ≡ false
 read_plain y l e n = read_unnamed y l (ap read_word e ∙ n)
 
+-- none of these kinds is a word's
+pub no_word_among : (ks : List Kind) (k : Kind) → every_kind (λ k. not (read_word k)) ks ≡ true → one_of_kinds ks k ≡ true → read_word k ≡ false
+no_word_among ks k n m = is_not (read_word k) (of_every (λ k. not (read_word k)) ks k n m)
+
 -- one of these kinds
 pub read_listed : (ks : List Kind) {text : List ℕ} {s : ℕ} (y : Lexeme) → Lex text s y → one_of_kinds ks y.kind ≡ true → every_kind (λ k. not (read_word k)) ks ≡ true → y.escaped ≡ false
-read_listed ks y l m n = read_unnamed y l (is_not (read_word y.kind) (of_every (λ k. not (read_word k)) ks y.kind n m))
+read_listed ks y l m n = read_unnamed y l (no_word_among ks y.kind n m)
 
 -- a token of a kind that is read is the whole of a lexeme that is
 pub read_as : (y : Lexeme) {t : Token} → Tells y t → one_of_kinds read_kinds t.kind ≡ true → IsTrue (is_read y)
@@ -110,17 +114,21 @@ words_settled : covers a_word settled_look ≡ true
 unfolding covers
 words_settled = refl
 
+-- what has an escape is a word
+pub word_escaped : {text : List ℕ} {s : ℕ} (y : Lexeme) → Lex text s y → y.escaped ≡ true → read_word y.kind ≡ true
+word_escaped y l e = go (read_word y.kind) refl
+  where
+    go : (b : Bool) → read_word y.kind ≡ b → read_word y.kind ≡ true
+    go true q = q
+    go false q = absurd (false≢true (sym (read_unnamed y l q) ∙ e))
+
 -- it is of the token's kind
 pub kind_escaped : {text : List ℕ} {f : Flags} {p : Parser} → At text f p → p.token.escaped ≡ true → (y : Lexeme) → Lex text p.prev_token_end y → y.kind ≡ p.token.kind
 kind_escaped {p = p} a e y l = go p.cut refl
   where
-    word : (b : Bool) → read_word y.kind ≡ b → read_word y.kind ≡ true
-    word true q = q
-    word false q = absurd (false≢true (sym (read_unnamed y l q) ∙ (escaped_here a y l ∙ e)))
-
     apart : (is_right_angle y.kind ≡ false) × (one_of_kinds other_goals y.kind ≡ false)
     apart =
-        let z = and_parts (not (is_right_angle y.kind)) _ (covered a_word settled_look words_settled y.kind false false (word (read_word y.kind) refl)) in
+        let z = and_parts (not (is_right_angle y.kind)) _ (covered a_word settled_look words_settled y.kind false false (word_escaped y l (escaped_here a y l ∙ e))) in
         (is_not (is_right_angle y.kind) z.0, is_not (one_of_kinds other_goals y.kind) z.1)
 
     go : (b : Bool) → p.cut ≡ b → y.kind ≡ p.token.kind

@@ -1,9 +1,6 @@
 -- What is said where a parse function gives up, and where nothing is read.
-use Rattle.std.proofs.Common.{ℕ, ◌≡◌, Bool, true, false, not, ◌&&◌, List, [], ◌∷◌, IsTrue, sym, ap, subst, ◌∙◌}
-use Rattle.std.proofs.lemmas.Bool.{false≢true, and_parts, and_from}
+use Rattle.std.proofs.Common.{ℕ, ◌≡◌, true, List, [], ◌∷◌, sym, ap, subst, ◌∙◌}
 use Rattle.js_base.specs.declared.diagnostic.Diagnostic.{Diagnostic}
-use Rattle.js_base.specs.declared.kind.Kind.TheVariants.{Ident}
-use Rattle.js_base.specs.Kinds.{same_kind, one_of_kinds}
 use Rattle.js_grammar.specs.Trees.{Slots, end}
 use Rattle.js_grammar.specs.Grammar.{Lexeme, Look, here, seen}
 use Rattle.js_grammar.specs.Parsing.{Test, Fails}
@@ -14,17 +11,16 @@ use Rattle.js_grammar.proofs.Calculus.{here_at}
 use Rattle.js_grammar.proofs.First.{starts}
 use Rattle.js_grammar.proofs.FirstClaims.{firsts}
 use Rattle.js_grammar.proofs.FirstRules.{fails_here}
-use Rattle.js_grammar.proofs.Looks.{covers, covered}
+use Rattle.js_grammar.proofs.Looks.{apart, not_both}
 use Rattle.js_cursor.specs.Parsers.{Parser}
 use Rattle.js_cursor.specs.Moves.{Keeps, GivesUp, IsUnexpected, OnlyMemory}
 use Rattle.js_cursor.specs.declared.stop.Stop.{Stop}
 use Rattle.js_cursor.specs.declared.stop.Stop.TheVariants.{Fatal, NoMemory}
 use Rattle.js_cursor.proofs.Later.{keeps_follows}
 use Rattle.js_parsing.specs.Heads.{NotedHeads}
-use Rattle.js_parsing.specs.Lexemes.{Lex, escaped_word, may_name, read_kinds}
+use Rattle.js_parsing.specs.Lexemes.{Lex}
 use Rattle.js_parsing.specs.States.{At, NodesLie}
 use Rattle.js_parsing.specs.Answers.{Grown, Stops, Unbuilt}
-use Rattle.js_parsing.proofs.Escapes.{kind_escaped}
 use Rattle.js_parsing.proofs.Here.{escaped_here}
 use Rattle.js_parsing.proofs.ToEnd.{to_end_stays, unbuilt_to_end}
 use Rattle.js_parsing.specs.Classes.{EndsParse}
@@ -62,18 +58,6 @@ memory_stops p q NoMemory F m = tt
 pub fails_none : {text : List ℕ} {s : ℕ} {X : Test} {ks : Slots} {g : G} → ((y : Lexeme) → Lex text s y → ⊥) → Fails rule (Lex text) X ks g s
 fails_none {text} n = record { no = λ ts vs k ls rest l d e. n (here ls) (here_at (Lex text) ls l) }
 
--- Of what begins with an escape, only names are among what may begin g.
-abbrev pub begins_plainly : Bool → Bool → G → Look → Bool
-begins_plainly yields awaits g F = covers (λ k w e. starts first g F k w e && (one_of_kinds read_kinds k && e)) (λ k w e. may_name yields awaits k)
-
--- where a word with an escape stands that is no name, nothing of it is derived
-pub fails_escaped : {text : List ℕ} {f : Flags} {p : Parser} {X : Test} (g : G) → At text f p → begins_plainly f.yield_ f.await_ g X.base ≡ true → escaped_word p.token.kind p.token.escaped ≡ true → may_name f.yield_ f.await_ p.token.kind ≡ false → Fails rule (Lex text) X end g p.prev_token_end
-fails_escaped {text} {f} {p} {X} g a c e n = fails_here firsts none
-  where
-    escaped : p.token.escaped ≡ true
-    escaped = (and_parts p.token.escaped (not (same_kind Ident p.token.kind)) e).0
-
-    none : (y : Lexeme) → Lex text p.prev_token_end y → IsTrue (seen (starts first g X.base) y) → ⊥
-    none y l h =
-        let name = covered (λ k w e. starts first g X.base k w e && (one_of_kinds read_kinds k && e)) (λ k w e. may_name f.yield_ f.await_ k) c y.kind y.newline y.escaped (and_from _ _ h (and_from _ _ l.1 (escaped_here a y l ∙ escaped))) in
-        false≢true (sym n ∙ (ap (may_name f.yield_ f.await_) (sym (kind_escaped a escaped y l)) ∙ name))
+-- where a lexeme with an escape stands, nothing is derived that begins with none
+pub fails_unescaped : {text : List ℕ} {f : Flags} {p : Parser} {X : Test} (g : G) → At text f p → apart (starts first g X.base) (λ k w e. e) ≡ true → p.token.escaped ≡ true → Fails rule (Lex text) X end g p.prev_token_end
+fails_unescaped {p = p} {X} g a c e = fails_here firsts (λ y l h. not_both (starts first g X.base) (λ k w e. e) c y.kind y.newline y.escaped h (escaped_here a y l ∙ e))

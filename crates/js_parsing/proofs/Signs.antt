@@ -1,12 +1,12 @@
 -- Whether a lexeme of some kind stands at a place, and what is kept there.
-use Rattle.std.proofs.Common.{ℕ, ◌≡◌, ◌≤◌, List, [], ◌∷◌, length, Bool, true, false, ◌&&◌, ◌||◌, IsTrue, refl, sym, ap, subst, arith, ◌∙◌}
-use Rattle.std.proofs.lemmas.Bool.{false≢true}
+use Rattle.std.proofs.Common.{ℕ, ◌≡◌, ◌≤◌, List, [], ◌∷◌, length, Bool, true, false, not, ◌&&◌, ◌||◌, IsTrue, refl, sym, ap, subst, arith, ◌∙◌}
+use Rattle.std.proofs.lemmas.Bool.{false≢true, and_parts}
 use Rattle.js_base.specs.declared.kind.Kind.{Kind}
 use Rattle.js_base.specs.declared.kind.Kind.TheVariants.{Question, Colon, PrivateIdentifier, RAngle, Undetermined}
 use Rattle.js_base.specs.declared.span.Span.{Span}
 use Rattle.js_base.specs.Kinds.{same_kind, one_of_kinds}
 use Rattle.js_base.specs.Texts.{words}
-use Rattle.js_grammar.specs.Grammar.{Lexeme}
+use Rattle.js_grammar.specs.Grammar.{Lexeme, Look, is, seen}
 use Rattle.js_grammar.specs.Lexemes.{is_word, is_escaped}
 use Rattle.js_grammar.specs.Names.{has_backslash}
 use Rattle.js_grammar.specs.Productions.{Flags}
@@ -22,6 +22,7 @@ use Rattle.std.proofs.Common.{◌<◌, ◌⊎◌, inl, inr, length-append, cond,
 use Rattle.std.proofs.lemmas.Bool.{or_left, or_right, lt-ltb}
 use Rattle.js_base.specs.declared.kind.Kind.TheVariants.{Eof, Comma, Semicolon, RParen, RBrack}
 use Rattle.js_grammar.proofs.Lexemes.{first_or}
+use Rattle.js_grammar.proofs.Looks.{covers, covered}
 use Rattle.js_lex.specs.Reading.{Tells}
 use Rattle.js_parsing.specs.Answers.{Grown, Verdict, clean, unclean, wider}
 use Rattle.js_parsing.specs.Lexemes.{read_kinds}
@@ -40,12 +41,27 @@ use Rattle.js_parsing.specs.Lexemes.{slashes, template_tails}
 unescaped : (k : Kind) (u : List ℕ) → (is_word k || same_kind PrivateIdentifier k) ≡ false → is_escaped k u ≡ false
 unescaped k u w = ap (λ (b : Bool). b && has_backslash u) w
 
+is_not : (b : Bool) → not b ≡ true → b ≡ false
+is_not true h = absurd (false≢true h)
+is_not false h = refl
+
 -- a punctuator has no escape
 pub plain_sign : {text : List ℕ} {f : Flags} {p : Parser} (k : Kind) → At text f p → p.token.kind ≡ k → same_kind RAngle k ≡ false → is_last k ≡ false → (is_word k || same_kind PrivateIdentifier k) ≡ false → p.token.escaped ≡ false
 plain_sign k a e r l w =
     let z = found a (uncut a (ap (same_kind RAngle) e ∙ r)) (ap is_last e ∙ l) in
     let i = sym z.2.kind ∙ e in
     z.2.escaped ∙ (z.1.escaped ∙ (ap (λ (v : Kind). is_escaped v z.1.word) i ∙ unescaped k z.1.word w))
+
+-- neither a word nor the end of the text, and not cut
+abbrev pub signlike : Look
+signlike k w e = not (same_kind RAngle k) && (not (is_last k) && not (is_word k || same_kind PrivateIdentifier k))
+
+pub plain_among : {text : List ℕ} {f : Flags} {p : Parser} (ks : List Kind) → At text f p → covers (λ k w e. one_of_kinds ks k) signlike ≡ true → one_of_kinds ks p.token.kind ≡ true → p.token.escaped ≡ false
+plain_among {p = p} ks a c h =
+    let k = p.token.kind in
+    let x = and_parts (not (same_kind RAngle k)) _ (covered (λ k w e. one_of_kinds ks k) signlike c k false false h) in
+    let y = and_parts (not (is_last k)) _ x.1 in
+    plain_sign k a refl (is_not (same_kind RAngle k) x.0) (is_not (is_last k) y.0) (is_not (is_word k || same_kind PrivateIdentifier k) y.1)
 
 -- it may be passed
 pub whole_sign : {text : List ℕ} {f : Flags} {p : Parser} (k : Kind) → At text f p → p.token.kind ≡ k → same_kind RAngle k ≡ false → unpassable k ≡ false → IsWholeHere p
@@ -132,6 +148,9 @@ AllAre text s k = (y : Lexeme) → Lex text s y → (y.kind ≡ k) × (y.escaped
 -- nothing of this kind without an escape stands there
 abbrev pub NoneIs : List ℕ → ℕ → Kind → Type 0
 NoneIs text s k = (y : Lexeme) → Lex text s y → y.kind ≡ k → y.escaped ≡ false → ⊥
+
+pub none_seen : {text : List ℕ} {s : ℕ} {k : Kind} → NoneIs text s k → (y : Lexeme) → Lex text s y → IsTrue (seen (is k) y) → ⊥
+none_seen {k = k} n y l h = let z = and_parts (same_kind k y.kind) (not y.escaped) h in n y l (sym (kind_of_same k y.kind z.0)) (is_not y.escaped z.1)
 
 module _ {text : List ℕ} {f : Flags} {p : Parser} (a : At text f p) where
   pub word_there : {k : Kind} → p.token.kind ≡ k → p.token.escaped ≡ false → one_of_kinds unsettled k ≡ false → AllAre text p.prev_token_end k
