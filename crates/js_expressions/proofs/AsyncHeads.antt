@@ -188,7 +188,7 @@ module _ {text : List ℕ} {f : Flags} {s t : ℕ} (w : (y : Lexeme) → Lex tex
       by (behind_word m i) =
           let y = b (here rest) (here_at (Lex text) rest m) in
           contrary (seen (looser 2 f.in_ (first_row ts)) (here rest)) (subst (λ (r : Row). not (seen (looser 2 f.in_ r) (here rest)) ≡ true) (sym i) (covered a_head_there (λ k w e. not (looser 2 f.in_ after_expression k w e)) (head_binds f.in_) (here rest).kind (here rest).newline (here rest).escaped (and_from _ _ y.1 (and_from _ _ (ap not y.0) (ap not (read_word_plain (here rest) is_read_there)))))) a
-      by (at_arrow u) = contrary (seen (looser 2 f.in_ (first_row ts)) (here rest)) (covered an_arrow (λ k w e. not (looser 2 f.in_ (first_row ts) k w e)) (arrow_binds f.in_ (first_row ts) (row_claimed d)) (here rest).kind (here rest).newline (here rest).escaped (and_from _ _ u (ap not (read_unnamed (here rest) is_read_there (no_name_where (same_kind Arrow) (here rest).kind u refl))))) a
+      by (at_arrow u) = contrary (seen (looser 2 f.in_ (first_row ts)) (here rest)) (covered an_arrow (λ k w e. not (looser 2 f.in_ (first_row ts) k w e)) (arrow_binds f.in_ (first_row ts) (row_claimed d)) (here rest).kind (here rest).newline (here rest).escaped (and_from _ _ u (ap not (read_plain (here rest) (here_at (Lex text) rest lexed) (sym (kind_of_same Arrow (here rest).kind u)) refl)))) a
 
   conditional_fails : Fails rule (Lex text) (after (at Assignment f)) end (such (at Conditional f) always) s
   unfolding rule rule_of
@@ -285,7 +285,7 @@ module _ {text : List ℕ} {f : Flags} {q w : Parser} {id : NodeId} (a : At text
   behind_so : AsyncHead text f q w id → Behind text f q.prev_token_end
   unfolding apart
   behind_so (list_head k h n) = list_behind (λ y l. kind_here a k refl y l) n
-  behind_so (name_head k e h n) = name_behind (λ y l.
+  behind_so (name_head k h n) = name_behind (λ y l.
       let t = told a (name_whole a k).0 (name_signless q.token.kind k) y l in
       ((λ i. false≢true (sym (name_apart (LParen ∷ []) refl q.token.kind k) ∙ ap (one_of_kinds (LParen ∷ [])) (t.kind ∙ i))), λ z m. n z (subst (λ (v : ℕ). Lex text v z) (sym t.end) m)))
 
@@ -293,11 +293,11 @@ module _ {text : List ℕ} {f : Flags} {q w : Parser} {id : NodeId} (a : At text
   on_its_line b (list_head k h n) =
       let y = found a (uncut a (ap (same_kind RAngle) k)) (ap is_last k) in
       let e : y.0.kind ≡ LParen = sym y.2.kind ∙ k in
-      y.2.newline ∙ (b y.0 (y.1, read_of y.0 e (sym y.2.escaped ∙ plain_sign LParen a k refl refl paren_plain) refl)).0
-  on_its_line b (name_head k e h n) =
+      y.2.newline ∙ (b y.0 (y.1, read_of y.0 e refl)).0
+  on_its_line b (name_head k h n) =
       let u = name_whole a k in
       let y = found a u.0 u.1 in
-      y.2.newline ∙ (b y.0 (y.1, read_as y.0 y.2 e (name_read q.token.kind k))).0
+      y.2.newline ∙ (b y.0 (y.1, read_as y.0 y.2 (name_read q.token.kind k))).0
 
 -- what was told of parameters behind the word
 told_before : {text : List ℕ} {f : Flags} {p q w : Parser} {id : NodeId} → Moved text f p q → ToldHead text f q w id → ToldHead text f p w id
@@ -441,11 +441,11 @@ pub async_on_new_line : {p : Parser} {t : Token} → StandsHere p Async true →
 async_on_new_line k h w = λ text f a. async_late a h k.0 w
 
 pub no_async_word : {p : Parser} → StandsHere p Async false → NoAsyncHere p
-no_async_word {p} n = λ text f a. by (escaped_word p.token.kind p.token.escaped) refl a
+no_async_word {p} n = λ text f a. by p.token.escaped refl a
   where
-    by : {text : List ℕ} {f : Flags} (b : Bool) → escaped_word p.token.kind p.token.escaped ≡ b → At text f p → NoLed true text f p.prev_token_end
-    by true e a = fails_escaped a e
-    by false e a = no_async_here a (other_kind Async p.token.kind (λ k. n k (plain_word p.token k refl e)))
+    by : {text : List ℕ} {f : Flags} (e : Bool) → p.token.escaped ≡ e → At text f p → NoLed true text f p.prev_token_end
+    by true e a = no_async_escaped a e
+    by false e a = no_async_here a (other_kind Async p.token.kind (λ k. n k e))
 
 pub begins_so : (p q : Parser) {b r : Bool} → r ≡ b → AsyncHeadBegins p q r → AsyncHeadBegins p q b
 begins_so p q e h = subst (λ (v : Bool). AsyncHeadBegins p q v) e h

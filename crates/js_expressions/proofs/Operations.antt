@@ -194,7 +194,7 @@ module _ {text : List ℕ} {f : Flags} where
 
     -- the operator stands behind the operand
     here : (y : Lexeme) → Plain text q.prev_token_end y → (y.kind ≡ t.token.kind) × (y.escaped ≡ false)
-    here y l = let e : y.kind ≡ t.token.kind = sym (told_plain o.at o.uncut y (plain_is_none y l.1) (subst (λ (v : ℕ). Lex text v y) (sym o.place) (plain_lex l))).kind in (e, read_plain y (plain_is_read y l.1) e no_name)
+    here y l = let z = told_plain o.at o.uncut y (plain_is_none y l.1) (subst (λ (v : ℕ). Lex text v y) (sym o.place) (plain_lex l)) in (sym z.kind, sym z.escaped ∙ strong.0)
 
     -- a regular expression may stand in the place of the division sign
     pattern_here : (y : Lexeme) → Lex text q.prev_token_end y → y.kind ≡ RegExp → t.token.kind ≡ Slash
@@ -207,7 +207,7 @@ module _ {text : List ℕ} {f : Flags} where
     standing =
         let z = found o.at o.uncut not_last in
         let h = strong.1 in
-        (z.0, subst (λ (v : ℕ). Plain text v z.0) o.place (z.1, plain_so z.0 (read_of z.0 (sym z.2.kind) (sym z.2.escaped ∙ strong.0) (operator_read f.in_ t.token.kind true (omega arith)).0) (ap (one_of_kinds other_goals) (sym z.2.kind) ∙ plain_token o.at.plain)))
+        (z.0, subst (λ (v : ℕ). Plain text v z.0) o.place (z.1, plain_so z.0 (read_of z.0 (sym z.2.kind) (operator_read f.in_ t.token.kind true (omega arith)).0) (ap (one_of_kinds other_goals) (sym z.2.kind) ∙ plain_token o.at.plain)))
 
     -- it binds no tighter than what was read
     within : of_operand (row_of s.label s.slots) ≡ true → it.level ≤ s.cap

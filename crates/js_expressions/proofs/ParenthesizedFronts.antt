@@ -300,7 +300,7 @@ contrary false h e = false≢true e
 pub no_arrow_admitted : (source : List ℕ) (f : Flags) (ts : Slots) {vs : Slots} {s j : ℕ} {ls rest : Lexemes} → Lexes (Lex source) s ls → Takes rule (such (at Short f) always) end ts s ls vs j rest → Admits (after (at Short f)) ts (here rest) → same_kind Arrow (here rest).kind ≡ true → ⊥
 no_arrow_admitted source f ts {j = j} {rest = rest} m d a q =
     let l : Lex source j (here rest) = here_at (Lex source) rest (lexed_behind (Lex source) d m) in
-    contrary (seen (looser 4 f.in_ (first_row ts)) (here rest)) (covered an_arrow (λ k w e. not (looser 4 f.in_ (first_row ts) k w e)) (arrow_binds f.in_ (first_row ts) (row_claimed d)) (here rest).kind (here rest).newline (here rest).escaped (and_from _ _ q (ap not (read_unnamed (here rest) l.1 (no_name_where (same_kind Arrow) (here rest).kind q refl))))) a.1
+    contrary (seen (looser 4 f.in_ (first_row ts)) (here rest)) (covered an_arrow (λ k w e. not (looser 4 f.in_ (first_row ts) k w e)) (arrow_binds f.in_ (first_row ts) (row_claimed d)) (here rest).kind (here rest).newline (here rest).escaped (and_from _ _ q (ap not (read_plain (here rest) l (sym (kind_of_same Arrow (here rest).kind q)) refl)))) a.1
 
 -- where parentheses that are derived as arguments have `=>` behind them, no operand begins
 pub no_operand_before : {text : List ℕ} {f : Flags} {s : ℕ} → OnlyArrow text f s → ((y : Lexeme) → Lex text s y → y.kind ≡ LParen) → Underived text (at Short f) s

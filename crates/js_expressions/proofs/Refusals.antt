@@ -85,7 +85,7 @@ module _ {text : List ℕ} {f : Flags} {p q : Parser} (a : At text f p) where
       let z = found x.at (uncut x.at c.1) c.2 in
       let r : one_of_kinds read_kinds q.token.kind ≡ true = of_update (λ o. one_of_kinds read_kinds o ≡ true) q.token.kind u refl refl in
       let n : z.0.escaped ≡ false = plain_of q.token.kind z.1.word z.0.escaped (subst (λ (v : Kind). z.0.escaped ≡ is_escaped v z.1.word) (sym z.2.kind) z.1.escaped) c.0 in
-      let y : Lex text q.prev_token_end z.0 = (z.1, read_of z.0 (sym z.2.kind) n r) in
+      let y : Lex text q.prev_token_end z.0 = (z.1, read_of z.0 (sym z.2.kind) r) in
       marked_there q p.prev_token_end a x.at (same_itself) refl (let i = x.further in omega arith)
       (λ s b g. (z.0, no_target_there passes_itself x a (none_kept x.verdict k) e z.0 y (λ l cs t h. covered a_postfix (looser 17 f.in_ after_expression) (a_postfix_follows f f.in_) z.0.kind z.0.newline z.0.escaped (postfix_here x.at u w z.0 y)) s b g, inr (subst (λ (v : Kind). one_of_kinds update_kinds v ≡ true) z.2.kind u))) start d
 

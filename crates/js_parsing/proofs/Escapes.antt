@@ -15,7 +15,7 @@ use Rattle.js_grammar.specs.Pruning.{every_kind}
 use Rattle.js_grammar.proofs.Looks.{covers, covered}
 use Rattle.js_lex.specs.Reading.{Tells, is_right_angle}
 use Rattle.js_cursor.specs.Parsers.{Parser}
-use Rattle.js_parsing.specs.Lexemes.{Lex, escaped_word, is_read, other_goals, read_kinds, read_word}
+use Rattle.js_parsing.specs.Lexemes.{Lex, escaped_word, is_read, may_name, other_goals, read_kinds, read_word}
 use Rattle.js_parsing.specs.States.{At}
 use Rattle.js_parsing.proofs.Here.{angled, escaped_here, told_plain}
 use Rattle.js_parsing.proofs.Paths.{of_every}
@@ -95,6 +95,14 @@ no_word_among ks k n m = is_not (read_word k) (of_every (λ k. not (read_word k)
 -- one of these kinds
 pub read_listed : (ks : List Kind) {text : List ℕ} {s : ℕ} (y : Lexeme) → Lex text s y → one_of_kinds ks y.kind ≡ true → every_kind (λ k. not (read_word k)) ks ≡ true → y.escaped ≡ false
 read_listed ks y l m n = read_unnamed y l (no_word_among ks y.kind n m)
+
+-- what has an escape and is no name is a word with one
+pub escaped_unnamed : (y t : Bool) (k : Kind) (e : Bool) → may_name y t k ≡ false → e ≡ true → escaped_word k e ≡ true
+escaped_unnamed y t k e n i = and_from e _ i (ap not (go (same_kind Ident k) refl))
+  where
+    go : (b : Bool) → same_kind Ident k ≡ b → same_kind Ident k ≡ false
+    go true q = absurd (false≢true (sym n ∙ ap (may_name y t) (sym (kind_of_same Ident k q))))
+    go false q = q
 
 -- a token of a kind that is read is the whole of a lexeme that is
 pub read_as : (y : Lexeme) {t : Token} → Tells y t → one_of_kinds read_kinds t.kind ≡ true → IsTrue (is_read y)
