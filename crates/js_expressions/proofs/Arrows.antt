@@ -58,8 +58,7 @@ use Rattle.js_cursor.specs.declared.checkpoint.ParserCheckpoint.{ParserCheckpoin
 use Rattle.js_cursor.specs.declared.stop.Stop.{Stop}
 use Rattle.js_cursor.specs.declared.stop.Stop.TheVariants.{Fatal}
 use Rattle.js_parsing.specs.Stands.{NameHere, StandsHere}
-use Rattle.js_parsing.proofs.NameKinds.{a_name, listed_name, name_apart, name_at, name_test, name_whole, no_name_here, or_kind, listed_here}
-use Rattle.js_parsing.proofs.Giving.{fails_escaped}
+use Rattle.js_parsing.proofs.NameKinds.{a_name, listed_name, name_apart, name_at, name_test, name_whole, or_kind, listed_here}
 use Rattle.js_cursor.specs.Moves.{is_last}
 use Rattle.js_cursor.specs.Parsers.{Parser}
 use Rattle.js_cursor.specs.Places.{IsAt}
@@ -82,9 +81,9 @@ use Rattle.js_parsing.specs.Lexemes.{Lex, escaped_word, name_kinds, other_goals,
 use Rattle.js_parsing.specs.Moves.{Moved, MadeHere, LeafTaken, TakesLeaf, plain_label}
 use Rattle.js_parsing.specs.States.{At, Same, Standing, IsPlain, whole, sign, nothing as nothing_here, NodesLie, SpansLie}
 use Rattle.js_targets.proofs.ArraysBeforeSigns.{is_cover}
-use Rattle.js_targets.proofs.Assigned.{arrow_passes, no_yield, only_arrow}
+use Rattle.js_targets.proofs.Assigned.{arrow_passes, no_yield, only_arrow, no_yield_escaped}
 use Rattle.js_targets.specs.Others.{NoYield}
-use Rattle.js_parsing.proofs.NamedFirsts.{fails_unnamed}
+use Rattle.js_parsing.proofs.NamedFirsts.{fails_unnamed, fails_escaped}
 use Rattle.js_expressions.specs.Yields.{BeginsYield}
 use Rattle.js_expressions.proofs.Assignments.{by_second, second}
 use Rattle.js_expressions.proofs.Conditionals.{conditional_none}
@@ -92,7 +91,7 @@ use Rattle.js_parsing.proofs.Signs.{other_kind, plain_sign}
 use Rattle.js_parsing.proofs.Told.{beside_errors}
 use Rattle.js_parsing.proofs.Unbuilt.{nothing_unbuilt}
 use Rattle.js_parsing.proofs.ToEnd.{to_end_stays}
-use Rattle.js_parsing.proofs.Giving.{kept_one}
+use Rattle.js_parsing.proofs.Giving.{kept_one, fails_unescaped}
 use Rattle.js_parsing.proofs.Here.{angled, found, plainly, one_plain, newline_here, kind_here, told, uncut, told_plain}
 use Rattle.js_parsing.proofs.MadeNodes.{leaf_held, node_held, two_held, one_lies, LabelLies, from_start}
 use Rattle.js_parsing.proofs.Moving.{beside_nodes, flags_same, heads_kept, same_both, same_itself, same_with, standing_for, stops_behind, nodes_lie}
@@ -101,7 +100,7 @@ use Rattle.js_patterns.proofs.Bindings.{bound_path, ended_by, then_any}
 use Rattle.js_parsing.proofs.Paths.{Path, ◌⟼◌, ◌⟶◌, ◌⟶✗◌, fails_at, not_here, token, last_called, noded, by_symbol_as, label_here, read_of, walked_both, walked_from, walked_one, flagged_here, flagged_by}
 use Rattle.js_parsing.proofs.Signs.{none_kept, plain_of}
 use Rattle.js_parsing.proofs.Ahead.{pass_over}
-use Rattle.js_parsing.proofs.Escapes.{plain_word, read_plain}
+use Rattle.js_parsing.proofs.Escapes.{read_plain, escaped_unnamed}
 use Rattle.js_parsing.proofs.Verdicts.{grown_both, grown_first, grown_on, grown_then}
 use Rattle.js_parsing.specs.Classes.{IsEarly}
 use Rattle.js_parsing.proofs.Classes.{kept_early}
@@ -258,6 +257,15 @@ module _ {text : List ℕ} (f : Flags) {s : ℕ} where
 pub no_line_here : {text : List ℕ} {f : Flags} {p : Parser} → At text f p → may_name f.yield_ f.await_ p.token.kind ≡ false → one_of_kinds (LParen ∷ []) p.token.kind ≡ false → NoLine text f p.prev_token_end
 unfolding covers apart
 no_line_here {f = f} a m n = fails_unnamed a f {X = plain full} line_of (LParen ∷ []) refl refl refl refl refl m n
+
+-- nor does a word with an escape begin one
+pub no_line_escaped : {text : List ℕ} {f : Flags} {p : Parser} → At text f p → may_name f.yield_ f.await_ p.token.kind ≡ false → p.token.escaped ≡ true → NoLine text f p.prev_token_end
+unfolding covers apart
+no_line_escaped {f = f} {p} a m e = fails_escaped a f {X = plain full} line_of refl refl refl refl (escaped_unnamed f.yield_ f.await_ p.token.kind p.token.escaped m e) m
+
+pub no_async_escaped : {text : List ℕ} {f : Flags} {p : Parser} → At text f p → p.token.escaped ≡ true → NoLed true text f p.prev_token_end
+unfolding covers apart
+no_async_escaped {f = f} a e = fails_unescaped {X = plain full} (lead_of true ▸ line_of (arrow_head true f)) a refl e
 
 -- `async` doesn't stand here
 pub no_async_here : {text : List ℕ} {f : Flags} {p : Parser} → At text f p → one_of_kinds (Async ∷ []) p.token.kind ≡ false → NoLed true text f p.prev_token_end

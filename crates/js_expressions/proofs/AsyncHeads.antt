@@ -42,13 +42,12 @@ use Rattle.js_parsing.specs.Lexemes.{Lex, escaped_word, is_read, name_kinds, oth
 use Rattle.js_parsing.specs.Moves.{Moved, Moves}
 use Rattle.js_parsing.specs.Stands.{StandsHere}
 use Rattle.js_parsing.specs.States.{At, Standing}
-use Rattle.js_parsing.proofs.Giving.{fails_escaped}
 use Rattle.js_parsing.proofs.Here.{found, kind_here, one_plain, plainly, told, uncut, unsettled}
 use Rattle.js_parsing.proofs.Moving.{same_both}
 use Rattle.js_parsing.proofs.NameKinds.{name_apart, name_read, name_whole}
 use Rattle.js_parsing.proofs.Paths.{fails_at, read_of, walked_both, walked_one}
 use Rattle.js_parsing.proofs.Signs.{other_kind, plain_sign}
-use Rattle.js_parsing.proofs.Escapes.{no_name_where, plain_word, read_as, read_unnamed, read_word_plain}
+use Rattle.js_parsing.proofs.Escapes.{no_name_where, read_as}
 use Rattle.js_parsing.proofs.Verdicts.{grown_then}
 use Rattle.js_operands.proofs.Operands.{name_signless}
 use Rattle.js_targets.proofs.ArraysBeforeSigns.{array_part, is_cover}
@@ -57,7 +56,7 @@ use Rattle.js_expressions.specs.Arrows.{AsyncHead, list_head, name_head, AsyncHe
 use Rattle.js_expressions.specs.declared.arrow.ArrowHead.{ArrowHead}
 use Rattle.js_expressions.specs.HeadOperands.{NoTargetPart}
 use Rattle.js_expressions.specs.Lists.{NoParameters, parameters_of}
-use Rattle.js_expressions.proofs.Arrows.{from_unmoved, given_behind, head_one, no_arrow, no_arrow_behind, no_async_here, no_head_no_line, no_plain_led, plain_head_flags, unmoved, unmoved_went_on, went_back}
+use Rattle.js_expressions.proofs.Arrows.{from_unmoved, given_behind, head_one, no_arrow, no_arrow_behind, no_async_here, no_head_no_line, no_plain_led, plain_head_flags, unmoved, unmoved_went_on, went_back, no_async_escaped}
 use Rattle.js_expressions.proofs.CalledFronts.{Front, word_alone, with_arguments, word_front}
 use Rattle.js_lex.specs.Reading.{Tells, is_right_angle}
 use Rattle.js_lex.proofs.Again.{cut_same}
@@ -85,7 +84,7 @@ one_passed (the_last {x = x} {ls = ls} m) = (x, ls, refl)
 one_passed (and_more {x = x} {ls = ls} m o) = (x, ls, refl)
 
 abbrev a_head_there : Look
-a_head_there k w e = begins_head k w e && (not w && not (escaped_word k e))
+a_head_there k w e = begins_head k w e && not w
 
 -- an operand doesn't end before a head on its line
 head_binds : (b : Bool) → covers a_head_there (λ k w e. not (looser 2 b after_expression k w e)) ≡ true
@@ -181,13 +180,10 @@ module _ {text : List ℕ} {f : Flags} {s t : ℕ} (w : (y : Lexeme) → Lex tex
       lexed : Lexes (Lex text) j rest
       lexed = lexed_behind (Lex text) d l
 
-      is_read_there : IsTrue (is_read (here rest))
-      is_read_there = (here_at (Lex text) rest lexed).1
-
       by : Stood text t ts rest → ⊥
       by (behind_word m i) =
           let y = b (here rest) (here_at (Lex text) rest m) in
-          contrary (seen (looser 2 f.in_ (first_row ts)) (here rest)) (subst (λ (r : Row). not (seen (looser 2 f.in_ r) (here rest)) ≡ true) (sym i) (covered a_head_there (λ k w e. not (looser 2 f.in_ after_expression k w e)) (head_binds f.in_) (here rest).kind (here rest).newline (here rest).escaped (and_from _ _ y.1 (and_from _ _ (ap not y.0) (ap not (read_word_plain (here rest) is_read_there)))))) a
+          contrary (seen (looser 2 f.in_ (first_row ts)) (here rest)) (subst (λ (r : Row). not (seen (looser 2 f.in_ r) (here rest)) ≡ true) (sym i) (covered a_head_there (λ k w e. not (looser 2 f.in_ after_expression k w e)) (head_binds f.in_) (here rest).kind (here rest).newline (here rest).escaped (and_from _ _ y.1 (ap not y.0)))) a
       by (at_arrow u) = contrary (seen (looser 2 f.in_ (first_row ts)) (here rest)) (covered an_arrow (λ k w e. not (looser 2 f.in_ (first_row ts) k w e)) (arrow_binds f.in_ (first_row ts) (row_claimed d)) (here rest).kind (here rest).newline (here rest).escaped (and_from _ _ u (ap not (read_plain (here rest) (here_at (Lex text) rest lexed) (sym (kind_of_same Arrow (here rest).kind u)) refl)))) a
 
   conditional_fails : Fails rule (Lex text) (after (at Assignment f)) end (such (at Conditional f) always) s

@@ -48,7 +48,7 @@ use Rattle.js_operands.proofs.Operands.{by_path}
 use Rattle.js_parsing.proofs.Paths.{reads, Path, ◌⟼◌, ◌⟶◌, ◌⟶✗◌, at_kind, fails_at, token, last_token, last_called, noded, flagged_by, flagged_here, label_here}
 use Rattle.js_parsing.proofs.Phrases.{lift, plain_row, primary_operand}
 use Rattle.js_targets.proofs.Targets.{passes_itself, of_unary}
-use Rattle.js_parsing.proofs.Escapes.{no_name_where, read_plain}
+use Rattle.js_parsing.proofs.Escapes.{read_plain, no_word_among}
 use Rattle.js_parsing.proofs.Tight.{plain_is_read, plain_lex}
 use Rattle.js_parsing.proofs.Verdicts.{verdict_of}
 

@@ -111,13 +111,16 @@ ended {text} {f} {p} {q} {power} b o h = record { at = o.at; same = o.same; node
     not_last Undetermined l e = absurd (omega arith)
     not_last _ l e = absurd (cc)
 
-    go : (one_of_kinds ending_kinds q.token.kind ≡ true) ⊎ (1 ≤ power) → (y : Lexeme) × Lex text q.prev_token_end y × IsTrue (one_of_kinds ending_kinds y.kind || nat_lt 0 (power_of f.in_ y.kind))
-    go (inl e) = let z = ending_there o.at o.uncut e in (z.0, z.1, or_left _ _ (subst (λ (k : Kind). one_of_kinds ending_kinds k ≡ true) (sym z.2) e))
+    go : (one_of_kinds ending_kinds q.token.kind ≡ true) ⊎ (1 ≤ power) → (y : Lexeme) × Lex text q.prev_token_end y × (y.escaped ≡ false) × IsTrue (one_of_kinds ending_kinds y.kind || nat_lt 0 (power_of f.in_ y.kind))
+    go (inl e) =
+        let z = ending_there o.at o.uncut e in
+        let k = subst (λ (k : Kind). one_of_kinds ending_kinds k ≡ true) (sym z.2) e in
+        (z.0, z.1, read_listed ending_kinds z.0 z.1 k refl, or_left _ _ k)
     go (inr l) =
         let s = strong power q.token.escaped (power_of f.in_ q.token.kind) o.is l in
         let z = there o.at o.uncut (not_last q.token.kind s.1) in
         let e : z.0.kind ≡ q.token.kind = sym z.2.kind in
-        (z.0, (z.1, read_of z.0 e (operator_read f.in_ q.token.kind true s.1).0), or_right (one_of_kinds ending_kinds z.0.kind) _ (lt-ltb 0 (power_of f.in_ z.0.kind) (subst (λ (k : Kind). 0 < power_of f.in_ k) (sym e) (let i = s.1 in omega arith))))
+        (z.0, (z.1, read_of z.0 e (operator_read f.in_ q.token.kind true s.1).0), sym z.2.escaped ∙ s.0, or_right (one_of_kinds ending_kinds z.0.kind) _ (lt-ltb 0 (power_of f.in_ z.0.kind) (subst (λ (k : Kind). 0 < power_of f.in_ k) (sym e) (let i = s.1 in omega arith))))
 
 grown_length : {K : Type 0} {old new : List K} → Grown old new → length old < length new
 grown_length {K} {old} {new} g = let a = ap length g.kept in let b = length-append old g.more in let c = positive g.more g.some in omega arith

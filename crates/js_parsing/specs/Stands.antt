@@ -37,7 +37,7 @@ pub record Ended (text : List ℕ) (f : Flags) (old new : Parser) (b : Bool) : T
   pub nodes : new.nodes ≡ old.nodes
   pub kept : new.errors ≡ old.errors
   pub place : new.prev_token_end ≡ old.prev_token_end
-  pub lexeme : IsTrue b → (y : Lexeme) × Lex text new.prev_token_end y × IsTrue (one_of_kinds ending_kinds y.kind || nat_lt 0 (power_of f.in_ y.kind))
+  pub lexeme : IsTrue b → (y : Lexeme) × Lex text new.prev_token_end y × (y.escaped ≡ false) × IsTrue (one_of_kinds ending_kinds y.kind || nat_lt 0 (power_of f.in_ y.kind))
 
 abbrev pub EndsOperand : Parser → Parser → Bool → Type 0
 EndsOperand old new b = (text : List ℕ) (f : Flags) → At text f old → Ended text f old new b

@@ -353,7 +353,7 @@ module _ {text : List ℕ} {f : Flags} {p : Parser} (a : At text f p) where
             made = subst (λ (y : Label). MadeHere y (Some key ∷ Some value ∷ []) v w id) l z
 
             whole : Path text f behind_item (symbol PatternProperty f) p nothing v (tree (flagged_here binding_property no_op shorthand_flag p v) (tree (label_here identifier_name no_op p leaf.mid) end (tree x.label x.slots end)))
-            whole = by_symbol_as {X' = behind_item} (λ l cs vs y d. (d.0, refl)) (shorthand_alone ⟼ flagged_by a (inside_plain {F' = next_kinds} ends_itself) (key_first a listed e leaf.moved bound_read))
+            whole = by_symbol_as {X' = behind_item} (λ l cs vs y d. (d.0, refl)) (shorthand_alone ⟼ flagged_by a (inside_plain {F' = next_kinds} ends_itself) (key_first a listed leaf.moved bound_read))
 
       -- what it binds isn't derived
       pub bound_stops : (w : Parser) (i : Stop) → Stops p w i (Fails rule (Lex text) behind_item end (bound_by_name f) p.prev_token_end) → Stops p w i (NoItem text (at PatternProperty f) p.prev_token_end)
