@@ -196,7 +196,7 @@ assign_marked {text} {f} {p} {q} a x c u b e start d k = subst (λ (v : List ℕ
         (z.0, (z.1, read_of z.0 (sym z.2.kind) g.is_read), sym z.2.kind)
 
     stood_sign : IsTrue (seen an_assign stood.0)
-    stood_sign = let m = subst (λ (v : Kind). one_of_kinds assign_operators v ≡ true) (sym stood.2) u in and_from _ _ m (ap not (read_listed assign_operators stood.0 (plain_lex stood.1) m refl))
+    stood_sign = let m = subst (λ (v : Kind). one_of_kinds assign_operators v ≡ true) (sym stood.2) u in and_from _ _ m (ap not (read_listed assign_operators stood.0 stood.1 m refl))
 
     follows : (l : Label) (cs : Slots) (t : Tree) → target_of l cs ≡ Some t → IsTrue (seen (follow (at Short f) (edge_of l cs)) stood.0)
     follows l cs t h = subst (λ (r : Row). IsTrue (seen (looser 4 f.in_ r) stood.0)) (sym (row_of_target l cs t h)) (covered an_assign (looser 4 f.in_ after_expression) (short_follows f.in_) stood.0.kind stood.0.newline stood.0.escaped stood_sign)

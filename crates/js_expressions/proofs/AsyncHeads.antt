@@ -38,7 +38,7 @@ use Rattle.js_cursor.proofs.Later.{follows_on}
 use Rattle.js_parsing.specs.Answers.{Underived}
 use Rattle.js_parsing.specs.Contexts.{arrow_head}
 use Rattle.js_parsing.specs.Heads.{NoHead, OnlyArrow}
-use Rattle.js_parsing.specs.Lexemes.{Lex, escaped_word, is_read, name_kinds, other_goals, read_kinds, signs}
+use Rattle.js_parsing.specs.Lexemes.{Lex, name_kinds, other_goals, read_kinds, signs, read_word}
 use Rattle.js_parsing.specs.Moves.{Moved, Moves}
 use Rattle.js_parsing.specs.Stands.{StandsHere}
 use Rattle.js_parsing.specs.States.{At, Standing}
@@ -47,7 +47,7 @@ use Rattle.js_parsing.proofs.Moving.{same_both}
 use Rattle.js_parsing.proofs.NameKinds.{name_apart, name_read, name_whole}
 use Rattle.js_parsing.proofs.Paths.{fails_at, read_of, walked_both, walked_one}
 use Rattle.js_parsing.proofs.Signs.{other_kind, plain_sign}
-use Rattle.js_parsing.proofs.Escapes.{no_name_where, read_as}
+use Rattle.js_parsing.proofs.Escapes.{read_as, read_plain, word_escaped}
 use Rattle.js_parsing.proofs.Verdicts.{grown_then}
 use Rattle.js_operands.proofs.Operands.{name_signless}
 use Rattle.js_targets.proofs.ArraysBeforeSigns.{array_part, is_cover}
@@ -84,7 +84,15 @@ one_passed (the_last {x = x} {ls = ls} m) = (x, ls, refl)
 one_passed (and_more {x = x} {ls = ls} m o) = (x, ls, refl)
 
 abbrev a_head_there : Look
-a_head_there k w e = begins_head k w e && not w
+a_head_there k w e = begins_head k w e && (not w && (not e || read_word k))
+
+-- what has an escape is a word
+plain_or_word : {text : List ℕ} {s : ℕ} (y : Lexeme) → Lex text s y → (not y.escaped || read_word y.kind) ≡ true
+plain_or_word y l = go y.escaped refl
+  where
+    go : (b : Bool) → y.escaped ≡ b → (not y.escaped || read_word y.kind) ≡ true
+    go true e = or_right (not y.escaped) _ (word_escaped y l e)
+    go false e = or_left _ _ (ap not e)
 
 -- an operand doesn't end before a head on its line
 head_binds : (b : Bool) → covers a_head_there (λ k w e. not (looser 2 b after_expression k w e)) ≡ true
@@ -183,7 +191,7 @@ module _ {text : List ℕ} {f : Flags} {s t : ℕ} (w : (y : Lexeme) → Lex tex
       by : Stood text t ts rest → ⊥
       by (behind_word m i) =
           let y = b (here rest) (here_at (Lex text) rest m) in
-          contrary (seen (looser 2 f.in_ (first_row ts)) (here rest)) (subst (λ (r : Row). not (seen (looser 2 f.in_ r) (here rest)) ≡ true) (sym i) (covered a_head_there (λ k w e. not (looser 2 f.in_ after_expression k w e)) (head_binds f.in_) (here rest).kind (here rest).newline (here rest).escaped (and_from _ _ y.1 (ap not y.0)))) a
+          contrary (seen (looser 2 f.in_ (first_row ts)) (here rest)) (subst (λ (r : Row). not (seen (looser 2 f.in_ r) (here rest)) ≡ true) (sym i) (covered a_head_there (λ k w e. not (looser 2 f.in_ after_expression k w e)) (head_binds f.in_) (here rest).kind (here rest).newline (here rest).escaped (and_from _ _ y.1 (and_from _ _ (ap not y.0) (plain_or_word (here rest) (here_at (Lex text) rest m)))))) a
       by (at_arrow u) = contrary (seen (looser 2 f.in_ (first_row ts)) (here rest)) (covered an_arrow (λ k w e. not (looser 2 f.in_ (first_row ts) k w e)) (arrow_binds f.in_ (first_row ts) (row_claimed d)) (here rest).kind (here rest).newline (here rest).escaped (and_from _ _ u (ap not (read_plain (here rest) (here_at (Lex text) rest lexed) (sym (kind_of_same Arrow (here rest).kind u)) refl)))) a
 
   conditional_fails : Fails rule (Lex text) (after (at Assignment f)) end (such (at Conditional f) always) s
@@ -338,7 +346,7 @@ module _ {p q : Parser} (k : StandsHere p Async true) (b : (text : List ℕ) (f 
       before : AsyncHead text f q w id → BeforeArrow true text f p w id
       before (list_head e (read_clean h) n) = led_head q passed h only
       before (list_head e (read_unclean t h) n) = told_led (told_before m t) (underived e h)
-      before (name_head e i h n) = led_head q passed h only
+      before (name_head e h n) = led_head q passed h only
 
     async_head : IsHeadBefore true p w id
     async_head = (x.0, (λ text f a. before a (head a)), λ text f a i. inr (k.0, no_target_there a k.0 (b text f a) (behind_there a)))
@@ -410,7 +418,7 @@ module _ {text : List ℕ} {f : Flags} {p : Parser} {t : Token} (a : At text f p
   async_late k w = led_unless a k (λ y l n b. false≢true (sym n ∙ (sym (head_told y l b).newline ∙ w)))
 
   async_other : p.token.kind ≡ Async → one_of_kinds (LParen ∷ name_kinds) t.kind ≡ false → NoLed true text f p.prev_token_end
-  async_other k q = led_unless a k (λ y l n b. false≢true (sym q ∙ (ap (one_of_kinds (LParen ∷ name_kinds)) (head_told y l b).kind ∙ covered (λ k w e. begins_head k w e && one_of_kinds read_kinds k) a_first begins_first y.kind y.newline y.escaped (and_from _ _ b (and_parts (one_of_kinds read_kinds y.kind) _ l.1).0))))
+  async_other k q = led_unless a k (λ y l n b. false≢true (sym q ∙ (ap (one_of_kinds (LParen ∷ name_kinds)) (head_told y l b).kind ∙ covered (λ k w e. begins_head k w e && one_of_kinds read_kinds k) a_first begins_first y.kind y.newline y.escaped (and_from _ _ b l.1))))
 
   -- no parenthesis stands behind the word
   pub list_other : p.token.kind ≡ Async → (t.kind ≡ LParen → ⊥) → NoParameters true text f p.prev_token_end

@@ -1,4 +1,5 @@
 -- Conditional expressions (ECMA-262, 13.14), and an AssignmentExpression that is none.
+use Rattle.js_base.proofs.KindLemmas.{kind_of_same}
 use Rattle.js_parsing.proofs.Signs.{plain_sign, other_kind}
 use Rattle.std.proofs.Common.{ℕ, ◌≡◌, ◌≤◌, List, [], ◌∷◌, length, Bool, true, false, not, ◌&&◌, ◌||◌, IsTrue, Some, None, refl, sym, ap, subst, arith, ◌∙◌}
 use Rattle.std.specs.Prelude.{Err}

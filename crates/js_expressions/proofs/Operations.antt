@@ -11,7 +11,7 @@ use Rattle.js_grammar.proofs.First.{starts}
 use Rattle.js_grammar.specs.Trees.{Label, Slots, end, tree}
 use Rattle.js_grammar.specs.Grammar.{Lexeme, Lexemes, next, seen, seq, such, nothing}
 use Rattle.js_grammar.specs.Insertion.{Row, edge_is_last}
-use Rattle.js_grammar.specs.Parsing.{Test, Goes, always, passing, full, Reads}
+use Rattle.js_grammar.specs.Parsing.{Test, Goes, always, passing, full, Reads, Way}
 use Rattle.js_grammar.specs.Productions.{G, Flags, at, tok, Exponent, Symbol}
 use Rattle.js_grammar.specs.Table.{rule}
 use Rattle.js_grammar.specs.Levels.{level_at, node_at, operators_at, operators_of, top_level, feet_at}
@@ -69,7 +69,7 @@ pub record Operand (text : List ℕ) (f : Flags) (m : ℕ) (p q : Parser) (id : 
 
 -- no `#` is read
 no_hash : {text : List ℕ} {s : ℕ} (y : Lexeme) → Lex text s y → y.kind ≡ PrivateIdentifier → ⊥
-no_hash y l e = false≢true (subst (λ (k : Kind). one_of_kinds read_kinds k ≡ true) e (and_parts (one_of_kinds read_kinds y.kind) _ l.1).0)
+no_hash y l e = false≢true (subst (λ (k : Kind). one_of_kinds read_kinds k ≡ true) e l.1)
 
 -- the rows of operands
 level_rows : (f : Flags) (q : ℕ) (r : Row) → may_end (level_at f q).name r ≡ of_operand r

@@ -3,6 +3,7 @@ use Rattle.std.proofs.Common.{ℕ, ◌≡◌, ◌⊎◌, inl, inr, Bool, true, f
 use Rattle.std.proofs.lemmas.Bool.{false≢true, and_parts, and_from, or_right}
 use Rattle.js_base.specs.declared.kind.Kind.TheVariants.{LParen, RParen, Arrow}
 use Rattle.js_base.specs.Kinds.{same_kind}
+use Rattle.js_base.proofs.KindLemmas.{kind_of_same}
 use Rattle.js_grammar.specs.Trees.{Label, Slots, end, tree}
 use Rattle.js_grammar.specs.Grammar.{Lexeme, Lexemes, Look, here, seen, is, nothing, never, lexeme, look, text, ahead, empty_slot, seq, alt, when, many, commas, such, marked, node, ended, keep, kept, Takes, is_nothing, is_lexeme, is_look, is_text, is_ahead, is_empty_slot, is_seq, is_left, is_right, is_when, is_many, is_commas, is_such, is_marked, is_node, is_ended, is_keep, is_kept}
 use Rattle.js_grammar.specs.FirstSets.{first}
@@ -22,7 +23,7 @@ use Rattle.js_grammar.proofs.Heads.{One, the_last, and_more, in_one, of_operands
 use Rattle.js_grammar.proofs.Looks.{apart, covers, covered, not_both}
 use Rattle.js_grammar.proofs.RightEdges.{of_operand, first_row}
 use Rattle.js_parsing.proofs.FreeOfIn.{any_in}
-use Rattle.js_parsing.proofs.Escapes.{no_name_where, read_unnamed}
+use Rattle.js_parsing.proofs.Escapes.{read_plain}
 use Rattle.js_parsing.specs.Answers.{Underived}
 use Rattle.js_parsing.specs.Heads.{OnlyArrow}
 use Rattle.js_parsing.specs.Lexemes.{Lex}

@@ -514,7 +514,7 @@ module _ {text : List ℕ} {f : Flags} {p q : Parser} {id : NodeId} (a : At text
             let z = found x.answer.at (uncut x.answer.at (ap (same_kind kind.RAngle) h.0 ∙ no_sign k g)) (ap is_last h.0 ∙ l) in
             let w : z.0.kind ≡ k = sym z.2.kind ∙ h.0 in
             let e : z.0.escaped ≡ false = sym z.2.escaped ∙ h.1 in
-            (z.0, (z.1, read_of z.0 w e r), and_from (one_of_kinds (kind.In ∷ kind.Of ∷ []) z.0.kind) (not z.0.escaped) (ap (one_of_kinds (kind.In ∷ kind.Of ∷ [])) w ∙ m) (ap not e))
+            (z.0, (z.1, read_of z.0 w r), and_from (one_of_kinds (kind.In ∷ kind.Of ∷ []) z.0.kind) (not z.0.escaped) (ap (one_of_kinds (kind.In ∷ kind.Of ∷ [])) w ∙ m) (ap not e))
           where
             no_sign : (k : Kind) → is_right_angle k ≡ false → same_kind kind.RAngle k ≡ false
             no_sign k g = by (same_kind kind.RAngle k) refl

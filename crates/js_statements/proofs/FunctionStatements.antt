@@ -63,7 +63,7 @@ module _ {text : List ℕ} {f : Flags} {p : Parser} (a : At text f p) (h : Stand
   on_line z l =
       let w = n text f a in
       let e : z ≡ w.0 = one_function w.1 w.2 l in
-      subst (λ (y : Lexeme). IsTrue (seen function_on_line y)) (sym e) (rw (w.2, w.3, read_plain w.0 w.1.1 w.2 refl) refl)
+      subst (λ (y : Lexeme). IsTrue (seen function_on_line y)) (sym e) (rw (w.2, w.3, w.4) refl)
 
   -- no colon stands there, so it is no label
   no_label_there : (X : Test) → Fails rule (Lex text) X end (symbol Labeled f) p.prev_token_end

@@ -155,7 +155,7 @@ module _ {text : List ℕ} {f : Flags} {p q : Parser} (a : At text f p) (x : Ans
       let w = name_whole a is_listed in
       let z = found a w.0 w.1 in
       let k : may_name f.yield_ f.await_ z.0.kind ≡ true = subst (λ (v : Kind). may_name f.yield_ f.await_ v ≡ true) z.2.kind is_name in
-      (z.0, (z.1, read_as z.0 z.2 i.plain (name_read p.token.kind is_listed)), k, sym z.2.end ∙ i.place)
+      (z.0, (z.1, read_as z.0 z.2 (name_read p.token.kind is_listed)), k, sym z.2.end ∙ i.place)
 
   looks_so : IsTrue (seen (name_look f) name.0)
   looks_so = name_passes f name.0 name.2
@@ -165,7 +165,7 @@ module _ {text : List ℕ} {f : Flags} {p q : Parser} (a : At text f p) (x : Ans
   colon =
       let z = found x.at (uncut x.at (ap (same_kind RAngle) i.colon)) (rw (i.colon) refl) in
       let k : z.0.kind ≡ Colon = sym z.2.kind ∙ i.colon in
-      (z.0, (z.1, read_of z.0 k (sym z.2.escaped ∙ plain_sign Colon x.at i.colon refl refl colon_plain) refl), k)
+      (z.0, (z.1, read_of z.0 k refl), k)
 
   -- a name before a colon is an expression, so it was read as one
   derived : Underived text (at Expression f) p.prev_token_end → ⊥
@@ -174,7 +174,7 @@ module _ {text : List ℕ} {f : Flags} {p q : Parser} (a : At text f p) (x : Ans
       let y = name.0 in let z = colon.0 in
       let l : Lex text y.to z = subst (λ (e : ℕ). Lex text e z) (sym name.3) colon.1 in
       let cs = label_of name_node (next y (last z)) y.to (last z) in
-      n.no (tree cs end end) end y.to (next y (last z)) (last z) (name.1, l) (name_expression looks_so) (admits (at Expression f) (tree cs end end) z (covered (is Colon) (looser 1 f.in_ after_expression) (colon_ends f.in_) z.kind z.newline z.escaped (and_from _ _ (rw (colon.2) refl) (ap not (read_plain z colon.1.1 colon.2 refl)))))
+      n.no (tree cs end end) end y.to (next y (last z)) (last z) (name.1, l) (name_expression looks_so) (admits (at Expression f) (tree cs end end) z (covered (is Colon) (looser 1 f.in_ after_expression) (colon_ends f.in_) z.kind z.newline z.escaped (and_from _ _ (rw (colon.2) refl) (ap not (read_plain z colon.1 colon.2 refl)))))
 
   -- and nothing else was passed
   only_name : Stretch text (after (at Expression f)) (such (at Expression f) always) p.prev_token_end nothing q.prev_token_end (tree x.label x.slots) x.pass → x.pass (last colon.0) ≡ next name.0 (last colon.0)
@@ -183,7 +183,7 @@ module _ {text : List ℕ} {f : Flags} {p q : Parser} (a : At text f p) (x : Ans
       let y = name.0 in let z = colon.0 in
       let l : Lex text y.to z = subst (λ (e : ℕ). Lex text e z) (sym name.3) colon.1 in
       let cs = label_of name_node (next y (last z)) y.to (last z) in
-      let w = u.goes.only (tree cs end end) end y.to (next y (last z)) (last z) (name.1, l) (name_expression looks_so) (admits (at Expression f) (tree cs end end) z (covered (is Colon) (looser 1 f.in_ after_expression) (colon_ends f.in_) z.kind z.newline z.escaped (and_from _ _ (rw (colon.2) refl) (ap not (read_plain z colon.1.1 colon.2 refl))))) in
+      let w = u.goes.only (tree cs end end) end y.to (next y (last z)) (last z) (name.1, l) (name_expression looks_so) (admits (at Expression f) (tree cs end end) z (covered (is Colon) (looser 1 f.in_ after_expression) (colon_ends f.in_) z.kind z.newline z.escaped (and_from _ _ (rw (colon.2) refl) (ap not (read_plain z colon.1 colon.2 refl))))) in
       ap x.pass (sym (ends w.4).2) ∙ sym w.5
 
   name_passed : (ls : Lexemes) → x.pass ls ≡ next name.0 ls

@@ -82,7 +82,7 @@ a ⟝ b = record { at = a.at; further = a.further; pass = a.pass; walked = a.wal
 
 -- what goes on with no expression on a new line, and is no semicolon and no link: before it one may be left out
 abbrev on_a_line : Row → Look
-on_a_line r k w e = not (escaped_word k e) && ((looser 1 true r k w e || beside k w e) && (w && (not (one_of_kinds link_kinds k) && not (same_kind Semicolon k))))
+on_a_line r k w e = (looser 1 true r k w e || beside k w e) && (w && (not (one_of_kinds link_kinds k) && not (same_kind Semicolon k)))
 
 line_omits : (r : Row) → covers (on_a_line r) (may_omit (goes_on r)) ≡ true
 unfolding covers
@@ -257,9 +257,9 @@ module _ {text : List ℕ} {f : Flags} {q : Parser} (a : At text f q) where
       let e : y.kind ≡ RegExp = sym (kind_of_same RegExp y.kind i) in
       let z = sign_there l.0 h in
       let a_slash : one_of_kinds slashes z.lexeme.kind ≡ true = subst (λ (k : Kind). one_of_kinds (signs_of k) z.lexeme.kind ≡ true) e z.is in
-      let n : z.lexeme.escaped ≡ false = z.escaped ∙ read_plain y l.1 e refl in
+      let n : z.lexeme.escaped ≡ false = z.escaped ∙ read_plain y l e refl in
       let k = and_parts (one_of_kinds read_kinds z.lexeme.kind) _ (covered (λ k w e. one_of_kinds slashes k) slash_is slash_read z.lexeme.kind false false a_slash) in
-      let p : Plain text q.prev_token_end z.lexeme = (z.stands.lex, and_from _ _ (and_from _ _ k.0 (ap not (unescaped_word z.lexeme.kind z.lexeme.escaped n))) k.1) in
+      let p : Plain text q.prev_token_end z.lexeme = (z.stands.lex, and_from _ _ k.0 k.1) in
       let o = covered (λ k w e. slash_on_line k w e && S r k w e) (pattern_omits r) (c r) z.lexeme.kind z.lexeme.newline z.lexeme.escaped (and_from _ _ (and_from _ _ a_slash (and_from _ _ (ap not n) (z.newline ∙ (newline_here a y l ∙ w)))) (s z.lexeme p)) in
       subst (λ (j : Kind). may_omit (goes_on r) j y.newline y.escaped ≡ true) (sym e) (subst (λ (b : Bool). may_omit (goes_on r) RegExp b y.escaped ≡ true) z.newline (subst (λ (b : Bool). may_omit (goes_on r) RegExp z.lexeme.newline b ≡ true) z.escaped o))
 
@@ -270,7 +270,7 @@ module _ {text : List ℕ} {f : Flags} {q : Parser} (a : At text f q) where
     where
       go : (b : Bool) → one_of_kinds other_goals y.kind ≡ b → IsTrue (seen (may_omit (goes_on r)) y)
       go true e = pattern_omitted stays slash_omits r s w y l e (same_kind RegExp y.kind) refl
-      go false e = covered (on_a_line r) (may_omit (goes_on r)) (line_omits r) y.kind y.newline y.escaped (and_from _ _ (ap not (read_word_plain y l.1)) (and_from _ _ (s y (l.0, plain_so y l.1 e)) (and_from _ _ (newline_here a y l ∙ w) (and_from _ _ (unlinked_at v y l) (ap not (no_semicolon n y l))))))
+      go false e = covered (on_a_line r) (may_omit (goes_on r)) (line_omits r) y.kind y.newline y.escaped (and_from _ _ (s y (l.0, plain_so y l.1 e)) (and_from _ _ (newline_here a y l ∙ w) (and_from _ _ (unlinked_at v y l) (ap not (no_semicolon n y l)))))
 
   -- on a new line, where nothing goes on
   pub omits_stopped : (r : Row) → ((y : Lexeme) → Plain text q.prev_token_end y → IsTrue (seen (stops_row r) y)) → (q.token.is_on_new_line ≡ true → one_of_kinds link_kinds q.token.kind ≡ false) → MayEnd q → (q.token.kind ≡ Semicolon → ⊥) → (y : Lexeme) → Lex text q.prev_token_end y → IsTrue (seen (may_omit (goes_on r)) y)
@@ -452,7 +452,7 @@ module _ {text : List ℕ} {f : Flags} {p q : Parser} (a : At text f p) (x : Ans
           go false e = absurd (not_here x.at (Colon ∷ []) refl (rw e refl) z h (or_left (same_kind Colon z.kind) false (and_parts (same_kind Colon z.kind) _ c).0))
 
       label : Lexes (Lex text) q.prev_token_end (next z rest) → y.to ≡ q.prev_token_end → IsLabel p.token q
-      label h e = let k = told a (name_whole a token_kind).0 (name_signless p.token.kind token_kind) y l in record { colon = colon_kind h.0; name = sym (names_at x.at (λ (b : Bool). b) p.token.kind) ∙ subst (λ (v : Kind). may_name f.yield_ f.await_ v ≡ true) (sym k.kind) (test_named f y l.1 t); plain = token_read k l.1; place = k.end ∙ e }
+      label h e = let k = told a (name_whole a token_kind).0 (name_signless p.token.kind token_kind) y l in record { colon = colon_kind h.0; name = sym (names_at x.at (λ (b : Bool). b) p.token.kind) ∙ subst (λ (v : Kind). may_name f.yield_ f.await_ v ≡ true) (sym k.kind) (test_named f y l.1 t); place = k.end ∙ e }
 
   pub no_label : (X : Test) → Fails rule (Lex text) X end (symbol Labeled f) p.prev_token_end
   no_label X = labels_fail (λ y z rest l i t c. two_stand y z rest l i.0 i t c)
@@ -545,7 +545,7 @@ to_expression {text} {f} {p} a c v u = at_once (pass_over (looks (other (is_one_
     ⇒ not_followed a let_word (is LBrack) (λ y z l q m h. false≢true (sym (u y z l q m) ∙ (and_parts (same_kind LBrack z.kind) (not z.escaped) h).0))
   where
     go : (y : Lexeme) → Lex text p.prev_token_end y → (b : Bool) → one_of_kinds no_expression y.kind ≡ b → seen (other (is_one_of no_expression)) y ≡ true
-    go y l true e = absurd (not_here a (LCurly ∷ 'function' ∷ []) refl c y l (covered (λ k w e. one_of_kinds no_expression k && one_of_kinds read_kinds k) (λ k w e. one_of_kinds (LCurly ∷ 'function' ∷ []) k) begins_none y.kind y.newline y.escaped (and_from _ _ e (and_parts (one_of_kinds read_kinds y.kind) _ l.1).0)))
+    go y l true e = absurd (not_here a (LCurly ∷ 'function' ∷ []) refl c y l (covered (λ k w e. one_of_kinds no_expression k && one_of_kinds read_kinds k) (λ k w e. one_of_kinds (LCurly ∷ 'function' ∷ []) k) begins_none y.kind y.newline y.escaped (and_from _ _ e l.1)))
     go y l false e = rw e refl
 
 -- an expression that was read, where no statement ends behind it

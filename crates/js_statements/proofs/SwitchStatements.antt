@@ -221,21 +221,21 @@ pub undue_here : (q : Parser) → (ends_at list.Clause q.token.kind && not q.tok
 undue_here q h d = false≢true (sym h ∙ due_true q d)
 
 -- where nothing is due, none of these stands without an escape
-not_due : {text : List ℕ} {f : Flags} {q : Parser} {X : Test} {g : G} → At text f q → (ClauseDue q → ⊥) → (one_of_kinds (kind.Case ∷ kind.Default ∷ kind.RCurly ∷ []) q.token.kind ≡ false → Fails rule (Lex text) X end g q.prev_token_end) → Fails rule (Lex text) X end g q.prev_token_end
-not_due {text} {f} {q} {X} {g} a n h = by (escaped_word q.token.kind q.token.escaped) refl
+not_due : {text : List ℕ} {f : Flags} {q : Parser} {X : Test} {g : G} → At text f q → (ClauseDue q → ⊥) → (q.token.escaped ≡ true → Fails rule (Lex text) X end g q.prev_token_end) → (one_of_kinds (kind.Case ∷ kind.Default ∷ kind.RCurly ∷ []) q.token.kind ≡ false → Fails rule (Lex text) X end g q.prev_token_end) → Fails rule (Lex text) X end g q.prev_token_end
+not_due {text} {f} {q} {X} {g} a n u h = by q.token.escaped refl
   where
-    kinds : escaped_word q.token.kind q.token.escaped ≡ false → (c : Bool) → one_of_kinds (kind.Case ∷ kind.Default ∷ kind.RCurly ∷ []) q.token.kind ≡ c → Fails rule (Lex text) X end g q.prev_token_end
-    kinds e true k = absurd (n (due_at q (word_plain q.token.kind q.token.escaped (no_name_where (one_of_kinds (kind.Case ∷ kind.Default ∷ kind.RCurly ∷ [])) q.token.kind k refl) e) k))
+    kinds : q.token.escaped ≡ false → (c : Bool) → one_of_kinds (kind.Case ∷ kind.Default ∷ kind.RCurly ∷ []) q.token.kind ≡ c → Fails rule (Lex text) X end g q.prev_token_end
+    kinds e true k = absurd (n (due_at q e k))
     kinds e false k = h k
 
-    by : (c : Bool) → escaped_word q.token.kind q.token.escaped ≡ c → Fails rule (Lex text) X end g q.prev_token_end
-    by true e = fails_escaped a e
+    by : (e : Bool) → q.token.escaped ≡ e → Fails rule (Lex text) X end g q.prev_token_end
+    by true e = u e
     by false e = kinds e (one_of_kinds (kind.Case ∷ kind.Default ∷ kind.RCurly ∷ []) q.token.kind) refl
 
 module _ {text : List ℕ} {f : Flags} {q : Parser} (a : At text f q) where
   no_clauses_here : (ClauseDue q → ⊥) → NoList text list.Block (clauses_of f) q.prev_token_end
   unfolding rule rule_of covers apart
-  no_clauses_here n = not_due a n (λ k. fails_at a {X = plain (at_end list.Block)} (clauses_of f) (kind.Case ∷ kind.Default ∷ kind.RCurly ∷ []) refl k)
+  no_clauses_here n = not_due a n (λ e. fails_unescaped {X = plain (at_end list.Block)} (clauses_of f) a refl e) (λ k. fails_at a {X = plain (at_end list.Block)} (clauses_of f) (kind.Case ∷ kind.Default ∷ kind.RCurly ∷ []) refl k)
 
   open_at_eof : q.token.kind ≡ kind.Eof → NoList text list.Clause (statements list.Clause f) q.prev_token_end
   unfolding rule rule_of covers

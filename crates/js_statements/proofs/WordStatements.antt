@@ -43,12 +43,12 @@ use Rattle.js_parsing.specs.Answers.{Grown, Underived, Numbered, Stops, unclean}
 use Rattle.js_parsing.specs.Lexemes.{Lex, Walked, escaped_word, name_kinds, read_kinds, read_word, nowhere, spot}
 use Rattle.js_parsing.specs.Stands.{NameHere, StandsHere}
 use Rattle.js_parsing.proofs.NamedFirsts.{fails_unnamed}
-use Rattle.js_parsing.proofs.NameKinds.{listed_here, name_at, a_name, no_name_here}
+use Rattle.js_parsing.proofs.NameKinds.{listed_here, name_at, a_name}
 use Rattle.js_parsing.specs.Moves.{IsWholeHere, LeafTaken, Moved, MadeHere, plain_label}
 use Rattle.js_parsing.specs.States.{At, Same}
 use Rattle.js_parsing.specs.Statements.{placed, no_link, after_statement, NoStatement, Statement, EndsStatement, NoEnd}
 use Rattle.js_statements.specs.WordStatements.{ChecksOperand, JumpsHere, TakesLabel, late_operand}
-use Rattle.js_parsing.proofs.Giving.{kept_one, fails_escaped, gives_up_here}
+use Rattle.js_parsing.proofs.Giving.{kept_one, gives_up_here}
 use Rattle.js_parsing.proofs.Here.{found, newline_here, uncut}
 use Rattle.js_statements.proofs.Labels.{path_made}
 use Rattle.js_operands.proofs.Members.{word_whole}
@@ -190,11 +190,7 @@ module _ {text : List ℕ} {f : Flags} {q : Parser} (a : At text f q) where
   -- no name stands here
   no_name : {X : Test} → NameHere q false → Fails rule (Lex text) X end (no_newline ▸ symbol LabelIdentifier f) q.prev_token_end
   unfolding covers apart
-  no_name {X} n = by (escaped_word q.token.kind q.token.escaped) refl
-    where
-      by : (b : Bool) → escaped_word q.token.kind q.token.escaped ≡ b → Fails rule (Lex text) X end (no_newline ▸ symbol LabelIdentifier f) q.prev_token_end
-      by true e = fails_escaped a e
-      by false e = fails_unnamed a f (λ g. no_newline ▸ symbol LabelIdentifier g) [] refl refl refl refl refl (no_name_here f q (name_at false a n) e) refl
+  no_name {X} n = fails_unnamed a f (λ g. no_newline ▸ symbol LabelIdentifier g) [] refl refl refl refl refl (name_at false a n) refl
 
   -- nor a label, where the statement may end
   no_label : {X : Test} → MayEnd q → Fails rule (Lex text) X end (no_newline ▸ symbol LabelIdentifier f) q.prev_token_end

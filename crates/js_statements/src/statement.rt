@@ -174,7 +174,6 @@ fn is_label<C: ParserConfig>(p: &ParserImpl<'_, C>, first: Token) -> bool
 {
     p.at(Kind::Colon)
         && is_name_here(p, first.kind())
-        && !is_escaped_word(first)
         && first.end() == p.prev_token_end()
 }
 
