@@ -35,8 +35,9 @@ use Rattle.js_base.specs.declared.diagnostic.DiagnosticKind.{DiagnosticKind}
 use Rattle.js_base.specs.declared.diagnostic.DiagnosticClass.TheVariants.{Early}
 use Rattle.js_base.specs.Diagnostics.{class_of}
 use Rattle.js_cursor.specs.Moves.{Keeps as KeepsOne}
+use Rattle.js_parsing.proofs.Escapes.{plain_or_word}
 use Rattle.js_parsing.specs.Answers.{Grown, Verdict, Stretch, Underived, Answer, Numbered, Stops, beside, unclean}
-use Rattle.js_parsing.specs.Lexemes.{Lex, Walked, escaped_word, name_kinds, spot, Plain}
+use Rattle.js_parsing.specs.Lexemes.{Lex, Walked, name_kinds, spot, Plain, read_word}
 use Rattle.js_parsing.specs.Moves.{Moved, MadeHere, plain_label}
 use Rattle.js_parsing.specs.Stands.{NameHere}
 use Rattle.js_parsing.specs.States.{At, Same, NodesLie}
@@ -45,7 +46,7 @@ use Rattle.js_parsing.specs.Told.{unrelated_at}
 use Rattle.js_declarations.specs.Declarations.{One, NoOne, Declarator, EndsDeclarator, ChecksInitialiser, behind_row, ends_row, stops_row, missing}
 use Rattle.js_patterns.proofs.Bindings.{no_binding, no_pattern_name}
 use Rattle.js_parsing.proofs.NamedFirsts.{fails_unnamed}
-use Rattle.js_parsing.proofs.NameKinds.{listed_here, listed_name, name_at}
+use Rattle.js_parsing.proofs.NameKinds.{listed_here, name_at, no_listed_name}
 use Rattle.js_parsing.proofs.Giving.{kept_one}
 use Rattle.js_parsing.proofs.Here.{begins_here, kind_here}
 use Rattle.js_parsing.proofs.MadeNodes.{node_held, two_held, made_lies}
@@ -102,7 +103,7 @@ unbound {text} {f} {s} c n = record { no = λ ts us k ls rest lx d h. go ts us k
 
 -- no lexeme stands here
 pub none_at : {text : List ℕ} {f : Flags} {p : Parser} (c : Bool) → At text f p → p.token.kind ≡ Undetermined → NoOne text (declarator c f) p.prev_token_end
-none_at c a h = unbound c (no_binding a (λ k e. false≢true (ap (same_kind LBrack) (sym h ∙ k))) (λ k e. false≢true (ap (same_kind LCurly) (sym h ∙ k))) (λ k e. false≢true (ap (one_of_kinds name_kinds) (sym h) ∙ listed_name _ _ _ k)))
+none_at c a h = unbound c (no_binding a (λ k e. false≢true (ap (same_kind LBrack) (sym h ∙ k))) (λ k e. false≢true (ap (same_kind LCurly) (sym h ∙ k))) (no_listed_name _ _ _ (ap (one_of_kinds name_kinds) h)))
 
 -- ---- what may stand behind a declarator
 
@@ -145,7 +146,7 @@ comma_behind_name = refl
 
 -- what no expression goes on with
 abbrev ends_value : Row → Look
-ends_value r k w e = looser 1 true r k w e || beside k w e
+ends_value r k w e = (not e || read_word k) && (looser 1 true r k w e || beside k w e)
 
 value_stops : (r : Row) → covers (ends_value r) (stops_row r) ≡ true
 unfolding covers
@@ -315,7 +316,7 @@ unfolding covers apart
 value_ends {text} {f} {r} {v} y i n z l =
     let row = row_of y.label y.slots in
     let s = narrows 2 1 (Comma ∷ []) f.in_ row (narrow_assignment 2 1 (Comma ∷ []) (narrow_operand 2 1 (Comma ∷ []) refl refl refl refl) refl refl refl refl f.in_ row y.row) z l.1 (no_comma (one_of_kinds (Comma ∷ []) z.kind) refl) (y.stops z l) in
-    covered (ends_value row) (stops_row row) (value_stops row) z.kind z.newline z.escaped (subst (λ (b : Bool). IsTrue (seen (looser 1 b row) z || seen beside z)) i s)
+    covered (ends_value row) (stops_row row) (value_stops row) z.kind z.newline z.escaped (and_from _ _ (plain_or_word z (plain_lex l)) (subst (λ (b : Bool). IsTrue (seen (looser 1 b row) z || seen beside z)) i s))
   where
     no_comma : (b : Bool) → one_of_kinds (Comma ∷ []) z.kind ≡ b → one_of_kinds (Comma ∷ []) z.kind ≡ false
     no_comma true e = absurd (not_here y.at (Comma ∷ []) refl (other_kind Comma v.token.kind n) z (plain_lex l) e)

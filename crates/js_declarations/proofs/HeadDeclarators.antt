@@ -42,7 +42,7 @@ use Rattle.js_declarations.proofs.DeclaratorLists.{Underway, underway_end, under
 use Rattle.js_declarations.proofs.Declarators.{BindingRead, as_binding, eq_plain, bound, declared_bare, declared_with, initialiser_none, name_alone, no_eq_here, unbound}
 use Rattle.js_patterns.proofs.Bindings.{no_binding, no_pattern_name}
 use Rattle.js_parsing.proofs.Here.{unsettled}
-use Rattle.js_parsing.proofs.NameKinds.{listed_here, listed_name, name_at}
+use Rattle.js_parsing.proofs.NameKinds.{listed_here, listed_name, name_at, no_listed_name}
 use Rattle.js_parsing.proofs.NamedFirsts.{fails_unnamed}
 use Rattle.js_parsing.specs.Lexemes.{escaped_word, name_kinds}
 use Rattle.js_parsing.proofs.MadeNodes.{node_held, two_held, made_lies}
@@ -302,7 +302,7 @@ module _ {text : List ℕ} {f : Flags} {p q r : Parser} {binding : NodeId} (a : 
 
 -- where no lexeme stands
 pub none_at_head : {text : List ℕ} {f : Flags} {p : Parser} (c : Bool) → At text f p → p.token.kind ≡ Undetermined → NoHeadDeclarator text f c p.prev_token_end
-none_at_head c a h = no_head_declarator c (no_binding a (λ k e. false≢true (ap (same_kind LBrack) (sym h ∙ k))) (λ k e. false≢true (ap (same_kind LCurly) (sym h ∙ k))) (λ k e. false≢true (ap (one_of_kinds name_kinds) (sym h) ∙ listed_name _ _ _ k)))
+none_at_head c a h = no_head_declarator c (no_binding a (λ k e. false≢true (ap (same_kind LBrack) (sym h ∙ k))) (λ k e. false≢true (ap (same_kind LCurly) (sym h ∙ k))) (no_listed_name _ _ _ (ap (one_of_kinds name_kinds) h)))
 
 pub through_so : (p : Parser) {b r : Bool} → r ≡ b → ThroughHere p r → ThroughHere p b
 through_so p e h = subst (λ (v : Bool). ThroughHere p v) e h

@@ -47,7 +47,7 @@ use Rattle.js_parsing.proofs.Moving.{same_both}
 use Rattle.js_parsing.proofs.NameKinds.{name_apart, name_read, name_whole}
 use Rattle.js_parsing.proofs.Paths.{fails_at, read_of, walked_both, walked_one}
 use Rattle.js_parsing.proofs.Signs.{other_kind, plain_sign}
-use Rattle.js_parsing.proofs.Escapes.{read_as, read_plain, word_escaped}
+use Rattle.js_parsing.proofs.Escapes.{read_as, read_plain, plain_or_word}
 use Rattle.js_parsing.proofs.Verdicts.{grown_then}
 use Rattle.js_operands.proofs.Operands.{name_signless}
 use Rattle.js_targets.proofs.ArraysBeforeSigns.{array_part, is_cover}
@@ -85,14 +85,6 @@ one_passed (and_more {x = x} {ls = ls} m o) = (x, ls, refl)
 
 abbrev a_head_there : Look
 a_head_there k w e = begins_head k w e && (not w && (not e || read_word k))
-
--- what has an escape is a word
-plain_or_word : {text : List ℕ} {s : ℕ} (y : Lexeme) → Lex text s y → (not y.escaped || read_word y.kind) ≡ true
-plain_or_word y l = go y.escaped refl
-  where
-    go : (b : Bool) → y.escaped ≡ b → (not y.escaped || read_word y.kind) ≡ true
-    go true e = or_right (not y.escaped) _ (word_escaped y l e)
-    go false e = or_left _ _ (ap not e)
 
 -- an operand doesn't end before a head on its line
 head_binds : (b : Bool) → covers a_head_there (λ k w e. not (looser 2 b after_expression k w e)) ≡ true

@@ -1,6 +1,6 @@
 -- Which lexemes have an escape: names and words alone.
 use Rattle.std.proofs.Common.{ℕ, ◌≡◌, Bool, true, false, not, ◌&&◌, ◌||◌, List, IsTrue, refl, sym, ap, subst, ◌∙◌}
-use Rattle.std.proofs.lemmas.Bool.{false≢true, and_parts, and_from}
+use Rattle.std.proofs.lemmas.Bool.{false≢true, and_parts, and_from, or_left, or_right}
 use Rattle.js_base.specs.declared.kind.Kind.{Kind}
 use Rattle.js_base.specs.declared.kind.Kind.TheVariants.{Ident, PrivateIdentifier}
 use Rattle.js_base.specs.declared.token.Token.{Token}
@@ -129,6 +129,14 @@ word_escaped y l e = go (read_word y.kind) refl
     go : (b : Bool) → read_word y.kind ≡ b → read_word y.kind ≡ true
     go true q = q
     go false q = absurd (false≢true (sym (read_unnamed y l q) ∙ e))
+
+-- so it has none, or it is one
+pub plain_or_word : {text : List ℕ} {s : ℕ} (y : Lexeme) → Lex text s y → (not y.escaped || read_word y.kind) ≡ true
+plain_or_word y l = go y.escaped refl
+  where
+    go : (b : Bool) → y.escaped ≡ b → (not y.escaped || read_word y.kind) ≡ true
+    go true e = or_right (not y.escaped) _ (word_escaped y l e)
+    go false e = or_left _ _ (ap not e)
 
 -- it is of the token's kind
 pub kind_escaped : {text : List ℕ} {f : Flags} {p : Parser} → At text f p → p.token.escaped ≡ true → (y : Lexeme) → Lex text p.prev_token_end y → y.kind ≡ p.token.kind
