@@ -17,16 +17,17 @@ use Rattle.js_grammar.proofs.Looks.{covers, covered, apart}
 use Rattle.js_grammar.proofs.Calculus.{◌▹✗◌, done, fails_alt, fails_node, fails_rule, inside_full, left, right}
 use Rattle.js_tree.specs.declared.id.NodeId.{NodeId}
 use Rattle.js_cursor.specs.Parsers.{Parser}
-use Rattle.js_operands.specs.Objects.{Begins, NoAsyncMethod, accessors, begins_async, methods, ReadsMethod, ends_name_kinds, form_of, getter_of, keyword_kind, method_left, named, setter_of, shorthand, with_method}
+use Rattle.js_operands.specs.Objects.{Begins, NoAsyncMethod, accessors, begins_async, methods, ReadsMethod, ends_name_kinds, form_of, getter_of, method_left, named, setter_of, shorthand, with_method}
 use Rattle.js_operands.specs.PropertyNames.{NameRead, NoName, NoNames}
 use Rattle.js_cursor.specs.declared.stop.Stop.{Stop}
 use Rattle.js_operands.specs.declared.property_name.PropertyName.{PropertyName}
 use Rattle.js_operands.specs.Spreads.{PartOutcome, spread}
 use Rattle.js_operands.proofs.Wholes.{part_by}
+use Rattle.js_parsing.proofs.Escapes.{keyword_is}
 use Rattle.js_parsing.specs.declared.nested.MethodForm.{MethodForm}
 use Rattle.js_parsing.specs.declared.nested.MethodForm.TheVariants.{Method, Getter, Setter}
 use Rattle.js_parsing.specs.Arguments.{NoItem, Partway, behind_item}
-use Rattle.js_parsing.specs.Lexemes.{Lex, may_name, name_kinds, read_word}
+use Rattle.js_parsing.specs.Lexemes.{Lex, may_name, name_kinds, read_word, keyword_kind}
 use Rattle.js_parsing.specs.Moves.{LeafTaken, MadeHere, Moved, Moves, plain_label}
 use Rattle.js_parsing.specs.Nesting.{room}
 use Rattle.js_base.specs.declared.span.Span.{Span}
@@ -42,7 +43,7 @@ use Rattle.js_parsing.proofs.Signs.{plain_sign}
 use Rattle.js_parsing.specs.Stands.{StandsHere}
 use Rattle.js_operands.proofs.Methods.{no_first}
 use Rattle.js_operands.proofs.Properties.{behind_shorthand, forms, kinds_apart, name_part, no_async_line, no_forms, no_getter, no_method, no_name_begins, no_setter, no_named_shorthand, no_shorthand, no_spread, no_value, only_getters, only_method, only_methods, only_named, only_setters, only_shorthand, only_spread, property_name_kinds, none_of_line, with_star, word_apart}
-use Rattle.js_operands.proofs.WordProperties.{keyword_is, name_async, no_accessor, no_dots, no_methods, no_star, no_values, not_alone, one_begins}
+use Rattle.js_operands.proofs.WordProperties.{name_async, no_accessor, no_dots, no_methods, no_star, no_values, not_alone, one_begins}
 
 abbrev read_words : Look
 read_words k w e = read_word k

@@ -31,14 +31,14 @@ use Rattle.js_cursor.specs.Parsers.{Parser}
 use Rattle.js_cursor.specs.declared.stop.Stop.{Stop}
 use Rattle.js_tree.specs.declared.op.PropertyKind.TheVariants as property
 use Rattle.js_parsing.specs.Nesting.{room}
-use Rattle.js_operands.specs.Objects.{Begins, NoAsyncMethod, async_line, begins_async, ends_name_kinds, form_of, getter_of, keyword_kind, method_left, property_label, setter_of, shorthand, value_left, with_method, with_value}
+use Rattle.js_operands.specs.Objects.{Begins, NoAsyncMethod, async_line, begins_async, ends_name_kinds, form_of, getter_of, method_left, property_label, setter_of, shorthand, value_left, with_method, with_value}
 use Rattle.js_operands.specs.PropertyNames.{NoName}
 use Rattle.js_parsing.specs.declared.nested.MethodForm.{MethodForm}
 use Rattle.js_parsing.specs.declared.nested.MethodForm.TheVariants.{Method, Getter, Setter}
 use Rattle.js_base.specs.declared.diagnostic.Diagnostic.{Diagnostic}
 use Rattle.js_parsing.specs.Answers.{Answer, Grown, Numbered, Stops, Underived}
 use Rattle.js_parsing.specs.Arguments.{PartTaken, behind_item}
-use Rattle.js_parsing.specs.Lexemes.{Lex, is_read, may_name, name_kinds, read_kinds, read_word}
+use Rattle.js_parsing.specs.Lexemes.{Lex, is_read, may_name, name_kinds, read_kinds, read_word, keyword_kind}
 use Rattle.js_parsing.proofs.NameKinds.{listed_name}
 use Rattle.js_parsing.specs.Moves.{Moved, MadeHere, plain_label}
 use Rattle.js_parsing.specs.States.{At, Same, NodesLie}
@@ -46,7 +46,7 @@ use Rattle.js_parsing.proofs.Here.{begins_here, kind_here}
 use Rattle.js_parsing.proofs.MadeNodes.{from_start, leaf_held, node_held, one_lies}
 use Rattle.js_parsing.proofs.Moving.{beside_nodes, same_both, same_with, stops_behind}
 use Rattle.js_parsing.proofs.Paths.{Path, ◌⟼◌, ◌⟶◌, ◌⟶✗◌, by_symbol_as, fails_at, flagged_by, flagged_here, label_here, last_called, noded, one_read, passes_test, token}
-use Rattle.js_parsing.proofs.Escapes.{read_as}
+use Rattle.js_parsing.proofs.Escapes.{read_as, keyword_plain}
 use Rattle.js_parsing.proofs.Giving.{fails_unescaped}
 use Rattle.js_parsing.proofs.Signs.{other_kind, plain_sign}
 use Rattle.js_parsing.proofs.Verdicts.{grown_then, verdict_of}
@@ -100,18 +100,6 @@ one_begins w b form = go (one_of_kinds ends_name_kinds b) (same_kind Get w) (sam
     go false false true g t Getter e = absurd cc
     go false false true g t Method e = absurd cc
     go false false false g t form e = absurd cc
-
--- without an escape it is the keyword that it looks like
-pub keyword_plain : (t : Token) → t.escaped ≡ false → keyword_kind t ≡ t.kind
-keyword_plain t e = ap (λ (b : Bool). cond b Ident t.kind) e
-
--- a keyword has no escape
-pub keyword_is : (t : Token) {k : Kind} → keyword_kind t ≡ k → same_kind Ident k ≡ false → (t.kind ≡ k) × (t.escaped ≡ false)
-keyword_is t {k} h n = go t.escaped refl h
-  where
-    go : (b : Bool) → t.escaped ≡ b → cond b Ident t.kind ≡ k → (t.kind ≡ k) × (t.escaped ≡ false)
-    go true e i = absurd (false≢true (sym n ∙ ap (same_kind Ident) (sym i)))
-    go false e i = (i, e)
 
 -- ---- the word
 

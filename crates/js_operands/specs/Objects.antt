@@ -1,9 +1,8 @@
 -- What the parse functions of object literals answer (ECMA-262, 13.2.5): each form of a property, and the list of them as far as it was read.
-use Rattle.std.specs.Prelude.{ℕ, ◌+◌, ◌≡◌, ◌||◌, Bool, cond, false, true, List, [], ◌∷◌, ◌++◌, Option, Some, None, if◌then◌else◌, Result, Ok, Err}
+use Rattle.std.specs.Prelude.{ℕ, ◌+◌, ◌≡◌, ◌||◌, Bool, false, true, List, [], ◌∷◌, ◌++◌, Option, Some, None, if◌then◌else◌, Result, Ok, Err}
 use Rattle.js_base.specs.declared.kind.Kind.{Kind}
-use Rattle.js_base.specs.declared.kind.Kind.TheVariants.{Async, Colon, Comma, Eq, Get, Ident, LCurly, LParen, RBrack, RCurly, RParen, Set, Star}
+use Rattle.js_base.specs.declared.kind.Kind.TheVariants.{Async, Colon, Comma, Eq, Get, LCurly, LParen, RBrack, RCurly, RParen, Set, Star}
 use Rattle.js_base.specs.declared.span.Span.{Span}
-use Rattle.js_base.specs.declared.token.Token.{Token}
 use Rattle.js_base.specs.Kinds.{same_kind, one_of_kinds}
 use Rattle.js_grammar.specs.Trees.{Label, Op, end, function_expression, init, no_op, object_property, of}
 use Rattle.js_grammar.specs.Grammar.{ahead, commas, never, nothing, when, ◌▸◌, ◌◇◌}
@@ -96,10 +95,6 @@ function_label a s from to = record { kind = function_expression; op = no_op; fl
 -- before these `get`, `set` and `async` are names
 abbrev pub ends_name_kinds : List Kind
 ends_name_kinds = Colon ∷ LParen ∷ Eq ∷ Comma ∷ RParen ∷ RBrack ∷ RCurly ∷ []
-
--- which keyword it is: with an escape it is a name and none (ECMA-262, 12.7.2)
-abbrev pub keyword_kind : Token → Kind
-keyword_kind t = cond t.escaped Ident t.kind
 
 -- which accessor a word begins before another lexeme
 abbrev pub form_of : Kind → Kind → Option MethodForm

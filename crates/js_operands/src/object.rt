@@ -8,7 +8,7 @@ ghost use Rattle.js_cursor.specs.Moves.{Opened};
 ghost use Rattle.js_grammar.specs.Productions.{at, body_of, computed_flag, flag, generator_flag, method_flag, params_of, shorthand_flag, Primary, Property};
 ghost use Rattle.js_tree.specs.Labels.{number_of};
 ghost use Rattle.js_tree.specs.declared.op.PropertyKind.TheVariants.{Init};
-ghost use Rattle.js_operands.specs.Objects.{NoProperties, Properties, ReadsAccessor, ReadsAsyncMethod, ReadsBehindName, begins_async, ReadsMethod, ReadsShorthand, ReadsValue, TakesProperty, ends_name_kinds, flags_of_form, form_of, keyword_kind, function_label, kind_of_form, method_left, property_label};
+ghost use Rattle.js_operands.specs.Objects.{NoProperties, Properties, ReadsAccessor, ReadsAsyncMethod, ReadsBehindName, begins_async, ReadsMethod, ReadsShorthand, ReadsValue, TakesProperty, ends_name_kinds, flags_of_form, form_of, function_label, kind_of_form, method_left, property_label};
 ghost use Rattle.js_parsing.specs.Answers.{Answers};
 ghost use Rattle.js_parsing.specs.Lexemes.{may_name, read_word};
 ghost use Rattle.js_parsing.specs.Lists.{ReadsItem};
@@ -25,7 +25,7 @@ use js_base::{Kind, NoMemory, Span, Token};
 use js_cursor::{ParserImpl, Stop};
 use js_lex::ParserConfig;
 use js_parsing::context::{assignment_with_in, body_of_function, parameters_in_method};
-use js_parsing::lexemes::{advance, is_name_here, is_read_word, stands};
+use js_parsing::lexemes::{advance, is_name_here, is_read_word, keyword_of, stands};
 use js_parsing::nested::{MethodForm, Nested};
 use js_parsing::nodes::{make_leaf, make_list};
 use js_tree::{NodeFlags, NodeId, NodeKind, Op, PropertyKind};
@@ -185,16 +185,6 @@ fn parse_word_property<C: ParserConfig, N: Nested<C>>(
         computed: false,
     };
     parse_behind_name(p, nested, span.start, name)
-}
-
-/// Which keyword it is: with an escape it is a name and none (ECMA-262, section 12.7.2).
-fn keyword_of(word: Token) -> Kind
-    ensures { result ≡ keyword_kind word }
-{
-    if word.escaped() {
-        return Kind::Ident;
-    }
-    word.kind()
 }
 
 /// Whether `get`, `set` or `async` before such a lexeme is the name of a property, and not the beginning of a method.

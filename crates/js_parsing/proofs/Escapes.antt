@@ -1,5 +1,5 @@
 -- Which lexemes have an escape: names and words alone.
-use Rattle.std.proofs.Common.{ℕ, ◌≡◌, Bool, true, false, not, ◌&&◌, ◌||◌, List, IsTrue, refl, sym, ap, subst, ◌∙◌}
+use Rattle.std.proofs.Common.{ℕ, ◌≡◌, Bool, true, false, not, ◌&&◌, ◌||◌, List, IsTrue, refl, sym, ap, subst, ◌∙◌, cond}
 use Rattle.std.proofs.lemmas.Bool.{false≢true, and_parts, and_from, or_left, or_right}
 use Rattle.js_base.specs.declared.kind.Kind.{Kind}
 use Rattle.js_base.specs.declared.kind.Kind.TheVariants.{Ident, PrivateIdentifier}
@@ -15,7 +15,7 @@ use Rattle.js_grammar.specs.Pruning.{every_kind}
 use Rattle.js_grammar.proofs.Looks.{covers, covered}
 use Rattle.js_lex.specs.Reading.{Tells, is_right_angle}
 use Rattle.js_cursor.specs.Parsers.{Parser}
-use Rattle.js_parsing.specs.Lexemes.{Lex, escaped_word, is_read, may_name, other_goals, read_kinds, read_word}
+use Rattle.js_parsing.specs.Lexemes.{Lex, escaped_word, is_read, may_name, other_goals, read_kinds, read_word, keyword_kind}
 use Rattle.js_parsing.specs.States.{At}
 use Rattle.js_parsing.proofs.Here.{angled, escaped_here, told_plain}
 use Rattle.js_parsing.proofs.Paths.{of_every}
@@ -150,3 +150,29 @@ kind_escaped {p = p} a e y l = go p.cut refl
     go : (b : Bool) → p.cut ≡ b → y.kind ≡ p.token.kind
     go true c = absurd (false≢true (sym apart.0 ∙ angled a c y l))
     go false c = sym (told_plain a c y apart.1 l).kind
+
+-- ---- keywords
+
+-- without an escape it is the keyword that it looks like
+pub keyword_plain : (t : Token) → t.escaped ≡ false → keyword_kind t ≡ t.kind
+keyword_plain t e = ap (λ (b : Bool). cond b Ident t.kind) e
+
+-- a keyword has no escape
+pub keyword_is : (t : Token) {k : Kind} → keyword_kind t ≡ k → same_kind Ident k ≡ false → (t.kind ≡ k) × (t.escaped ≡ false)
+keyword_is t {k} h n = go t.escaped refl h
+  where
+    go : (b : Bool) → t.escaped ≡ b → cond b Ident t.kind ≡ k → (t.kind ≡ k) × (t.escaped ≡ false)
+    go true e i = absurd (false≢true (sym n ∙ ap (same_kind Ident) (sym i)))
+    go false e i = (i, e)
+
+-- what is none of these kinds is no keyword among them
+pub keyword_none : (t : Token) (ks : List Kind) → one_of_kinds ks t.kind ≡ false → one_of_kinds ks Ident ≡ false → one_of_kinds ks (keyword_kind t) ≡ false
+keyword_none t ks h n = go t.escaped refl
+  where
+    go : (b : Bool) → t.escaped ≡ b → one_of_kinds ks (keyword_kind t) ≡ false
+    go true e = ap (λ (b : Bool). one_of_kinds ks (cond b Ident t.kind)) e ∙ n
+    go false e = ap (one_of_kinds ks) (keyword_plain t e) ∙ h
+
+-- nor is what has an escape
+pub keyword_escaped : (t : Token) (ks : List Kind) → t.escaped ≡ true → one_of_kinds ks Ident ≡ false → one_of_kinds ks (keyword_kind t) ≡ false
+keyword_escaped t ks e n = ap (λ (b : Bool). one_of_kinds ks (cond b Ident t.kind)) e ∙ n

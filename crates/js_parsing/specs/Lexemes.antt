@@ -59,6 +59,10 @@ signs = RCurly ∷ slashes
 abbrev pub escaped_word : Kind → Bool → Bool
 escaped_word k e = e && not (same_kind Ident k)
 
+-- Which keyword a token is: with an escape it is a name and none.
+abbrev pub keyword_kind : Token → Kind
+keyword_kind t = cond t.escaped Ident t.kind
+
 -- a lexeme of these kinds
 abbrev pub is_read : Lexeme → Bool
 is_read y = one_of_kinds read_kinds y.kind

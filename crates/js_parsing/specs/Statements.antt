@@ -43,7 +43,7 @@ NoStatement text n s = Fails rule (Lex text) (after_statement n) no_slots (such 
 
 -- behind a tree that ends in an `if` without `else` there stands no `else`: it would be that one's (14.6)
 abbrev pub Closed : List ℕ → ℕ → Label → Slots → Type 0
-Closed text s l cs = (edge_of l cs).open_if ≡ true → (y : Lexeme) → Lex text s y → same_kind Else y.kind ≡ false
+Closed text s l cs = (edge_of l cs).open_if ≡ true → (y : Lexeme) → Lex text s y → y.escaped ≡ false → same_kind Else y.kind ≡ false
 
 -- A statement was taken. Clean: whatever is derived from its beginning, and stops where it may, is this; and it is derived over any lexemes that go on at least to the current one. Unclean: nothing is derived from there. A node made in the call stands for its tree.
 pub record Statement (text : List ℕ) (f : Flags) (n : Symbol) (old new : Parser) (id : NodeId) : Type 0 where

@@ -7,7 +7,7 @@ ghost use Rattle.js_parsing.specs.Answers.{StopsUnbuilt};
 ghost use Rattle.js_parsing.specs.States.{Standing};
 ghost use Rattle.js_base.specs.Contexts.{has_flag, in_flag, yield_flag, await_flag};
 ghost use Rattle.js_base.specs.Kinds.{one_of_kinds};
-ghost use Rattle.js_parsing.specs.Lexemes.{escaped_word, may_name, name_kinds, read_kinds, read_mark, read_operator, read_reserved, read_word, unbuilt_kinds};
+ghost use Rattle.js_parsing.specs.Lexemes.{escaped_word, keyword_kind, may_name, name_kinds, read_kinds, read_mark, read_operator, read_reserved, read_word, unbuilt_kinds};
 ghost use Rattle.js_parsing.specs.Stands.{EndsOperand, NameHere, NameUnder, ReadsHere, StandsHere};
 ghost use Rattle.js_parsing.specs.Operators.{power_of};
 ghost use Rattle.js_parsing.specs.Moves.{IsCompleted, IsWholeHere, Moves, OperatorHere};
@@ -80,6 +80,17 @@ pub fn is_escaped_word(token: Token) -> bool
         Kind::Ident => false,
         _ => token.escaped(),
     }
+}
+
+/// Which keyword it is: with an escape it is a name and none (ECMA-262, section 12.7.2).
+#[inline(always)]
+pub fn keyword_of(token: Token) -> Kind
+    ensures { result ≡ keyword_kind token }
+{
+    if token.escaped() {
+        return Kind::Ident;
+    }
+    token.kind()
 }
 
 /// Whether such a word stands here.

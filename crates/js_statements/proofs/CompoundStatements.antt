@@ -437,7 +437,7 @@ module _ {text : List ℕ} {f : Flags} {q r : Parser} {id : NodeId} (s : Stateme
     shut = go (ends_in_sub s.label.kind && lacks_else s.slots) refl
       where
         go : (b : Bool) → (ends_in_sub s.label.kind && lacks_else s.slots) ≡ b → not (ends_in_sub s.label.kind && lacks_else s.slots) ≡ true
-        go true e = absurd (false≢true (sym (s.closed e m.lexeme (m.stood, read_of m.lexeme (sym m.tells.kind ∙ h.0) (sym m.tells.escaped ∙ h.1) refl)) ∙ rw (sym m.tells.kind ∙ h.0) refl))
+        go true e = absurd (false≢true (sym (s.closed e m.lexeme (m.stood, read_of m.lexeme (sym m.tells.kind ∙ h.0) refl) (sym m.tells.escaped ∙ h.1)) ∙ rw (sym m.tells.kind ∙ h.0) refl))
         go false e = ap not e
 
     else_passed : Path text f (behind_tails f) (tails f) q (symbol Sub f) t (tree s.label s.slots)
@@ -464,14 +464,14 @@ pub record Tails (text : List ℕ) (f : Flags) (q v : Parser) (consequent : Node
   pub same : Same q v
   pub held : HoldsAll v.nodes (length q.nodes) (length v.nodes) (Some consequent ∷ alternate ∷ []) (slots end)
   pub keeps : Keeps q.nodes v.nodes
-  pub closed : (l : Label) (cs : Slots) → lacks_else (tree l cs (slots end)) ≡ true → (y : Lexeme) → Lex text v.prev_token_end y → same_kind kind.Else y.kind ≡ false
+  pub closed : (l : Label) (cs : Slots) → lacks_else (tree l cs (slots end)) ≡ true → (y : Lexeme) → Lex text v.prev_token_end y → y.escaped ≡ false → same_kind kind.Else y.kind ≡ false
 
 -- no lexeme of the kind
-none_is : {text : List ℕ} {s : ℕ} (k : Kind) → NoneIs text s k → (y : Lexeme) → Lex text s y → same_kind k y.kind ≡ false
-none_is k n y l = go (same_kind k y.kind) refl
+none_is : {text : List ℕ} {s : ℕ} (k : Kind) → NoneIs text s k → (y : Lexeme) → Lex text s y → y.escaped ≡ false → same_kind k y.kind ≡ false
+none_is k n y l w = go (same_kind k y.kind) refl
   where
     go : (b : Bool) → same_kind k y.kind ≡ b → same_kind k y.kind ≡ false
-    go true e = absurd (n y l (sym (kind_of_same k y.kind e)))
+    go true e = absurd (n y l (sym (kind_of_same k y.kind e)) w)
     go false e = e
 
 pub tails_taken : {text : List ℕ} {f : Flags} {q r v : Parser} {consequent : NodeId} (s : Statement text f (at Sub f) q r consequent) (alternate : Option NodeId) → TakesAlternate r v (Ok alternate) → Tails text f q v consequent alternate
@@ -483,7 +483,7 @@ tails_taken {text} {f} {q} {r} {v} {consequent} s None (n, e) =
       same = s.same;
       held = HoldsAll-hole (HoldsAll-one consequent s.holds);
       keeps = s.keeps;
-      closed = λ l cs o y i. none_is kind.Else k y i;
+      closed = λ l cs o y i w. none_is kind.Else k y i w;
     })
 tails_taken {text} {f} {q} {r} {v} {consequent} s (Some id) (h, t) =
     let z = t text f s.at in

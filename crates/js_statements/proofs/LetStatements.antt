@@ -41,7 +41,7 @@ use Rattle.js_parsing.proofs.Dead.{lives}
 use Rattle.js_parsing.proofs.Giving.{kept_one}
 use Rattle.js_parsing.proofs.Moving.{same_both, stops_so}
 use Rattle.js_parsing.proofs.Paths.{◌⟼◌, at_kind, by_symbol_as, walked_to}
-use Rattle.js_parsing.proofs.Escapes.{no_name_where, read_unnamed}
+use Rattle.js_parsing.proofs.Escapes.{no_name_where, read_unnamed, keyword_none}
 use Rattle.js_parsing.specs.Told.{unrelated_at}
 use Rattle.js_parsing.proofs.Told.{told_at, told_same}
 use Rattle.js_parsing.proofs.Signs.{span_is}
@@ -101,7 +101,7 @@ module _ {text : List ℕ} {f : Flags} {p : Parser} (a : At text f p) (h : LetHe
       by false k = followed a let_word (word_or (LCurly ∷ [])) h.here (λ z l. or_word h.kind h.goes_on k z (kind_behind a h z l))
 
   let_listed : {X : Test} → Goes rule (Lex text) X end (rule (at ListItem f)) p.prev_token_end (symbol Lexical f) p.prev_token_end (λ us. us) (still 0)
-  let_listed {X} = subst (λ (g : G). Goes rule (Lex text) X end (rule (at ListItem f)) p.prev_token_end g p.prev_token_end (λ us. us) (still 0)) (item_left f) (lives (rule (at ListItem f))) ▹ right (let_statement a h) ▹ right no_expression_item ▹ right (no_function a (ap (one_of_kinds statement_kinds) h.here.0) (no_async_here a (no_async a h)))
+  let_listed {X} = subst (λ (g : G). Goes rule (Lex text) X end (rule (at ListItem f)) p.prev_token_end g p.prev_token_end (λ us. us) (still 0)) (item_left f) (lives (rule (at ListItem f))) ▹ right (let_statement a h) ▹ right no_expression_item ▹ right (no_function a (keyword_none p.token statement_kinds (ap (one_of_kinds statement_kinds) h.here.0) refl) (no_async_here a (no_async a h)))
 
   let_alone : {X : Test} → Goes rule (Lex text) X end (rule (at Lexical f)) p.prev_token_end (declaration declared.Let f) p.prev_token_end (λ us. us) (still 0)
   unfolding rule rule_of covers
@@ -109,7 +109,7 @@ module _ {text : List ℕ} {f : Flags} {p : Parser} (a : At text f p) (h : LetHe
 
 -- as a body
 no_let_body : {text : List ℕ} {f : Flags} {p : Parser} → At text f p → LetHere false p → NoStatement text (at Sub f) p.prev_token_end
-no_let_body {text} {f} {p} a h = no_symbol (subst (λ (g : G). Goes rule (Lex text) (after_statement (at Sub f)) end (rule (at Sub f)) p.prev_token_end g p.prev_token_end (λ us. us) (still 0)) (sub_left f) (lives (rule (at Sub f))) ▹✗ fails_alt (let_statement a h) (fails_alt (let_expression a h h.goes_on) (no_function_body a (ap (one_of_kinds statement_kinds) h.here.0))))
+no_let_body {text} {f} {p} a h = no_symbol (subst (λ (g : G). Goes rule (Lex text) (after_statement (at Sub f)) end (rule (at Sub f)) p.prev_token_end g p.prev_token_end (λ us. us) (still 0)) (sub_left f) (lives (rule (at Sub f))) ▹✗ fails_alt (let_statement a h) (fails_alt (let_expression a h h.goes_on) (no_function_body a (keyword_none p.token statement_kinds (ap (one_of_kinds statement_kinds) h.here.0) refl))))
 
 -- ---- of both words
 

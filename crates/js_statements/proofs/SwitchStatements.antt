@@ -22,7 +22,7 @@ use Rattle.js_grammar.specs.Productions.{Statement as AStatement}
 use Rattle.js_grammar.specs.Productions.{sym as symbol}
 use Rattle.js_grammar.specs.Table.{rule, rule_of}
 use Rattle.js_grammar.proofs.Lexemes.{first_or}
-use Rattle.js_grammar.proofs.Looks.{covers, apart}
+use Rattle.js_grammar.proofs.Looks.{covers, apart, covered}
 use Rattle.js_grammar.proofs.Calculus.{Between, ◌▹◌, ◌▹✗◌, by_plain, inside_plain, more_of, then_by, part_fails, fails_never, fails_node, fails_rule}
 use Rattle.js_grammar.proofs.FirstClaims.{firsts}
 use Rattle.js_grammar.proofs.FirstRules.{by_first}
@@ -41,17 +41,19 @@ use Rattle.js_cursor.specs.Places.{IsAt, goal}
 use Rattle.js_cursor.specs.declared.stop.Stop.{Stop}
 use Rattle.js_cursor.specs.declared.stop.Stop.TheVariants.{Fatal, NoMemory}
 use Rattle.js_cursor.proofs.Standing.{mark_here}
+use Rattle.js_parsing.proofs.NameKinds.{no_listed_name}
+use Rattle.js_parsing.proofs.NamedFirsts.{fails_escaped}
 use Rattle.js_parsing.specs.Answers.{Answers, Grown, Numbered, Stops, Underived, unclean}
 use Rattle.js_parsing.specs.Classes.{EndsParse}
-use Rattle.js_parsing.specs.Lexemes.{Lex, escaped_word, spot}
+use Rattle.js_parsing.specs.Lexemes.{Lex, spot, may_name, name_kinds}
 use Rattle.js_parsing.specs.Moves.{IsWholeHere, Moved, Moves, MadeHere, plain_label}
 use Rattle.js_parsing.specs.Stands.{StandsHere}
 use Rattle.js_parsing.specs.States.{At, NodesLie, Same, flags_of}
 use Rattle.js_parsing.specs.Statements.{placed, after_statement, NoStatement, Statement}
 use Rattle.js_parsing.specs.Told.{unrelated_at}
 use Rattle.js_patterns.proofs.BehindRests.{mark_later}
-use Rattle.js_parsing.proofs.Escapes.{no_name_where, word_plain}
-use Rattle.js_parsing.proofs.Giving.{fails_escaped, fails_none, gives_up, kept_one}
+use Rattle.js_parsing.proofs.Escapes.{escaped_unnamed}
+use Rattle.js_parsing.proofs.Giving.{fails_none, gives_up, kept_one, fails_unescaped}
 use Rattle.js_parsing.proofs.MadeNodes.{made_lies, node_held, one_lies}
 use Rattle.js_parsing.proofs.Moving.{beside_nodes, same_both, same_itself, same_with, stops_behind, stops_so}
 use Rattle.js_parsing.proofs.Paths.{Path, ◌⟶◌, ◌⟶✗◌, ◌⟼◌, at_kind, by_symbol_as, called, fails_at, label_here, last_token, noded, noded_by, token, walked_to}
@@ -220,6 +222,18 @@ due_true q (inr (inr h)) = rw (h.0, h.1) refl
 pub undue_here : (q : Parser) → (ends_at list.Clause q.token.kind && not q.token.escaped) ≡ false → ClauseDue q → ⊥
 undue_here q h d = false≢true (sym h ∙ due_true q d)
 
+-- what ends the list is no name
+clause_ends : covers (λ k w e. ends_list list.Clause k) (λ k w e. not (one_of_kinds name_kinds k)) ≡ true
+unfolding covers
+clause_ends = refl
+
+ends_unnamed : (k : Kind) → ends_list list.Clause k ≡ true → one_of_kinds name_kinds k ≡ false
+ends_unnamed k h = is_not (one_of_kinds name_kinds k) (covered (λ k w e. ends_list list.Clause k) (λ k w e. not (one_of_kinds name_kinds k)) clause_ends k false false h)
+  where
+    is_not : (b : Bool) → not b ≡ true → b ≡ false
+    is_not true h = absurd (false≢true h)
+    is_not false h = refl
+
 -- where nothing is due, none of these stands without an escape
 not_due : {text : List ℕ} {f : Flags} {q : Parser} {X : Test} {g : G} → At text f q → (ClauseDue q → ⊥) → (q.token.escaped ≡ true → Fails rule (Lex text) X end g q.prev_token_end) → (one_of_kinds (kind.Case ∷ kind.Default ∷ kind.RCurly ∷ []) q.token.kind ≡ false → Fails rule (Lex text) X end g q.prev_token_end) → Fails rule (Lex text) X end g q.prev_token_end
 not_due {text} {f} {q} {X} {g} a n u h = by q.token.escaped refl
@@ -243,8 +257,11 @@ module _ {text : List ℕ} {f : Flags} {q : Parser} (a : At text f q) where
 
   -- the list is open
   list_open : ends_list list.Clause q.token.kind ≡ true → (ClauseDue q → ⊥) → NoList text list.Clause (statements list.Clause f) q.prev_token_end
-  list_open e n = not_due a n (λ k. second (same_kind kind.Eof q.token.kind) refl (subst (λ (c : Bool). (c || is_last q.token.kind) ≡ true) k e))
+  list_open e n = not_due a n (λ i. fails_escaped a f {X = plain (at_end list.Clause)} (λ g. statements list.Clause g) refl refl refl refl (escaped_unnamed f.yield_ f.await_ q.token.kind q.token.escaped unnamed i) unnamed) (λ k. second (same_kind kind.Eof q.token.kind) refl (subst (λ (c : Bool). (c || is_last q.token.kind) ≡ true) k e))
     where
+      unnamed : may_name f.yield_ f.await_ q.token.kind ≡ false
+      unnamed = no_listed_name f.yield_ f.await_ q.token.kind (ends_unnamed q.token.kind e)
+
       third : (c : Bool) → same_kind kind.Undetermined q.token.kind ≡ c → c ≡ true → NoList text list.Clause (statements list.Clause f) q.prev_token_end
       third true k i = fails_none (none_told a (sym (kind_of_same kind.Undetermined q.token.kind k)))
       third false k i = absurd (false≢true i)

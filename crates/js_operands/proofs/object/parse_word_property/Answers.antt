@@ -5,11 +5,11 @@ use Rattle.js_base.specs.declared.token.Token.{Token}
 use Rattle.js_grammar.specs.Productions.{at, Property}
 use Rattle.js_operands.proofs.Members.{word_whole}
 use Rattle.js_operands.proofs.PropertyForms.{accessor_only, async_only, begins_plain, leaf_at, no_form, no_shorthand_here, no_value_or_method, one_form, shorthand_only, word_name, word_only}
-use Rattle.js_operands.specs.Objects.{keyword_kind}
-use Rattle.js_operands.proofs.WordProperties.{keyword_is, name_async, no_star}
+use Rattle.js_parsing.proofs.Escapes.{keyword_is}
+use Rattle.js_operands.proofs.WordProperties.{name_async, no_star}
 use Rattle.js_operands.proofs.AsyncMethods.{async_is, async_so}
 use Rattle.js_base.specs.declared.kind.Kind.TheVariants.{Colon, LParen}
-use Rattle.js_parsing.specs.Lexemes.{may_name}
+use Rattle.js_parsing.specs.Lexemes.{may_name, keyword_kind}
 use Rattle.js_parsing.proofs.NameKinds.{names_at}
 use Rattle.js_operands.proofs.Wholes.{item_by}
 use Rattle.js_parsing.proofs.Moving.{standing}
