@@ -52,7 +52,7 @@ use Rattle.js_parsing.proofs.Here.{escaped_here, kind_here}
 use Rattle.js_parsing.proofs.MadeNodes.{node_held, one_lies, two_held}
 use Rattle.js_parsing.proofs.Moving.{moves, same_both, same_itself, stops_behind}
 use Rattle.js_parsing.proofs.Paths.{Path, ◌⟼◌, ◌⟶◌, ◌⟶✗◌, at_kind, called, fails_at, label_here, last_token, noded, noded_by, read_of, token}
-use Rattle.js_parsing.proofs.Signs.{NoneIs, plain_sign, stands_not, whole_sign}
+use Rattle.js_parsing.proofs.Signs.{none_seen, NoneIs, plain_sign, stands_not, whole_sign}
 use Rattle.js_parsing.proofs.Verdicts.{either_way, grown_then, verdict_of}
 use Rattle.js_parsing.proofs.Verdicts.{after as grown_behind}
 use Rattle.js_statements.proofs.Labels.{behind_label, on_label}
@@ -85,8 +85,8 @@ module _ {text : List ℕ} {f : Flags} {X : Test} where
 
 module _ {text : List ℕ} {f : Flags} {p : Parser} (a : At text f p) where
   -- a lexeme that is due doesn't stand here
-  pub no_token : {X : Test} {g : G} (k : Kind) → (is_right_angle k || one_of_kinds (kind.Ident ∷ other_goals) k) ≡ false → StandsHere p k false → Fails rule (Lex text) X end (tok k ▸ g) p.prev_token_end
-  no_token k n s = then_fails (fails_lexeme (is k) (λ y l h. stands_not a n s y l (sym (kind_of_same k y.kind (and_parts (same_kind k y.kind) (not y.escaped) h).0))))
+  pub no_token : {X : Test} {g : G} (k : Kind) → (is_right_angle k || one_of_kinds other_goals k) ≡ false → StandsHere p k false → Fails rule (Lex text) X end (tok k ▸ g) p.prev_token_end
+  no_token k n s = then_fails (fails_lexeme (is k) (none_seen (stands_not a n s)))
 
   -- which was told
   pub unexpected : {F : Type 0} (k : Kind) (q : Parser) (e : Stop) → Expects (IsKind k) ExpectToken None p q (Err e) → (StandsHere p k false → F) → Stops p q e F
@@ -265,7 +265,7 @@ module _ {text : List ℕ} {f : Flags} {q : Parser} (a : At text f q) where
   none_here n y l = go (seen (is kind.Semicolon) y) refl
     where
       go : (b : Bool) → seen (is kind.Semicolon) y ≡ b → seen (is kind.Semicolon) y ≡ false
-      go true t = absurd (stands_not a refl (λ i j. n (i, j)) y l (sym (kind_of_same kind.Semicolon y.kind (and_parts (same_kind kind.Semicolon y.kind) (not y.escaped) t).0)))
+      go true t = absurd (none_seen (stands_not a refl (λ i j. n (i, j))) y l t)
       go false t = t
 
 module _ {text : List ℕ} {f : Flags} {X : Test} {g : G} {p q r : Parser} {h : Slots → Slots} where

@@ -212,7 +212,7 @@ module _ {text : List ℕ} {f : Flags} {p : Parser} (a : At text f p) where
       go : {ts vs : Slots} {j : ℕ} {ls rest : Lexemes} → Lexes (Lex text) p.prev_token_end ls → Takes rule empty_slot end ts p.prev_token_end ls vs j rest → IsTrue (seen (is k) (here rest)) → ⊥
       go {ls = ls} l is_empty_slot q = stands_not a (angle h) (λ i j. n i) (here ls) (here_at (Lex text) ls l) (sym (kind_of_same k (here ls).kind (and_parts (same_kind k (here ls).kind) (not (here ls).escaped) q).0))
         where
-          angle : EndsPart k → (is_right_angle k || one_of_kinds (kind.Ident ∷ other_goals) k) ≡ false
+          angle : EndsPart k → (is_right_angle k || one_of_kinds other_goals k) ≡ false
           angle (inl i) = ap (λ (v : Kind). is_right_angle v || one_of_kinds (kind.Ident ∷ other_goals) v) i
           angle (inr i) = ap (λ (v : Kind). is_right_angle v || one_of_kinds (kind.Ident ∷ other_goals) v) i
 

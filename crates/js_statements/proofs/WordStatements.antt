@@ -210,7 +210,7 @@ module _ {text : List ℕ} {f : Flags} {q : Parser} (a : At text f q) where
 
   label_read : {X : Test} {r : Parser} → NameHere q true → Moved text f q r → Path text f X (symbol LabelIdentifier f) q nothing r (tree (label_here label_identifier no_op q r) end)
   unfolding rule rule_of
-  label_read h m = by_symbol_as {X' = plain full} (λ l cs vs y d. (refl, refl)) (let i = name_at true a h in noded a (name_leaf a i.0 i.1 m))
+  label_read h m = by_symbol_as {X' = plain full} (λ l cs vs y d. (refl, refl)) (noded a (name_leaf a (name_at true a h) m))
 
 module _ {text : List ℕ} {f : Flags} {p q : Parser} (k : Kind) (a : At text f p) (e : p.token.kind ≡ k) (n : p.token.escaped ≡ false) (i : one_of_kinds read_kinds k ≡ true) (m : Moved text f p q) where
   word_passed : {X : Test} {g : G} → Path text f X (tok k ▸ g) p g q (λ us. us)
