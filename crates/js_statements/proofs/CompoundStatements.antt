@@ -416,7 +416,7 @@ module _ {text : List ℕ} {f : Flags} {q r : Parser} {id : NodeId} (s : Stateme
     no_second = record { no = λ ts vs k ls rest x d e. go x d }
       where
         go : {ts vs : Slots} {k : ℕ} {ls rest : Lexemes} → Lexes (Lex text) q.prev_token_end ls → Takes rule (second_tail f) end ts q.prev_token_end ls vs k rest → ⊥
-        go x (is_seq (is_such {l = l} {cs = cs} {us = us} d t) (is_seq (is_lexeme {x = y} c) g)) = n y (stands_behind {ts = tree l cs us} {vs = us} x (is_such {c = has_else} d t) (before_else f l cs us y t c)) (sym (kind_of_same kind.Else y.kind (and_parts (same_kind kind.Else y.kind) (not y.escaped) c).0))
+        go x (is_seq (is_such {l = l} {cs = cs} {us = us} d t) (is_seq (is_lexeme {x = y} c) g)) = none_seen n y (stands_behind {ts = tree l cs us} {vs = us} x (is_such {c = has_else} d t) (before_else f l cs us y t c)) c
 
     first_path : Path text f (behind_tails f) (tails f) q nothing r (λ us. tree s.label s.slots (hole us))
     first_path = left no_second ⟼ (statement_then s (to_slot f q.prev_token_end) ⟝ reads_empty_slot)

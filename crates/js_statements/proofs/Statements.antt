@@ -47,7 +47,7 @@ use Rattle.js_cursor.specs.Parsers.{Parser}
 use Rattle.js_cursor.specs.Moves.{MayEnd, EndsOr, GivesUp, IsUnexpected, OnlyMemory, ends_statement}
 use Rattle.js_cursor.specs.declared.stop.Stop.{Stop}
 use Rattle.js_cursor.specs.declared.stop.Stop.TheVariants.{Fatal, NoMemory}
-use Rattle.js_parsing.specs.Lexemes.{Lex, may_name, name_kinds, other_goals, read_kinds, signs_of, slashes, template_tails, Plain, keyword_kind}
+use Rattle.js_parsing.specs.Lexemes.{Lex, may_name, name_kinds, other_goals, read_kinds, signs_of, slashes, template_tails, Plain, keyword_kind, read_word}
 use Rattle.js_parsing.specs.States.{At, Same, NodesLie}
 use Rattle.js_parsing.specs.Moves.{IsWholeHere, Moved, MadeHere, LeafTaken, TakesLeaf, plain_label, unpassable}
 use Rattle.js_parsing.specs.Answers.{Underived, Answer, Numbered, Stops, beside}
@@ -61,7 +61,7 @@ use Rattle.js_parsing.proofs.Signs.{closing_there}
 use Rattle.js_parsing.proofs.Dead.{live, lives}
 use Rattle.js_parsing.proofs.MadeNodes.{leaf_held, one_held, one_lies, LabelLies, from_start}
 use Rattle.js_parsing.proofs.Paths.{begins_by, reads, Path, ◌⟼◌, ◌⟶◌, ◌⟶✗◌, at_kind, not_here, fails_at, last_token, noded, noded_by, by_symbol_as, label_here}
-use Rattle.js_parsing.proofs.Escapes.{read_plain, keyword_plain}
+use Rattle.js_parsing.proofs.Escapes.{read_plain, keyword_plain, plain_or_word}
 use Rattle.js_parsing.proofs.Tight.{plain_so}
 use Rattle.js_statements.proofs.Strings.{name_look, name_node, name_expression}
 use Rattle.js_parsing.proofs.Giving.{gives_up, gives_up_here, fails_at_word}
@@ -82,7 +82,7 @@ a ⟝ b = record { at = a.at; further = a.further; pass = a.pass; walked = a.wal
 
 -- what goes on with no expression on a new line, and is no semicolon and no link: before it one may be left out
 abbrev on_a_line : Row → Look
-on_a_line r k w e = (looser 1 true r k w e || beside k w e) && (w && (not (one_of_kinds link_kinds k) && not (same_kind Semicolon k)))
+on_a_line r k w e = (not e || read_word k) && ((looser 1 true r k w e || beside k w e) && (w && (not (one_of_kinds link_kinds k) && not (same_kind Semicolon k))))
 
 line_omits : (r : Row) → covers (on_a_line r) (may_omit (goes_on r)) ≡ true
 unfolding covers
@@ -270,7 +270,7 @@ module _ {text : List ℕ} {f : Flags} {q : Parser} (a : At text f q) where
     where
       go : (b : Bool) → one_of_kinds other_goals y.kind ≡ b → IsTrue (seen (may_omit (goes_on r)) y)
       go true e = pattern_omitted stays slash_omits r s w y l e (same_kind RegExp y.kind) refl
-      go false e = covered (on_a_line r) (may_omit (goes_on r)) (line_omits r) y.kind y.newline y.escaped (and_from _ _ (s y (l.0, plain_so y l.1 e)) (and_from _ _ (newline_here a y l ∙ w) (and_from _ _ (unlinked_at v y l) (ap not (no_semicolon n y l)))))
+      go false e = covered (on_a_line r) (may_omit (goes_on r)) (line_omits r) y.kind y.newline y.escaped (and_from _ _ (plain_or_word y l) (and_from _ _ (s y (l.0, plain_so y l.1 e)) (and_from _ _ (newline_here a y l ∙ w) (and_from _ _ (unlinked_at v y l) (ap not (no_semicolon n y l))))))
 
   -- on a new line, where nothing goes on
   pub omits_stopped : (r : Row) → ((y : Lexeme) → Plain text q.prev_token_end y → IsTrue (seen (stops_row r) y)) → (q.token.is_on_new_line ≡ true → one_of_kinds link_kinds q.token.kind ≡ false) → MayEnd q → (q.token.kind ≡ Semicolon → ⊥) → (y : Lexeme) → Lex text q.prev_token_end y → IsTrue (seen (may_omit (goes_on r)) y)

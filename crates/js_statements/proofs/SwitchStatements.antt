@@ -1,7 +1,7 @@
 -- The `switch` statement (ECMA-262, 14.12): a clause, clauses one behind the other, and the whole.
 use Rattle.std.proofs.Common.{ℕ, ◌≡◌, ◌≤◌, ◌<◌, ◌⊎◌, inl, inr, max, List, [], ◌∷◌, ◌++◌, length, Option, Some, None, Bool, true, false, not, ◌&&◌, ◌||◌, IsTrue, IsCharBoundary, refl, sym, ap, subst, arith, ◌∙◌}
 use Rattle.std.specs.Prelude.{◌↔◌, Ok, Err}
-use Rattle.std.proofs.lemmas.Bool.{false≢true, and_parts}
+use Rattle.std.proofs.lemmas.Bool.{false≢true, and_parts, and_from}
 use Rattle.js_base.specs.declared.diagnostic.Diagnostic.{Diagnostic}
 use Rattle.js_base.specs.declared.diagnostic.DiagnosticKind.TheVariants.{ExpectSwitchClause, ExpectToken}
 use Rattle.js_base.specs.declared.kind.Kind.{Kind}
@@ -12,6 +12,8 @@ use Rattle.js_base.specs.declared.token.Token.{Token}
 use Rattle.js_base.specs.Kinds.{same_kind, one_of_kinds}
 use Rattle.js_base.specs.Texts.{words}
 use Rattle.js_base.proofs.KindLemmas.{kind_of_same}
+use Rattle.js_grammar.specs.FirstSets.{first}
+use Rattle.js_grammar.proofs.First.{starts}
 use Rattle.js_grammar.specs.Trees.{Label, Slots, end, hole, tree, no_op, switch_statement}
 use Rattle.js_grammar.specs.Grammar.{nothing, never, ◌▸◌}
 use Rattle.js_grammar.specs.Marks.{BeginsWith, Mark, of_kinds, the_start, the_end}
@@ -22,10 +24,10 @@ use Rattle.js_grammar.specs.Productions.{Statement as AStatement}
 use Rattle.js_grammar.specs.Productions.{sym as symbol}
 use Rattle.js_grammar.specs.Table.{rule, rule_of}
 use Rattle.js_grammar.proofs.Lexemes.{first_or}
-use Rattle.js_grammar.proofs.Looks.{covers, apart, covered}
+use Rattle.js_grammar.proofs.Looks.{covers, apart, covered, not_both}
 use Rattle.js_grammar.proofs.Calculus.{Between, ◌▹◌, ◌▹✗◌, by_plain, inside_plain, more_of, then_by, part_fails, fails_never, fails_node, fails_rule}
 use Rattle.js_grammar.proofs.FirstClaims.{firsts}
-use Rattle.js_grammar.proofs.FirstRules.{by_first}
+use Rattle.js_grammar.proofs.FirstRules.{by_first, fails_here}
 use Rattle.js_grammar.proofs.FollowLaws.{surely}
 use Rattle.js_lex.specs.States.{goal_of}
 use Rattle.js_tree.specs.declared.id.NodeId.{NodeId}
@@ -41,18 +43,17 @@ use Rattle.js_cursor.specs.Places.{IsAt, goal}
 use Rattle.js_cursor.specs.declared.stop.Stop.{Stop}
 use Rattle.js_cursor.specs.declared.stop.Stop.TheVariants.{Fatal, NoMemory}
 use Rattle.js_cursor.proofs.Standing.{mark_here}
-use Rattle.js_parsing.proofs.NameKinds.{no_listed_name}
-use Rattle.js_parsing.proofs.NamedFirsts.{fails_escaped}
+use Rattle.js_parsing.proofs.Here.{escaped_here}
 use Rattle.js_parsing.specs.Answers.{Answers, Grown, Numbered, Stops, Underived, unclean}
 use Rattle.js_parsing.specs.Classes.{EndsParse}
-use Rattle.js_parsing.specs.Lexemes.{Lex, spot, may_name, name_kinds}
+use Rattle.js_parsing.specs.Lexemes.{Lex, spot}
 use Rattle.js_parsing.specs.Moves.{IsWholeHere, Moved, Moves, MadeHere, plain_label}
 use Rattle.js_parsing.specs.Stands.{StandsHere}
 use Rattle.js_parsing.specs.States.{At, NodesLie, Same, flags_of}
 use Rattle.js_parsing.specs.Statements.{placed, after_statement, NoStatement, Statement}
 use Rattle.js_parsing.specs.Told.{unrelated_at}
 use Rattle.js_patterns.proofs.BehindRests.{mark_later}
-use Rattle.js_parsing.proofs.Escapes.{escaped_unnamed}
+use Rattle.js_parsing.proofs.Escapes.{kind_escaped}
 use Rattle.js_parsing.proofs.Giving.{fails_none, gives_up, kept_one, fails_unescaped}
 use Rattle.js_parsing.proofs.MadeNodes.{made_lies, node_held, one_lies}
 use Rattle.js_parsing.proofs.Moving.{beside_nodes, same_both, same_itself, same_with, stops_behind, stops_so}
@@ -222,18 +223,6 @@ due_true q (inr (inr h)) = rw (h.0, h.1) refl
 pub undue_here : (q : Parser) → (ends_at list.Clause q.token.kind && not q.token.escaped) ≡ false → ClauseDue q → ⊥
 undue_here q h d = false≢true (sym h ∙ due_true q d)
 
--- what ends the list is no name
-clause_ends : covers (λ k w e. ends_list list.Clause k) (λ k w e. not (one_of_kinds name_kinds k)) ≡ true
-unfolding covers
-clause_ends = refl
-
-ends_unnamed : (k : Kind) → ends_list list.Clause k ≡ true → one_of_kinds name_kinds k ≡ false
-ends_unnamed k h = is_not (one_of_kinds name_kinds k) (covered (λ k w e. ends_list list.Clause k) (λ k w e. not (one_of_kinds name_kinds k)) clause_ends k false false h)
-  where
-    is_not : (b : Bool) → not b ≡ true → b ≡ false
-    is_not true h = absurd (false≢true h)
-    is_not false h = refl
-
 -- where nothing is due, none of these stands without an escape
 not_due : {text : List ℕ} {f : Flags} {q : Parser} {X : Test} {g : G} → At text f q → (ClauseDue q → ⊥) → (q.token.escaped ≡ true → Fails rule (Lex text) X end g q.prev_token_end) → (one_of_kinds (kind.Case ∷ kind.Default ∷ kind.RCurly ∷ []) q.token.kind ≡ false → Fails rule (Lex text) X end g q.prev_token_end) → Fails rule (Lex text) X end g q.prev_token_end
 not_due {text} {f} {q} {X} {g} a n u h = by q.token.escaped refl
@@ -257,11 +246,9 @@ module _ {text : List ℕ} {f : Flags} {q : Parser} (a : At text f q) where
 
   -- the list is open
   list_open : ends_list list.Clause q.token.kind ≡ true → (ClauseDue q → ⊥) → NoList text list.Clause (statements list.Clause f) q.prev_token_end
-  list_open e n = not_due a n (λ i. fails_escaped a f {X = plain (at_end list.Clause)} (λ g. statements list.Clause g) refl refl refl refl (escaped_unnamed f.yield_ f.await_ q.token.kind q.token.escaped unnamed i) unnamed) (λ k. second (same_kind kind.Eof q.token.kind) refl (subst (λ (c : Bool). (c || is_last q.token.kind) ≡ true) k e))
+  unfolding apart
+  list_open e n = not_due a n (λ i. fails_here firsts (λ y l h. not_both (starts first (statements list.Clause f) (at_end list.Clause)) (λ k w e. ends_list list.Clause k && e) refl y.kind y.newline y.escaped h (and_from _ _ (ap (ends_list list.Clause) (kind_escaped a i y l) ∙ e) (escaped_here a y l ∙ i)))) (λ k. second (same_kind kind.Eof q.token.kind) refl (subst (λ (c : Bool). (c || is_last q.token.kind) ≡ true) k e))
     where
-      unnamed : may_name f.yield_ f.await_ q.token.kind ≡ false
-      unnamed = no_listed_name f.yield_ f.await_ q.token.kind (ends_unnamed q.token.kind e)
-
       third : (c : Bool) → same_kind kind.Undetermined q.token.kind ≡ c → c ≡ true → NoList text list.Clause (statements list.Clause f) q.prev_token_end
       third true k i = fails_none (none_told a (sym (kind_of_same kind.Undetermined q.token.kind k)))
       third false k i = absurd (false≢true i)

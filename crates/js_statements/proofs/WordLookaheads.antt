@@ -60,7 +60,7 @@ leads_to a l y = record {
 -- A word is told where it stands: no other goal reads another lexeme there, and more stands behind it.
 pub record IsWord (w : Kind) : Type 0 where
   pub settled : one_of_kinds unsettled w ≡ false
-  pub plain : (is_right_angle w || one_of_kinds (Ident ∷ other_goals) w) ≡ false
+  pub plain : (is_right_angle w || one_of_kinds other_goals w) ≡ false
   pub goes_on : same_kind Eof w ≡ false
 
 pub let_word : IsWord Let

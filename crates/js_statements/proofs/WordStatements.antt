@@ -8,6 +8,7 @@ use Rattle.js_base.specs.declared.kind.Kind.TheVariants as kind
 use Rattle.js_base.specs.declared.source_type.SourceType.{SourceType}
 use Rattle.js_base.specs.declared.span.Span.{Span}
 use Rattle.js_base.specs.Kinds.{same_kind, one_of_kinds}
+use Rattle.js_base.specs.Contexts.{has_flag, yield_flag, await_flag}
 use Rattle.js_grammar.specs.Trees.{Slots, end, hole, tree, append, Label, no_op, debugger_statement, label_identifier, throw_statement}
 use Rattle.js_grammar.specs.Grammar.{Lexeme, Lexemes, Look, here, seen, may_omit, ended, semicolon, empty_slot, next, nothing, such, Takes, is_seq, is_lexeme, is_look, ◌▸◌}
 use Rattle.js_grammar.specs.Conditions.{ends_in_sub}
@@ -40,7 +41,7 @@ use Rattle.js_cursor.specs.Places.{goal}
 use Rattle.js_cursor.specs.declared.stop.Stop.{Stop}
 use Rattle.js_cursor.specs.declared.stop.Stop.TheVariants.{Fatal, NoMemory}
 use Rattle.js_parsing.specs.Answers.{Grown, Underived, Numbered, Stops, unclean}
-use Rattle.js_parsing.specs.Lexemes.{Lex, Walked, escaped_word, name_kinds, read_kinds, read_word, nowhere, spot}
+use Rattle.js_parsing.specs.Lexemes.{Lex, Walked, escaped_word, name_kinds, read_kinds, read_word, nowhere, spot, may_name}
 use Rattle.js_parsing.specs.Stands.{NameHere, StandsHere}
 use Rattle.js_parsing.proofs.NamedFirsts.{fails_unnamed}
 use Rattle.js_parsing.proofs.NameKinds.{listed_here, name_at, a_name}
@@ -194,7 +195,11 @@ module _ {text : List ℕ} {f : Flags} {q : Parser} (a : At text f q) where
 
   -- nor a label, where the statement may end
   no_label : {X : Test} → MayEnd q → Fails rule (Lex text) X end (no_newline ▸ symbol LabelIdentifier f) q.prev_token_end
-  no_label (inl e) = no_name (λ k n. no_name_ends q.token.kind (listed_here q (k, n)) e)
+  no_label (inl e) = no_name (go (may_name (has_flag yield_flag q.ctx) (has_flag await_flag q.ctx) q.token.kind) refl)
+    where
+      go : (b : Bool) → may_name (has_flag yield_flag q.ctx) (has_flag await_flag q.ctx) q.token.kind ≡ b → NameHere q false
+      go true h = absurd (no_name_ends q.token.kind (listed_here q h) e)
+      go false h = h
   no_label (inr w) = part_fails {X' = plain full} (fails_look (λ k w e. not w) (λ y l h. false≢true (sym (ap not (newline_here a y l ∙ w)) ∙ h))) (record { admits = λ ts us vs j k ls mid rest d e h. (refl, refl) })
 
   -- where it may not, the slot isn't empty
