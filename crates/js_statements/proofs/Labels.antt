@@ -225,8 +225,8 @@ module _ {text : List ℕ} {f : Flags} {p q : Parser} (a : At text f p) (x : Ans
   -- it is no expression with a semicolon
   to_placed : (b : Bool) → Goes rule (Lex text) (after_statement (placed b f)) end (rule (placed b f)) p.prev_token_end (symbol AStatement f) p.prev_token_end (λ us. us) (still 0)
   unfolding apart covers
-  to_placed true = subst (λ (g : G). Goes rule (Lex text) (after_statement (at ListItem f)) end (rule (at ListItem f)) p.prev_token_end g p.prev_token_end (λ us. us) (still 0)) (item_left f) (lives (rule (at ListItem f))) ▹ left (fails_alt (not_followed a let_word (word_or (LCurly ∷ [])) (λ y z l h m t. false≢true (sym (label_named true y z l h m) ∙ covered (word_or (LCurly ∷ [])) (λ k w e. behind_let true k) refl z.kind z.newline z.escaped t)) ⇒✗ no_expression_ends true a (keyword_none p.token (LCurly ∷ Function ∷ []) (name_apart (LCurly ∷ Function ∷ []) refl p.token.kind is_listed) refl) label_async (label_named true) x (before_colon x.at (goes_on (row_of x.label x.slots)) i.colon)) (fails_alt (no_function a (name_apart statement_kinds refl p.token.kind is_listed) label_async) (no_lexical a (name_apart statement_kinds refl p.token.kind is_listed) (label_named true))))
-  to_placed false = subst (λ (g : G). Goes rule (Lex text) (after_statement (at Sub f)) end (rule (at Sub f)) p.prev_token_end g p.prev_token_end (λ us. us) (still 0)) (sub_left f) (lives (rule (at Sub f))) ▹ left (fails_alt (no_expression_ends false a (keyword_none p.token (LCurly ∷ Function ∷ []) (name_apart (LCurly ∷ Function ∷ []) refl p.token.kind is_listed) refl) label_async (label_named false) x (before_colon x.at (goes_on (row_of x.label x.slots)) i.colon)) (no_function_body a (name_apart statement_kinds refl p.token.kind is_listed)))
+  to_placed true = subst (λ (g : G). Goes rule (Lex text) (after_statement (at ListItem f)) end (rule (at ListItem f)) p.prev_token_end g p.prev_token_end (λ us. us) (still 0)) (item_left f) (lives (rule (at ListItem f))) ▹ left (fails_alt (not_followed a let_word (word_or (LCurly ∷ [])) (λ y z l h m t. false≢true (sym (label_named true y z l h m) ∙ covered (word_or (LCurly ∷ [])) (λ k w e. behind_let true k) refl z.kind z.newline z.escaped t)) ⇒✗ no_expression_ends true a (keyword_none p.token (LCurly ∷ Function ∷ []) (name_apart (LCurly ∷ Function ∷ []) refl p.token.kind is_listed) refl) label_async (label_named true) x (before_colon x.at (goes_on (row_of x.label x.slots)) i.colon)) (fails_alt (no_function a (keyword_none p.token statement_kinds (name_apart statement_kinds refl p.token.kind is_listed) refl) label_async) (no_lexical a (keyword_none p.token statement_kinds (name_apart statement_kinds refl p.token.kind is_listed) refl) (label_named true))))
+  to_placed false = subst (λ (g : G). Goes rule (Lex text) (after_statement (at Sub f)) end (rule (at Sub f)) p.prev_token_end g p.prev_token_end (λ us. us) (still 0)) (sub_left f) (lives (rule (at Sub f))) ▹ left (fails_alt (no_expression_ends false a (keyword_none p.token (LCurly ∷ Function ∷ []) (name_apart (LCurly ∷ Function ∷ []) refl p.token.kind is_listed) refl) label_async (label_named false) x (before_colon x.at (goes_on (row_of x.label x.slots)) i.colon)) (no_function_body a (keyword_none p.token statement_kinds (name_apart statement_kinds refl p.token.kind is_listed) refl)))
 
   -- what is in the node can't be read
   labeled_fails : (b : Bool) → Fails rule (Lex text) (behind_label f) end (labeled_slots f) p.prev_token_end → NoStatement text (placed b f) p.prev_token_end
