@@ -119,7 +119,7 @@ module _ {text : List ℕ} {f : Flags} {p q : Parser} (a : At text f p) (k : p.t
       no_mark : Stretch text (after (at Expression (plus_in f))) (such (at Expression (plus_in f)) always) q.prev_token_end nothing r.prev_token_end (tree x.label x.slots) x.pass → is_function x.label.kind ≡ true → x.label.flags < pife_flag
       no_mark y =
           let z = found x.at (uncut x.at (ap (same_kind RAngle) c)) (ap is_last c) in
-          let l : Lexes (Lex text) r.prev_token_end (last z.0) = (z.1, read_of z.0 (sym z.2.kind ∙ c) (sym z.2.escaped ∙ close_plain) refl) in
+          let l : Lexes (Lex text) r.prev_token_end (last z.0) = (z.1, read_of z.0 (sym z.2.kind ∙ c) refl) in
           unmarked (y.goes.sound end end r.prev_token_end (last z.0) (last z.0) l (inl y.near) is_nothing) refl (all_read text q.prev_token_end (x.pass (last z.0)) (y.goes.passes.lexed (last z.0) l))
 
       module _ (v : Label) (g : (is_function x.label.kind ≡ true → x.label.flags < pife_flag) → v ≡ with_pife x.label) where

@@ -28,7 +28,7 @@ use js_cursor::{ParserImpl, Stop};
 use js_lex::ParserConfig;
 use js_parsing::context::expression_with_in;
 use js_parsing::diagnostics::diagnostic_at;
-use js_parsing::lexemes::{advance, escaped_word_stands, is_read_word, stands};
+use js_parsing::lexemes::{advance, is_read_word, stands};
 use js_parsing::nested::Nested;
 use js_parsing::nodes::make_one;
 use js_tree::{NodeFlags, NodeId, NodeKind, Op};
@@ -414,14 +414,11 @@ fn takes_spreads(kind: NodeKind) -> bool
     }
 }
 
-/// An IdentifierName (ECMA-262, section 12.7).
+/// An IdentifierName: a name or a word, with escapes or without (ECMA-262, section 12.7).
 pub fn parse_identifier_name<C: ParserConfig>(p: &mut ParserImpl<'_, C>) -> Result<NodeId, Stop>
     requires { Standing p.old }
     ensures { Answers (at IdentifierName) p.old p.new result }
 {
-    if escaped_word_stands(p) {
-        return Err(p.set_unexpected());
-    }
     if !is_read_word(p.cur_kind()) {
         return Err(p.set_unexpected());
     }

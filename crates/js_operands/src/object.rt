@@ -10,7 +10,7 @@ ghost use Rattle.js_tree.specs.Labels.{number_of};
 ghost use Rattle.js_tree.specs.declared.op.PropertyKind.TheVariants.{Init};
 ghost use Rattle.js_operands.specs.Objects.{NoProperties, Properties, ReadsAccessor, ReadsAsyncMethod, ReadsBehindName, begins_async, ReadsMethod, ReadsShorthand, ReadsValue, TakesProperty, ends_name_kinds, flags_of_form, form_of, function_label, kind_of_form, method_left, property_label};
 ghost use Rattle.js_parsing.specs.Answers.{Answers};
-ghost use Rattle.js_parsing.specs.Lexemes.{escaped_word, may_name, read_word};
+ghost use Rattle.js_parsing.specs.Lexemes.{may_name, read_word};
 ghost use Rattle.js_parsing.specs.Lists.{ReadsItem};
 ghost use Rattle.js_parsing.specs.Methods.{ReadsWhole};
 ghost use Rattle.js_parsing.specs.Moves.{MadeHere};
@@ -25,7 +25,7 @@ use js_base::{Kind, NoMemory, Span, Token};
 use js_cursor::{ParserImpl, Stop};
 use js_lex::ParserConfig;
 use js_parsing::context::{assignment_with_in, body_of_function, parameters_in_method};
-use js_parsing::lexemes::{advance, escaped_word_stands, is_name_here, is_read_word, stands};
+use js_parsing::lexemes::{advance, is_name_here, is_read_word, keyword_of, stands};
 use js_parsing::nested::{MethodForm, Nested};
 use js_parsing::nodes::{make_leaf, make_list};
 use js_tree::{NodeFlags, NodeId, NodeKind, Op, PropertyKind};
@@ -95,9 +95,6 @@ fn parse_property<C: ParserConfig, N: Nested<C>>(
     requires nests { CanNest (N.can nested.now) (room p.old + 1) }
     ensures { ReadsItem (at Property) p.old p.new result }
 {
-    if escaped_word_stands(p) {
-        return Err(p.set_unexpected());
-    }
     if is_read_word(p.cur_kind()) {
         return parse_word_property(p, nested);
     }
@@ -167,16 +164,16 @@ fn parse_word_property<C: ParserConfig, N: Nested<C>>(
     requires at { Standing p.old }
     requires nests { CanNest (N.can nested.now) (room p.old + 1) }
     requires word { read_word p.old.token.kind ≡ true }
-    requires plain { escaped_word p.old.token.kind p.old.token.escaped ≡ false }
     ensures { ReadsItem (at Property) p.old p.new result }
 {
     let word = p.cur_token();
     let span = word.span();
     advance(p)?;
-    if let Some(form) = accessor_form(word.kind(), p.cur_kind()) {
+    let keyword = keyword_of(word);
+    if let Some(form) = accessor_form(keyword, p.cur_kind()) {
         return parse_accessor(p, nested, span.start, form);
     }
-    if begins_async_method(word.kind(), p.cur_token()) {
+    if begins_async_method(keyword, p.cur_token()) {
         return parse_async_method(p, nested, span.start);
     }
     if is_shorthand(p, word.kind(), p.cur_kind()) {

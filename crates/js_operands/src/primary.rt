@@ -42,11 +42,11 @@ pub fn parse_primary_expression<C: ParserConfig, N: Nested<C>>(
     requires nests { CanNest (N.can nested.now) (room p.old) }
     ensures { Answers (at Primary) p.old p.new result }
 {
-    if escaped_word_stands(p) {
-        return Err(p.set_unexpected());
-    }
     if name_stands(p) {
         return parse_name_or_function(p, nested);
+    }
+    if escaped_word_stands(p) {
+        return Err(p.set_unexpected());
     }
     if p.cur_kind().is_number() {
         return parse_number(p);

@@ -13,7 +13,7 @@ use js_base::Kind;
 use js_cursor::{ParserImpl, Stop};
 use js_lex::ParserConfig;
 use js_parsing::context::assignment_with_in;
-use js_parsing::lexemes::{advance, escaped_word_stands, stands};
+use js_parsing::lexemes::{advance, stands};
 use js_parsing::nested::Nested;
 use js_tree::{NodeId, NodeKind, Op};
 
@@ -55,9 +55,6 @@ fn parse_plain_name<C: ParserConfig>(p: &mut ParserImpl<'_, C>) -> Result<NodeId
     requires no_bracket { StandsHere p.old LBrack false }
     ensures { NamesPlainly p.old p.new result }
 {
-    if escaped_word_stands(p) {
-        return Err(p.set_unexpected());
-    }
     let kind = p.cur_kind();
     if kind.is_number() {
         return parse_leaf(p, number_node(kind), number_op(kind));

@@ -102,7 +102,7 @@ end_here {text} {q = q} a e = go a.plain
     read_end : (y : Lexeme) → StandsBehind all_faults text q.prev_token_end y → y.kind ≡ Eof → IsTrue (is_read y)
     read_end y l k =
         let n : y.escaped ≡ false = l.escaped ∙ ap (λ (v : Kind). is_escaped v l.word) k in
-        read_of y k n refl
+        read_of y k refl
 
     go : IsPlain text q → (y : Lexeme) × Lex text q.prev_token_end y × (y.kind ≡ Eof)
     go (whole c n x) = let k : x.lexeme.kind ≡ Eof = sym x.tells.kind ∙ e in (x.lexeme, (x.stands.lex, read_end x.lexeme x.stands.lex k), k)

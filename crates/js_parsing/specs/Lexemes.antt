@@ -55,13 +55,17 @@ signs_of k = cond (same_kind RegExp k) slashes (cond (one_of_kinds template_tail
 abbrev pub signs : List Kind
 signs = RCurly ∷ slashes
 
--- Whether a lexeme of this kind has an escape, and is no plain name: a word of the keyword table, of which the rules are others then (ECMA-262, 12.7.2).
+-- Whether a lexeme of this kind has an escape, and is no plain name: a word of the keyword table, which is no keyword then (ECMA-262, 12.7.2).
 abbrev pub escaped_word : Kind → Bool → Bool
 escaped_word k e = e && not (same_kind Ident k)
 
--- a lexeme of these kinds, and no such word
+-- Which keyword a token is: with an escape it is a name and none.
+abbrev pub keyword_kind : Token → Kind
+keyword_kind t = cond t.escaped Ident t.kind
+
+-- a lexeme of these kinds
 abbrev pub is_read : Lexeme → Bool
-is_read y = one_of_kinds read_kinds y.kind && not (escaped_word y.kind y.escaped)
+is_read y = one_of_kinds read_kinds y.kind
 
 -- the reserved words among them
 abbrev pub read_reserved : Kind → Bool

@@ -7,6 +7,7 @@ ghost use Rattle.js_base.specs.declared.kind.Kind.TheVariants.{Colon, Const, Sem
 ghost use Rattle.js_grammar.specs.Productions.{at, ListItem, Sub};
 ghost use Rattle.js_operands.specs.Functions.{NoFunctionHere};
 ghost use Rattle.js_parsing.specs.Answers.{Stops};
+ghost use Rattle.js_parsing.specs.Lexemes.{keyword_kind};
 ghost use Rattle.js_parsing.specs.Nesting.{CanNest, room};
 ghost use Rattle.js_parsing.specs.Stands.{StandsHere};
 ghost use Rattle.js_parsing.specs.States.{Standing};
@@ -34,7 +35,7 @@ use js_expressions::sequence::parse_sequence_expression;
 use js_lex::ParserConfig;
 use js_operands::function::function_stands;
 use js_operands::primary::parse_leaf;
-use js_parsing::lexemes::{advance, escaped_word_stands, is_escaped_word, is_name_here};
+use js_parsing::lexemes::{advance, escaped_word_stands, is_name_here};
 use js_parsing::nested::Nested;
 use js_parsing::nodes::{make_leaf, make_one, make_two};
 use js_tree::{NodeId, NodeKind, Op};
@@ -91,7 +92,7 @@ fn parse_any_statement<C: ParserConfig, N: Nested<C>>(
     ensures { TakesUndeclared p.old p.new result }
 {
     if escaped_word_stands(p) {
-        return Err(p.set_unexpected());
+        return parse_expression_or_labeled_statement(p, nested);
     }
     match p.cur_kind() {
         Kind::Semicolon => parse_empty_statement(p),
@@ -131,7 +132,7 @@ fn parse_expression_or_labeled_statement<C: ParserConfig, N: Nested<C>>(
     requires at { Standing p.old }
     requires nests { CanNest (N.can nested.now) (room p.old) }
     requires allows_in { has_flag in_flag p.old.ctx ≡ true }
-    requires other { one_of_kinds statement_kinds p.old.token.kind ≡ false }
+    requires other { one_of_kinds statement_kinds (keyword_kind p.old.token) ≡ false }
     requires no_function { NoFunctionHere p.old }
     ensures { TakesUndeclared p.old p.new result }
 {
@@ -174,7 +175,6 @@ fn is_label<C: ParserConfig>(p: &ParserImpl<'_, C>, first: Token) -> bool
 {
     p.at(Kind::Colon)
         && is_name_here(p, first.kind())
-        && !is_escaped_word(first)
         && first.end() == p.prev_token_end()
 }
 

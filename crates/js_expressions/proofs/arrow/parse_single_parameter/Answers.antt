@@ -5,7 +5,7 @@ use Rattle.js_expressions.proofs.Arrows.{single_head, single_place}
 use Rattle.js_expressions.proofs.arrow.parse_single_parameter.Goals as goal
 
 pub returns : goal.returns
-returns g c = (single_place c.requires.at c.in_ok-name.ensures c.in_ok-parameter.ensures c.in_ok-parameters.ensures, λ text f a e. single_head _ a (name_at true a c.requires.name).0 e (c.span-span.ensures ∙ ap (λ (t : Token). t.span) c.cur_token.ensures) (c.in_ok-name.ensures text f a) c.in_ok-parameter.ensures c.in_ok-parameters.ensures)
+returns g c = (single_place c.requires.at c.in_ok-name.ensures c.in_ok-parameter.ensures c.in_ok-parameters.ensures, λ text f a. single_head _ a (name_at true a c.requires.name) (c.span-span.ensures ∙ ap (λ (t : Token). t.span) c.cur_token.ensures) (c.in_ok-name.ensures text f a) c.in_ok-parameter.ensures c.in_ok-parameters.ensures)
 
 pub parse_leaf-requires-clause-whole : goal.parse_leaf-requires-clause-whole
 parse_leaf-requires-clause-whole g c = name_whole c.requires.at (listed_here c.args.p.now c.requires.name)

@@ -13,7 +13,7 @@ use Rattle.js_operands.proofs.object.parse_shorthand.Goals as goal
 
 pub returns-then-not-at : goal.returns-then-not-at
 returns-then-not-at g c = λ text f first a s n m.
-    alone_taken a n.kind n.plain m s c.in_ok-key.ensures c.in_ok-value.ensures (λ k. false≢true (sym c.if-not-at.true ∙ c.at.ensures.1 k)) (shorthand_made first s c.shorthand_flags-flags.ensures c.in_ok-node.ensures)
+    alone_taken a n.kind m s c.in_ok-key.ensures c.in_ok-value.ensures (λ k. false≢true (sym c.if-not-at.true ∙ c.at.ensures.1 k)) (shorthand_made first s c.shorthand_flags-flags.ensures c.in_ok-node.ensures)
 
 pub make_property-requires : goal.make_property-requires
 make_property-requires g c = record { before = (leaves_at c.requires.at c.in_ok-key.ensures c.in_ok-value.ensures c.requires.before).1 }
@@ -39,7 +39,7 @@ returns-in_err-initialiser g c = λ text f first a s n m.
     let p = err_from_is_err_and c.from_residual-in_err-initialiser.result c.from_residual-in_err-initialiser.ensures.1 in
     let k : c.make_leaf-2.new.p.token.kind ≡ Eq = c.at.ensures.0 c.if-not-at.false in
     let d = c.in_ok-advance.ensures text f (leaves_at m.at c.in_ok-key.ensures c.in_ok-value.ensures c.requires.before).0 in
-    rw (p.1, p.2) (initialiser_stops a n.kind n.plain m s c.in_ok-key.ensures c.in_ok-value.ensures k d _ _ (c.in_err-initialiser.ensures text f d.at))
+    rw (p.1, p.2) (initialiser_stops a n.kind m s c.in_ok-key.ensures c.in_ok-value.ensures k d _ _ (c.in_err-initialiser.ensures text f d.at))
 
 pub make_initialised-requires : goal.make_initialised-requires
 make_initialised-requires g c = record {
@@ -54,7 +54,7 @@ pub returns : goal.returns
 returns g c = λ text f first a s n m.
     let k : c.make_leaf-2.new.p.token.kind ≡ Eq = c.at.ensures.0 c.if-not-at.false in
     let d = c.in_ok-advance.ensures text f (leaves_at m.at c.in_ok-key.ensures c.in_ok-value.ensures c.requires.before).0 in
-    initialised a n.kind n.plain m s c.in_ok-key.ensures c.in_ok-value.ensures k d (c.in_ok-initialiser.ensures text f d.at) (shorthand_made_with first s c.in_ok-node-2.ensures)
+    initialised a n.kind m s c.in_ok-key.ensures c.in_ok-value.ensures k d (c.in_ok-initialiser.ensures text f d.at) (shorthand_made_with first s c.in_ok-node-2.ensures)
 
 pub returns-in_err-value : goal.returns-in_err-value
 returns-in_err-value g c = λ text f first a s n m. let p = err_from_is_err_and c.from_residual-in_err-value.result c.from_residual-in_err-value.ensures.1 in rw (p.1, p.2) tt

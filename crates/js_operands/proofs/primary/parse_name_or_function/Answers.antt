@@ -39,4 +39,4 @@ pub returns : goal.returns
 returns g c = λ text f a.
     let s = found_so c.args.p.now c.function_stands.new.p c.if-branch.false c.in_ok-function_stands.ensures in
     let n = name_at true a c.requires.name in
-    name_outcome c.parse_leaf.new.p c.parse_leaf.result a n.0 n.1 s.1 (subst (λ (v : Parser). MatchResult c.parse_leaf.result (λ id. TakesLeaf node.IdentifierReference op.None v c.parse_leaf.new.p id) OnlyMemory) s.0 c.parse_leaf.ensures)
+    name_outcome c.parse_leaf.new.p c.parse_leaf.result a n s.1 (subst (λ (v : Parser). MatchResult c.parse_leaf.result (λ id. TakesLeaf node.IdentifierReference op.None v c.parse_leaf.new.p id) OnlyMemory) s.0 c.parse_leaf.ensures)

@@ -19,11 +19,11 @@ returns-in_err-key g c = λ text f a.
     rw (p.1, p.2) (memory_stops _ _ _ _ c.in_err-key.ensures)
 
 pub parse_shorthand-requires-clause-at : goal.parse_shorthand-requires-clause-at
-parse_shorthand-requires-clause-at g c = standing (name_named c.requires.at c.requires.name.0 c.requires.name.1 c.in_ok-key.ensures).at
+parse_shorthand-requires-clause-at g c = standing (name_named c.requires.at c.requires.name c.in_ok-key.ensures).at
 
 pub parse_shorthand-requires-clause-nests : goal.parse_shorthand-requires-clause-nests
 parse_shorthand-requires-clause-nests g c =
-    let x = name_named c.requires.at c.requires.name.0 c.requires.name.1 c.in_ok-key.ensures in
+    let x = name_named c.requires.at c.requires.name c.in_ok-key.ensures in
     let s = later_room (let a = x.further in let b = c.requires.at.behind in omega arith) x.same in
     nests_later c.requires.nests (omega arith)
 
@@ -35,27 +35,27 @@ parse_shorthand-requires-clause-ends g c = ap (λ (s : Span). s.end) (c.span-nam
 
 pub parse_shorthand-requires-clause-ordered : goal.parse_shorthand-requires-clause-ordered
 parse_shorthand-requires-clause-ordered g c =
-    let x = (name_named c.requires.at c.requires.name.0 c.requires.name.1 c.in_ok-key.ensures).further in
+    let x = (name_named c.requires.at c.requires.name c.in_ok-key.ensures).further in
     let y = name_place c.requires.at c.in_ok-key.ensures in
     let s = c.span-name.ensures ∙ ap (λ (t : Token). t.span) c.cur_token.ensures in
     let b = ap (λ (s : Span). s.start) s in let d = ap (λ (s : Span). s.end) s in omega arith
 
 pub returns-then-not-at : goal.returns-then-not-at
-returns-then-not-at g c = λ text f a. c.parse_shorthand.ensures text f _ a (c.span-name.ensures ∙ ap (λ (t : Token). t.span) c.cur_token.ensures) (name_at true a c.requires.name).0 c.requires.name.1 c.in_ok-key.ensures
+returns-then-not-at g c = λ text f a. c.parse_shorthand.ensures text f _ a (c.span-name.ensures ∙ ap (λ (t : Token). t.span) c.cur_token.ensures) (name_at true a c.requires.name) c.in_ok-key.ensures
 
 pub parse_property_value-requires-clause-at : goal.parse_property_value-requires-clause-at
-parse_property_value-requires-clause-at g c = standing (name_named c.requires.at c.requires.name.0 c.requires.name.1 c.in_ok-key.ensures).at
+parse_property_value-requires-clause-at g c = standing (name_named c.requires.at c.requires.name c.in_ok-key.ensures).at
 
 pub parse_property_value-requires-clause-nests : goal.parse_property_value-requires-clause-nests
 parse_property_value-requires-clause-nests g c =
-    let x = name_named c.requires.at c.requires.name.0 c.requires.name.1 c.in_ok-key.ensures in
+    let x = name_named c.requires.at c.requires.name c.in_ok-key.ensures in
     let s = later_room (let a = x.further in let b = c.requires.at.behind in omega arith) x.same in
     nests_later c.requires.nests (omega arith)
 
 pub parse_property_value-requires-clause-before : goal.parse_property_value-requires-clause-before
 parse_property_value-requires-clause-before g c =
-    let x = (name_named c.requires.at c.requires.name.0 c.requires.name.1 c.in_ok-key.ensures).further in
+    let x = (name_named c.requires.at c.requires.name c.in_ok-key.ensures).further in
     let b = ap (λ (s : Span). s.start) (c.span-name.ensures ∙ ap (λ (t : Token). t.span) c.cur_token.ensures) in omega arith
 
 pub returns : goal.returns
-returns g c = λ text f a. c.parse_property_value.ensures text f _ a (ap (λ (s : Span). s.start) (c.span-name.ensures ∙ ap (λ (t : Token). t.span) c.cur_token.ensures)) (name_named a (name_at true a c.requires.name).0 c.requires.name.1 c.in_ok-key.ensures) (no_shorthand_named a (name_at true a c.requires.name).0 c.requires.name.1 c.in_ok-key.ensures (c.at.ensures.0 c.if-not-at.false))
+returns g c = λ text f a. c.parse_property_value.ensures text f _ a (ap (λ (s : Span). s.start) (c.span-name.ensures ∙ ap (λ (t : Token). t.span) c.cur_token.ensures)) (name_named a (name_at true a c.requires.name) c.in_ok-key.ensures) (no_shorthand_named a (name_at true a c.requires.name) c.in_ok-key.ensures (c.at.ensures.0 c.if-not-at.false))
