@@ -36,7 +36,7 @@ use Rattle.js_cursor.specs.declared.stop.Stop.{Stop}
 use Rattle.js_cursor.specs.declared.stop.Stop.TheVariants.{Fatal, NoMemory}
 use Rattle.js_parsing.specs.Answers.{Numbered, Stops, Stretch, Underived, Verdict, unclean}
 use Rattle.js_parsing.specs.Arguments.{Partway}
-use Rattle.js_parsing.specs.Lexemes.{Lex, escaped_word, may_name, name_kinds, spot}
+use Rattle.js_parsing.specs.Lexemes.{Lex, escaped_word, may_name, name_kinds, read_word, spot}
 use Rattle.js_parsing.specs.Moves.{LeafTaken, Moved, MadeHere, plain_label}
 use Rattle.js_parsing.specs.Nesting.{room}
 use Rattle.js_parsing.specs.Stands.{NameUnder, StandsHere}
@@ -49,7 +49,8 @@ use Rattle.js_parsing.proofs.Giving.{gives_up_here, kept_one}
 use Rattle.js_parsing.proofs.Here.{found, uncut}
 use Rattle.js_parsing.proofs.MadeNodes.{leaf_held, node_held, one_lies}
 use Rattle.js_parsing.proofs.Moving.{moves, same_both, same_itself, stops_behind}
-use Rattle.js_parsing.proofs.NameKinds.{listed_name, name_apart, name_at, name_passes, name_read, name_test}
+use Rattle.js_parsing.proofs.NodeTexts.{name_word}
+use Rattle.js_parsing.proofs.NameKinds.{listed_here, listed_name, name_apart, name_at, name_passes, name_read, name_test}
 use Rattle.js_parsing.proofs.NamedFirsts.{fails_unnamed}
 use Rattle.js_parsing.proofs.Parts.{part_called, part_from, part_goes, part_path, part_path_fails, part_sign, parts}
 use Rattle.js_parsing.proofs.Paths.{Path, ◌⟼◌, at_kind, fails_at, flagged_by, flagged_here, last_called, by_symbol_as, label_here, noded, not_here, walked_to}
@@ -373,6 +374,11 @@ name_refused Expression n s p q e i h g = absurd (i refl)
 -- whether a name stands here, by what a test says
 pub names_so : (form : FunctionForm) (n s : Bool) (p : Parser) {b r : Bool} → r ≡ b → NamesFunction form n s p r → NamesFunction form n s p b
 names_so form n s p e h = subst (λ (c : Bool). NamesFunction form n s p c) e h
+
+-- a name of a function is a word
+pub names_word : (form : FunctionForm) (n s : Bool) (p : Parser) → NamesFunction form n s p true → read_word p.token.kind ≡ true
+names_word Declaration n s p h = name_word p.token.kind (listed_here p h)
+names_word Expression n s p h = name_word p.token.kind (listed_name s n p.token.kind h)
 
 -- less of the text is left behind what was read
 pub room_less : {text : List ℕ} {f : Flags} {p q : Parser} → At text f p → p.token.span.start < q.prev_token_end → Same p q → room q < room p

@@ -43,7 +43,7 @@ use Rattle.js_parsing.proofs.NameKinds.{listed_name}
 use Rattle.js_parsing.specs.Moves.{Moved, MadeHere, plain_label}
 use Rattle.js_parsing.specs.States.{At, Same, NodesLie}
 use Rattle.js_parsing.proofs.Here.{begins_here, kind_here}
-use Rattle.js_parsing.proofs.MadeNodes.{from_start, leaf_held, node_held, one_lies}
+use Rattle.js_parsing.proofs.MadeNodes.{from_start, leaf_held, node_held, one_lies, one_lies_in}
 use Rattle.js_parsing.proofs.Moving.{beside_nodes, same_both, same_with, stops_behind}
 use Rattle.js_parsing.proofs.Paths.{Path, ◌⟼◌, ◌⟶◌, ◌⟶✗◌, by_symbol_as, fails_at, flagged_by, flagged_here, label_here, last_called, noded, one_read, passes_test, token}
 use Rattle.js_parsing.proofs.Escapes.{read_as, keyword_plain}
@@ -341,7 +341,7 @@ module _ {text : List ℕ} {f : Flags} {p q : Parser} (a : At text f p) (i : may
     both_lie : IsCharBoundary p.text p.token.span.start → NodesLie q.text q.nodes → NodesLie q.text v.nodes
     both_lie b h =
         let before : p.token.span.start ≤ q.prev_token_end = (let i = m.further in omega arith) in
-        one_lies value_made (from_start reference_label m.same m.at.at before refl b) (one_lies key_made (from_start (label_here identifier_name no_op p q) m.same m.at.at before refl b) h)
+        one_lies_in (ap (λ (z : Parser). z.text) x.stays) value_made (from_start reference_label m.same m.at.at before refl b) (one_lies key_made (from_start (label_here identifier_name no_op p q) m.same m.at.at before refl b) h)
 
     both_same : Same p v
     both_same = subst (λ (z : Parser). Same p z) (sym both_stay) (same_with v.nodes m.same both_keep both_lie)
@@ -403,8 +403,8 @@ leaves_at {text} {f} {q} {u} {v} {start = start} a x y b =
     let e : v ≡ record q { nodes = v.nodes } = y.stays ∙ ap (λ (z : Parser). record z { nodes = v.nodes }) x.stays in
     (subst (λ (z : Parser). At text f z) (sym e) (beside_nodes v.nodes a), subst (λ (z : Parser). start ≤ z.prev_token_end) (sym e) b, ap (λ (z : Parser). room z) e)
 
-pub shorthand_made : (first : Parser) {q w : Parser} {ids : List (Option NodeId)} {id : NodeId} {s : Span} {fl : ℕ} → s ≡ first.token.span → fl ≡ shorthand_flag → MadeHere (property_label property.Init fl s.start q.prev_token_end) ids q w id → MadeHere (flagged_here object_property init shorthand_flag first q) ids q w id
+pub shorthand_made : (first : Parser) {q w : Parser} {ids : List (Option NodeId)} {id : NodeId} {start fl : ℕ} → start ≡ first.token.span.start → fl ≡ shorthand_flag → MadeHere (property_label property.Init fl start q.prev_token_end) ids q w id → MadeHere (flagged_here object_property init shorthand_flag first q) ids q w id
 shorthand_made first {q} {w} {ids} {id} e h n = subst (λ (v : Label). MadeHere v ids q w id) (rw (e, h) refl) n
 
-pub shorthand_made_with : (first : Parser) {q w : Parser} {ids : List (Option NodeId)} {id : NodeId} {s : Span} → s ≡ first.token.span → MadeHere (property_label property.Init shorthand_flag s.start q.prev_token_end) ids q w id → MadeHere (flagged_here object_property init shorthand_flag first q) ids q w id
+pub shorthand_made_with : (first : Parser) {q w : Parser} {ids : List (Option NodeId)} {id : NodeId} {start : ℕ} → start ≡ first.token.span.start → MadeHere (property_label property.Init shorthand_flag start q.prev_token_end) ids q w id → MadeHere (flagged_here object_property init shorthand_flag first q) ids q w id
 shorthand_made_with first e n = shorthand_made first e refl n
