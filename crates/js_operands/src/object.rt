@@ -15,6 +15,7 @@ ghost use Rattle.js_parsing.specs.Lists.{ReadsItem};
 ghost use Rattle.js_parsing.specs.Methods.{ReadsWhole};
 ghost use Rattle.js_parsing.specs.Moves.{MadeHere};
 ghost use Rattle.js_parsing.specs.Nesting.{CanNest, room};
+ghost use Rattle.js_parsing.specs.NodeTexts.{SpellsName};
 ghost use Rattle.js_parsing.specs.Stands.{StandsHere};
 ghost use Rattle.js_parsing.specs.States.{Standing};
 
@@ -27,7 +28,7 @@ use js_lex::ParserConfig;
 use js_parsing::context::{assignment_with_in, body_of_function, parameters_in_method};
 use js_parsing::lexemes::{advance, is_name_here, is_read_word, keyword_of, stands};
 use js_parsing::nested::{MethodForm, Nested};
-use js_parsing::nodes::{make_leaf, make_list};
+use js_parsing::nodes::{make_list, make_name};
 use js_tree::{NodeFlags, NodeId, NodeKind, Op, PropertyKind};
 
 /// An ObjectLiteral (ECMA-262, section 13.2.5).
@@ -177,9 +178,9 @@ fn parse_word_property<C: ParserConfig, N: Nested<C>>(
         return parse_async_method(p, nested, span.start);
     }
     if is_shorthand(p, word.kind(), p.cur_kind()) {
-        return parse_shorthand(p, nested, span);
+        return parse_shorthand(p, nested, word);
     }
-    let key = make_leaf(p, NodeKind::IdentifierName, Op::None, span)?;
+    let key = make_name(p, NodeKind::IdentifierName, word)?;
     let name = PropertyName {
         key,
         computed: false,
@@ -254,23 +255,25 @@ fn parse_accessor<C: ParserConfig, N: Nested<C>>(
 fn parse_shorthand<C: ParserConfig, N: Nested<C>>(
     p: &mut ParserImpl<'_, C>,
     nested: &N,
-    name: Span,
+    name: Token,
 ) -> Result<NodeId, Stop>
     requires at { Standing p.old }
     requires nests { CanNest (N.can nested.now) (room p.old + 1) }
-    requires before { name.start ≤ p.old.prev_token_end }
-    ensures { ReadsShorthand name p.old p.new result }
+    requires before { name.span.start ≤ p.old.prev_token_end }
+    requires spells { SpellsName p.old.text name }
+    ensures { ReadsShorthand name.span p.old p.new result }
 {
-    let key = make_leaf(p, NodeKind::IdentifierName, Op::None, name)?;
-    let value = make_leaf(p, NodeKind::IdentifierReference, Op::None, name)?;
+    let start = name.start();
+    let key = make_name(p, NodeKind::IdentifierName, name)?;
+    let value = make_name(p, NodeKind::IdentifierReference, name)?;
     if !p.at(Kind::Eq) {
         let flags = shorthand_flags();
-        let node = make_property(p, name.start, PropertyKind::Init, flags, key, value)?;
+        let node = make_property(p, start, PropertyKind::Init, flags, key, value)?;
         return Ok(node);
     }
     advance(p)?;
     let initialiser = assignment_with_in(p, nested)?;
-    let node = make_initialised(p, name.start, key, value, initialiser)?;
+    let node = make_initialised(p, start, key, value, initialiser)?;
     Ok(node)
 }
 

@@ -8,7 +8,7 @@ ghost use Rattle.js_parsing.specs.Stands.{StandsHere};
 ghost use Rattle.js_parsing.specs.States.{Standing};
 
 use crate::left_hand_side::parse_identifier_name;
-use crate::primary::{number_node, number_op, parse_leaf};
+use crate::primary::{number_node, number_op, parse_leaf, parse_string};
 use js_base::Kind;
 use js_cursor::{ParserImpl, Stop};
 use js_lex::ParserConfig;
@@ -60,7 +60,7 @@ fn parse_plain_name<C: ParserConfig>(p: &mut ParserImpl<'_, C>) -> Result<NodeId
         return parse_leaf(p, number_node(kind), number_op(kind));
     }
     match kind {
-        Kind::Str => parse_leaf(p, NodeKind::StringLiteral, Op::None),
+        Kind::Str => parse_string(p),
         _ => parse_identifier_name(p),
     }
 }

@@ -31,6 +31,7 @@ use Rattle.js_cursor.specs.declared.stop.Stop.{Stop}
 use Rattle.js_cursor.specs.declared.stop.Stop.TheVariants.{Fatal, NoMemory}
 use Rattle.js_parsing.specs.Answers.{Stretch, Verdict, clean, unclean, wider}
 use Rattle.js_parsing.specs.Lexemes.{IsRight, Lex, goal_for, is_read, other_goals, read_kinds, signs}
+use Rattle.js_parsing.specs.NodeTexts.{NodeFits}
 use Rattle.js_parsing.specs.States.{At, IsPlain, whole, sign, nothing as no_lexeme, flags_of, Standing, NodesLie, SpansLie}
 use Rattle.js_statements.specs.StatementLists.{at_end, with_directives, statements, NoList, Taken, AllTaken, AllRefused}
 use Rattle.js_statements.specs.declared.statement_list.StatementList.TheVariants.{Text}
@@ -57,7 +58,7 @@ use Rattle.js_lex.specs.Scans.{NoLexeme}
 use Rattle.js_lex.specs.States.{State}
 use Rattle.js_parser.proofs.Hashbangs.{hashbang_label, program_label, behind_comment, alone}
 use Rattle.js_parser.proofs.Fronts.{Front, Parts, kind_of_hashbang, none_begins, at_the_start, behind_a_comment}
-use Rattle.js_parsing.proofs.MadeNodes.{leaf_held, one_lies}
+use Rattle.js_parsing.proofs.MadeNodes.{leaf_held, one_lies_in}
 use Rattle.js_parsing.proofs.Moving.{standing, beside_nodes}
 use Rattle.js_parser.specs.Parsed.{options_of, IsAnswer}
 use Rattle.js_parser.specs.Readings.{parameters, ReadingBy, IsOnlyReadingBy, HasNoReadingBy}
@@ -470,7 +471,7 @@ module _ {b : Bool} {p : Parser} (s : Starts p.text p.source_type p.options b p)
   first_lies : NodesLie p.text p.nodes
   first_lies =
       let at_start = IsCharBoundary-start p.text s.at.utf8 in
-      All-same (λ (n : Node). LiesIn n.span p.text) p.nodes (empty_program ∷ []) s.nodes (All-cons (λ (n : Node). LiesIn n.span p.text) empty_program [] (record { ordered = omega arith; starts_whole = at_start; ends_whole = at_start }) (All-nil (λ (n : Node). LiesIn n.span p.text)))
+      All-same (NodeFits p.text) p.nodes (empty_program ∷ []) s.nodes (All-cons (NodeFits p.text) empty_program [] (record { lies = record { ordered = omega arith; starts_whole = at_start; ends_whole = at_start }; texted = tt }) (All-nil (NodeFits p.text)))
 
   -- no hashbang comment stands here
   module _ (n : p.token.kind ≡ HashbangComment → ⊥) where
@@ -548,7 +549,7 @@ module _ {b : Bool} {p : Parser} (s : Starts p.text p.source_type p.options b p)
       trivia = subst (λ (r : Parser). TriviaKept p.text d.lexeme.to r.lexer.kept.comments r.lexer.kept.irregular_whitespaces) (sym n.stays) (trivia_first d.next kept_nothing s.at.reads s.at.reads_for ends_there);
       tokens = (λ i. kept_before (n.stays i).lexer (n.stays i).token) ∙ (before_next d.next ∙ kept_nothing.tokens);
       errors = ap (λ (r : Parser). r.errors) n.stays ∙ (d.stays.errors ∙ s.errors);
-      lies = (hashbang_stands.at.lies.starts_whole, subst (λ (t : List ℕ). NodesLie t v.nodes) (sym text_still) (one_lies n comment_lies (All-same (λ (x : Node). LiesIn x.span p.text) m.nodes p.nodes d.stays.nodes first_lies)));
+      lies = (hashbang_stands.at.lies.starts_whole, subst (λ (t : List ℕ). NodesLie t v.nodes) (sym text_still) (one_lies_in d.stays.text n comment_lies (All-same (NodeFits p.text) m.nodes p.nodes d.stays.nodes first_lies)));
     }
       where
         comment_lies : LiesIn (record { start = span.start; end = span.end }) p.text

@@ -218,6 +218,8 @@ fn is_read_reserved_word(kind: Kind) -> bool
             | Kind::With
             | Kind::Var
             | Kind::Const
+            | Kind::Enum
+            | Kind::Extends
     )
 }
 

@@ -9,6 +9,7 @@ ghost use Rattle.js_operands.specs.Functions.{NoFunctionHere};
 ghost use Rattle.js_parsing.specs.Answers.{Stops};
 ghost use Rattle.js_parsing.specs.Lexemes.{keyword_kind};
 ghost use Rattle.js_parsing.specs.Nesting.{CanNest, room};
+ghost use Rattle.js_parsing.specs.NodeTexts.{SpellsName};
 ghost use Rattle.js_parsing.specs.Stands.{StandsHere};
 ghost use Rattle.js_parsing.specs.States.{Standing};
 ghost use Rattle.js_parsing.specs.Statements.{EndsStatement, IsLabel, LabelsStatement, NoEnd, TakesAnywhere, TakesStatement, link_kinds, statement_kinds};
@@ -37,7 +38,7 @@ use js_operands::function::function_stands;
 use js_operands::primary::parse_leaf;
 use js_parsing::lexemes::{advance, escaped_word_stands, is_name_here};
 use js_parsing::nested::Nested;
-use js_parsing::nodes::{make_leaf, make_one, make_two};
+use js_parsing::nodes::{make_name, make_one, make_two};
 use js_tree::{NodeId, NodeKind, Op};
 
 /// A StatementListItem (ECMA-262, section 14.2): a Statement, a declaration of a function, or a LexicalDeclaration.
@@ -140,7 +141,7 @@ fn parse_expression_or_labeled_statement<C: ParserConfig, N: Nested<C>>(
     let first = p.cur_token();
     let expression = parse_sequence_expression(p, nested)?;
     if is_label(p, first) {
-        return parse_labeled_statement_rest(p, nested, first.span());
+        return parse_labeled_statement_rest(p, nested, first);
     }
     end_statement(p)?;
     let span = p.end_span(start);
@@ -152,19 +153,21 @@ fn parse_expression_or_labeled_statement<C: ParserConfig, N: Nested<C>>(
 fn parse_labeled_statement_rest<C: ParserConfig, N: Nested<C>>(
     p: &mut ParserImpl<'_, C>,
     nested: &N,
-    name: Span,
+    name: Token,
 ) -> Result<NodeId, Stop>
     requires at { Standing p.old }
     requires nests { CanNest (N.can nested.now) (room p.old) }
     requires allows_in { has_flag in_flag p.old.ctx ≡ true }
     requires colon { p.old.token.kind ≡ Colon }
-    requires start { name.start ≤ p.old.prev_token_end }
-    ensures { LabelsStatement name p.old p.new result }
+    requires start { name.span.start ≤ p.old.prev_token_end }
+    requires spells { SpellsName p.old.text name }
+    ensures { LabelsStatement name.span p.old p.new result }
 {
-    let label = make_leaf(p, NodeKind::LabelIdentifier, Op::None, name)?;
+    let start = name.start();
+    let label = make_name(p, NodeKind::LabelIdentifier, name)?;
     advance(p)?;
     let body = nested.statement(p)?;
-    let span = p.end_span(name.start);
+    let span = p.end_span(start);
     let node = make_two(p, NodeKind::LabeledStatement, Op::None, span, label, body)?;
     Ok(node)
 }

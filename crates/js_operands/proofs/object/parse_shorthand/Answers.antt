@@ -1,4 +1,6 @@
-use Rattle.std.proofs.Common.{◌≡◌, sym, ap, arith, ◌∙◌}
+use Rattle.std.proofs.Common.{ℕ, ◌≡◌, List, sym, ap, subst, arith, ◌∙◌}
+use Rattle.js_cursor.specs.Parsers.{Parser}
+use Rattle.js_parsing.specs.NodeTexts.{SpellsName}
 use Rattle.std.proofs.lemmas.Bool.{false≢true}
 use Rattle.std.proofs.lemmas.Result.{err_from_is_err_and}
 use Rattle.js_base.specs.declared.kind.Kind.TheVariants.{Eq, RAngle}
@@ -23,7 +25,7 @@ advance-requires-clause-at g c = standing (leaves_at c.requires.at c.in_ok-key.e
 
 pub advance-requires-clause-whole : goal.advance-requires-clause-whole
 advance-requires-clause-whole g c =
-    let k : c.make_leaf-2.new.p.token.kind ≡ Eq = c.at.ensures.0 c.if-not-at.false in
+    let k : c.make_name-2.new.p.token.kind ≡ Eq = c.at.ensures.0 c.if-not-at.false in
     (uncut (leaves_at c.requires.at c.in_ok-key.ensures c.in_ok-value.ensures c.requires.before).0 (ap (same_kind RAngle) k), ap unpassable k)
 
 pub assignment_with_in-requires-clause-at : goal.assignment_with_in-requires-clause-at
@@ -37,7 +39,7 @@ assignment_with_in-requires-clause-nests g c = nests_later c.requires.nests (
 pub returns-in_err-initialiser : goal.returns-in_err-initialiser
 returns-in_err-initialiser g c = λ text f first a s n m.
     let p = err_from_is_err_and c.from_residual-in_err-initialiser.result c.from_residual-in_err-initialiser.ensures.1 in
-    let k : c.make_leaf-2.new.p.token.kind ≡ Eq = c.at.ensures.0 c.if-not-at.false in
+    let k : c.make_name-2.new.p.token.kind ≡ Eq = c.at.ensures.0 c.if-not-at.false in
     let d = c.in_ok-advance.ensures text f (leaves_at m.at c.in_ok-key.ensures c.in_ok-value.ensures c.requires.before).0 in
     rw (p.1, p.2) (initialiser_stops a n.kind m s c.in_ok-key.ensures c.in_ok-value.ensures k d _ _ (c.in_err-initialiser.ensures text f d.at))
 
@@ -52,7 +54,7 @@ make_initialised-requires g c = record {
 
 pub returns : goal.returns
 returns g c = λ text f first a s n m.
-    let k : c.make_leaf-2.new.p.token.kind ≡ Eq = c.at.ensures.0 c.if-not-at.false in
+    let k : c.make_name-2.new.p.token.kind ≡ Eq = c.at.ensures.0 c.if-not-at.false in
     let d = c.in_ok-advance.ensures text f (leaves_at m.at c.in_ok-key.ensures c.in_ok-value.ensures c.requires.before).0 in
     initialised a n.kind m s c.in_ok-key.ensures c.in_ok-value.ensures k d (c.in_ok-initialiser.ensures text f d.at) (shorthand_made_with first s c.in_ok-node-2.ensures)
 
@@ -64,3 +66,6 @@ returns-in_err-node g c = λ text f first a s n m. let p = err_from_is_err_and c
 
 pub returns-in_err-advance : goal.returns-in_err-advance
 returns-in_err-advance g c = λ text f first a s n m. let p = err_from_is_err_and c.from_residual-in_err-advance.result c.from_residual-in_err-advance.ensures.1 in rw (p.1, p.2) (memory_stops _ _ _ _ c.in_err-advance.ensures)
+
+pub make_name-2-requires-clause-spells : goal.make_name-2-requires-clause-spells
+make_name-2-requires-clause-spells g c = subst (λ (v : List ℕ). SpellsName v c.args.name) (sym (ap (λ (v : Parser). v.text) c.in_ok-key.ensures.stays)) c.requires.spells

@@ -14,6 +14,7 @@ use Rattle.js_parsing.proofs.NameKinds.{names_at}
 use Rattle.js_operands.proofs.Wholes.{item_by}
 use Rattle.js_parsing.proofs.Moving.{standing}
 use Rattle.js_parsing.proofs.Nesting.{nested_room, nests_later}
+use Rattle.js_parsing.proofs.NodeTexts.{spells_later}
 use Rattle.js_operands.proofs.object.parse_word_property.Goals as goal
 
 pub advance-requires-clause-whole : goal.advance-requires-clause-whole
@@ -109,3 +110,9 @@ returns g c = λ text f a.
     item_by text f c.args.p.now (at Property f) _ c.parse_behind_name.result
     (word_only a c.requires.word m (no_form k c.cur_kind.ensures (sym c.accessor_form.ensures ∙ c.in_default.is)) (async_so k c.cur_token.ensures c.begins_async_method.ensures c.if-begins_async_method.false) (no_shorthand_here f.yield_ f.await_ j c.cur_kind-2.ensures (names_at m.at (λ (b : Bool). b && not (one_of_kinds (Colon ∷ LParen ∷ []) c.cur_kind-2.result)) c.kind.result ∙ (sym c.is_shorthand.ensures ∙ c.if-is_shorthand.false))) x.other)
     (c.parse_behind_name.ensures text f c.args.p.now a (ap (λ (s : Span). s.start) e) (no_star a c.requires.word m) (name_async a c.requires.word m (async_so k c.cur_token.ensures c.begins_async_method.ensures c.if-begins_async_method.false) false) x)
+
+pub parse_shorthand-requires-clause-spells : goal.parse_shorthand-requires-clause-spells
+parse_shorthand-requires-clause-spells g c = spells_later c.requires.at c.requires.word c.cur_token-word.ensures (c.in_ok-advance.ensures _ _ c.requires.at).same.follows.text
+
+pub make_name-requires-clause-spells : goal.make_name-requires-clause-spells
+make_name-requires-clause-spells g c = spells_later c.requires.at c.requires.word c.cur_token-word.ensures (c.in_ok-advance.ensures _ _ c.requires.at).same.follows.text

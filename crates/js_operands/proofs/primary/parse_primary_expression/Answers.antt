@@ -26,7 +26,7 @@ pub returns-in-Null : goal.returns-in-Null
 returns-in-Null t c = λ text f a. leaf_outcome text f _ _ node.NullLiteral op.None Null c.parse_leaf-in-Null.result refl null_path a (sym c.cur_kind-2.ensures ∙ c.in-Null.is) (plain_here c.args.p.now (sym c.cur_kind-2.ensures ∙ c.in-Null.is) refl c.escaped_word_stands.ensures c.if-escaped_word_stands.false).1 c.parse_leaf-in-Null.ensures
 
 pub returns-in-Str : goal.returns-in-Str
-returns-in-Str t c = λ text f a. leaf_outcome text f _ _ node.StringLiteral op.None Str c.parse_leaf-in-Str.result refl string_path a (sym c.cur_kind-2.ensures ∙ c.in-Str.is) (plain_here c.args.p.now (sym c.cur_kind-2.ensures ∙ c.in-Str.is) refl c.escaped_word_stands.ensures c.if-escaped_word_stands.false).1 c.parse_leaf-in-Str.ensures
+returns-in-Str t c = λ text f a. leaf_outcome text f _ _ node.StringLiteral op.None Str c.parse_string.result refl string_path a (sym c.cur_kind-2.ensures ∙ c.in-Str.is) (plain_here c.args.p.now (sym c.cur_kind-2.ensures ∙ c.in-Str.is) refl c.escaped_word_stands.ensures c.if-escaped_word_stands.false).1 c.parse_string.ensures
 
 pub returns-in-True : goal.returns-in-True
 returns-in-True t c = λ text f a. elim c.in-True.is [
