@@ -59,6 +59,8 @@ fn decoded_name<C: ParserConfig>(p: &ParserImpl<'_, C>, token: Token) -> Result<
 }
 
 /// The node of a name, by its token: with an escape in it the node keeps what it spells (ECMA-262, section 12.7.1).
+///
+/// Names without one are frequent: their nodes are made apart, by code that knows that nothing is kept.
 #[inline(always)]
 pub fn make_name<C: ParserConfig>(
     p: &mut ParserImpl<'_, C>,
@@ -69,8 +71,36 @@ pub fn make_name<C: ParserConfig>(
     requires spells { SpellsName p.old.text token }
     ensures { IfOk result (λ id. MadeHere (plain_label kind op.None token.span) [] p.old p.new id) }
 {
+    if !token.escaped() {
+        let name = plain_name(p, token);
+        return p.ast.leaf(kind, token.span(), Op::None, no_flags(), name);
+    }
+    make_spelled_name(p, kind, token)
+}
+
+/// The node of a name, whether an escape stands in it or not.
+#[inline(never)]
+fn make_spelled_name<C: ParserConfig>(
+    p: &mut ParserImpl<'_, C>,
+    kind: NodeKind,
+    token: Token,
+) -> Result<NodeId, NoMemory>
+    requires kind { is_name_node kind ≡ true }
+    requires spells { SpellsName p.old.text token }
+    ensures { IfOk result (λ id. MadeHere (plain_label kind op.None token.span) [] p.old p.new id) }
+{
     let name = escaped_name(p, token)?;
     p.ast.leaf(kind, token.span(), Op::None, no_flags(), name)
+}
+
+/// What is kept of a name without an escape: nothing.
+#[inline(always)]
+fn plain_name<C: ParserConfig>(_p: &ParserImpl<'_, C>, _token: Token) -> Option<Text>
+    requires spells { SpellsName _p.now.text _token }
+    requires plain { _token.escaped ≡ false }
+    ensures { IsKept result (spelled_at _p.now.text _token) }
+{
+    None
 }
 
 /// The node of a string literal at a span (ECMA-262, section 12.9.4).
