@@ -223,6 +223,9 @@ impl<'a, C: ParserConfig> ParserImpl<'a, C> {
 
     /// What stands behind the current token, as the lexer's `peek_token` gives it; behind a `>` that begins a longer
     /// punctuator, what stands behind this sign. Nothing moves, and nothing is kept. Never `Fatal`.
+    ///
+    /// The lexer's code is part of it, so it has a frame of its own: those who call it may recurse.
+    #[inline(never)]
     pub fn peek_token(&mut self) -> Result<Token, Stop>
         requires { IsAt self.old }
         ensures answer { MatchResult result (λ t. Peeks self.old t) OnlyMemory }

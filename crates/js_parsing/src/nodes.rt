@@ -38,7 +38,10 @@ pub fn make_leaf<C: ParserConfig>(
 
 /// The name that a token is, where an escape stands in it; else its text is the name itself (ECMA-262, section 12.7.1).
 #[inline(always)]
-fn escaped_name<C: ParserConfig>(p: &ParserImpl<'_, C>, token: Token) -> Result<Option<Text>, NoMemory>
+fn escaped_name<C: ParserConfig>(
+    p: &ParserImpl<'_, C>,
+    token: Token,
+) -> Result<Option<Text>, NoMemory>
     requires { SpellsName p.now.text token }
     ensures { IfOk result (λ name. IsKept name (spelled_at p.now.text token)) }
 {
@@ -105,11 +108,15 @@ fn plain_name<C: ParserConfig>(_p: &ParserImpl<'_, C>, _token: Token) -> Option<
 
 /// The node of a string literal at a span (ECMA-262, section 12.9.4).
 #[inline(always)]
-pub fn make_string<C: ParserConfig>(p: &mut ParserImpl<'_, C>, span: Span) -> Result<NodeId, NoMemory>
+pub fn make_string<C: ParserConfig>(
+    p: &mut ParserImpl<'_, C>,
+    span: Span,
+) -> Result<NodeId, NoMemory>
     requires { string_kind (chars (slice_range p.old.text span.start span.end)) ≡ Some Str }
     ensures { IfOk result (λ id. MadeHere (plain_label node.StringLiteral op.None span) [] p.old p.new id) }
 {
-    p.ast.leaf(NodeKind::StringLiteral, span, Op::None, no_flags(), None)
+    p.ast
+        .leaf(NodeKind::StringLiteral, span, Op::None, no_flags(), None)
 }
 
 /// A node of one child.
