@@ -38,7 +38,10 @@ pub fn make_leaf<C: ParserConfig>(
 
 /// The name that a token is, where an escape stands in it; else its text is the name itself (ECMA-262, section 12.7.1).
 #[inline(always)]
-fn escaped_name<C: ParserConfig>(p: &ParserImpl<'_, C>, token: Token) -> Result<Option<Text>, NoMemory>
+fn escaped_name<C: ParserConfig>(
+    p: &ParserImpl<'_, C>,
+    token: Token,
+) -> Result<Option<Text>, NoMemory>
     requires { SpellsName p.now.text token }
     ensures { IfOk result (λ name. IsKept name (spelled_at p.now.text token)) }
 {
@@ -59,8 +62,28 @@ fn decoded_name<C: ParserConfig>(p: &ParserImpl<'_, C>, token: Token) -> Result<
 }
 
 /// The node of a name, by its token: with an escape in it the node keeps what it spells (ECMA-262, section 12.7.1).
+///
+/// Names without one are frequent: their nodes are made apart, by code that knows that nothing is kept.
 #[inline(always)]
 pub fn make_name<C: ParserConfig>(
+    p: &mut ParserImpl<'_, C>,
+    kind: NodeKind,
+    token: Token,
+) -> Result<NodeId, NoMemory>
+    requires kind { is_name_node kind ≡ true }
+    requires spells { SpellsName p.old.text token }
+    ensures { IfOk result (λ id. MadeHere (plain_label kind op.None token.span) [] p.old p.new id) }
+{
+    if !token.escaped() {
+        let name = plain_name(p, token);
+        return p.ast.leaf(kind, token.span(), Op::None, no_flags(), name);
+    }
+    make_spelled_name(p, kind, token)
+}
+
+/// The node of a name, whether an escape stands in it or not.
+#[inline(never)]
+fn make_spelled_name<C: ParserConfig>(
     p: &mut ParserImpl<'_, C>,
     kind: NodeKind,
     token: Token,
@@ -73,13 +96,27 @@ pub fn make_name<C: ParserConfig>(
     p.ast.leaf(kind, token.span(), Op::None, no_flags(), name)
 }
 
+/// What is kept of a name without an escape: nothing.
+#[inline(always)]
+fn plain_name<C: ParserConfig>(_p: &ParserImpl<'_, C>, _token: Token) -> Option<Text>
+    requires spells { SpellsName _p.now.text _token }
+    requires plain { _token.escaped ≡ false }
+    ensures { IsKept result (spelled_at _p.now.text _token) }
+{
+    None
+}
+
 /// The node of a string literal at a span (ECMA-262, section 12.9.4).
 #[inline(always)]
-pub fn make_string<C: ParserConfig>(p: &mut ParserImpl<'_, C>, span: Span) -> Result<NodeId, NoMemory>
+pub fn make_string<C: ParserConfig>(
+    p: &mut ParserImpl<'_, C>,
+    span: Span,
+) -> Result<NodeId, NoMemory>
     requires { string_kind (chars (slice_range p.old.text span.start span.end)) ≡ Some Str }
     ensures { IfOk result (λ id. MadeHere (plain_label node.StringLiteral op.None span) [] p.old p.new id) }
 {
-    p.ast.leaf(NodeKind::StringLiteral, span, Op::None, no_flags(), None)
+    p.ast
+        .leaf(NodeKind::StringLiteral, span, Op::None, no_flags(), None)
 }
 
 /// A node of one child.
