@@ -12,4 +12,4 @@ pub parse_name-requires-clause-whole : goal.parse_name-requires-clause-whole
 parse_name-requires-clause-whole g c = name_whole c.requires.at (listed_here c.args.p.now c.requires.name)
 
 pub parse_name-requires-clause-word : goal.parse_name-requires-clause-word
-parse_name-requires-clause-word g c = name_word _ (listed_here c.args.p.now c.requires.name)
+parse_name-requires-clause-word g c = name_word c.args.p.now.token.kind (listed_here c.args.p.now c.requires.name)

@@ -73,13 +73,12 @@ parse_shorthand-requires-clause-nests g c = nests_later c.requires.nests (let r 
 
 pub parse_shorthand-requires-clause-before : goal.parse_shorthand-requires-clause-before
 parse_shorthand-requires-clause-before g c =
-    let e : c.span-span.result ≡ c.args.p.now.token.span = c.span-span.ensures ∙ ap (λ (t : Token). t.span) c.cur_token-word.ensures in
-    let s = ap (λ (s : Span). s.start) e in let i = (c.in_ok-advance.ensures _ _ c.requires.at).further in omega arith
+    let s = ap (λ (t : Token). t.span.start) c.cur_token-word.ensures in let i = (c.in_ok-advance.ensures _ _ c.requires.at).further in omega arith
 
 pub returns-then-is_shorthand : goal.returns-then-is_shorthand
 returns-then-is_shorthand g c = λ text f a.
     let m = c.in_ok-advance.ensures text f a in
-    let e : c.span-span.result ≡ c.args.p.now.token.span = c.span-span.ensures ∙ ap (λ (t : Token). t.span) c.cur_token-word.ensures in
+    let e : c.cur_token-word.result.span ≡ c.args.p.now.token.span = ap (λ (t : Token). t.span) c.cur_token-word.ensures in
     let k : c.keyword_of-keyword.result ≡ keyword_kind c.args.p.now.token = c.keyword_of-keyword.ensures ∙ ap keyword_kind c.cur_token-word.ensures in
     let j : c.kind.result ≡ c.args.p.now.token.kind = c.kind.ensures ∙ ap (λ (t : Token). t.kind) c.cur_token-word.ensures in
     let z = no_value_or_method (may_name f.yield_ f.await_ c.kind.result) (one_of_kinds (Colon ∷ LParen ∷ []) c.cur_kind-2.result) (names_at m.at (λ (b : Bool). b && not (one_of_kinds (Colon ∷ LParen ∷ []) c.cur_kind-2.result)) c.kind.result ∙ (sym c.is_shorthand.ensures ∙ c.if-is_shorthand.true)) in
@@ -106,7 +105,7 @@ returns g c = λ text f a.
     let e : c.span-span.result ≡ c.args.p.now.token.span = c.span-span.ensures ∙ ap (λ (t : Token). t.span) c.cur_token-word.ensures in
     let k : c.keyword_of-keyword.result ≡ keyword_kind c.args.p.now.token = c.keyword_of-keyword.ensures ∙ ap keyword_kind c.cur_token-word.ensures in
     let j : c.kind.result ≡ c.args.p.now.token.kind = c.kind.ensures ∙ ap (λ (t : Token). t.kind) c.cur_token-word.ensures in
-    let x = word_name a c.requires.word c.in_ok-advance.ensures e c.in_ok-key.ensures in
+    let x = word_name a c.requires.word c.in_ok-advance.ensures (ap (λ (t : Token). t.span) c.cur_token-word.ensures) c.in_ok-key.ensures in
     item_by text f c.args.p.now (at Property f) _ c.parse_behind_name.result
     (word_only a c.requires.word m (no_form k c.cur_kind.ensures (sym c.accessor_form.ensures ∙ c.in_default.is)) (async_so k c.cur_token.ensures c.begins_async_method.ensures c.if-begins_async_method.false) (no_shorthand_here f.yield_ f.await_ j c.cur_kind-2.ensures (names_at m.at (λ (b : Bool). b && not (one_of_kinds (Colon ∷ LParen ∷ []) c.cur_kind-2.result)) c.kind.result ∙ (sym c.is_shorthand.ensures ∙ c.if-is_shorthand.false))) x.other)
     (c.parse_behind_name.ensures text f c.args.p.now a (ap (λ (s : Span). s.start) e) (no_star a c.requires.word m) (name_async a c.requires.word m (async_so k c.cur_token.ensures c.begins_async_method.ensures c.if-begins_async_method.false) false) x)

@@ -38,7 +38,7 @@ pub parse_name-requires-clause-whole : goal.parse_name-requires-clause-whole
 parse_name-requires-clause-whole g c = subst (λ (v : Parser). IsWholeHere v) (sym (found_so c.args.p.now c.function_stands.new.p c.if-branch.false c.in_ok-function_stands.ensures).0) (name_whole c.requires.at (listed_here c.args.p.now c.requires.name))
 
 pub parse_name-requires-clause-word : goal.parse_name-requires-clause-word
-parse_name-requires-clause-word g c = subst (λ (v : Parser). read_word v.token.kind ≡ true) (sym (found_so c.args.p.now c.function_stands.new.p c.if-branch.false c.in_ok-function_stands.ensures).0) (name_word _ (listed_here c.args.p.now c.requires.name))
+parse_name-requires-clause-word g c = subst (λ (v : Parser). read_word v.token.kind ≡ true) (sym (found_so c.args.p.now c.function_stands.new.p c.if-branch.false c.in_ok-function_stands.ensures).0) (name_word c.args.p.now.token.kind (listed_here c.args.p.now c.requires.name))
 
 pub returns : goal.returns
 returns g c = λ text f a.

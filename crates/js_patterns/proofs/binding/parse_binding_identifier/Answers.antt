@@ -14,4 +14,4 @@ pub parse_name-requires-clause-whole : goal.parse_name-requires-clause-whole
 parse_name-requires-clause-whole g c = name_whole c.requires.at (listed_here c.args.p.now (name_so c.args.p.now c.if-not-name_stands.false c.name_stands.ensures))
 
 pub parse_name-requires-clause-word : goal.parse_name-requires-clause-word
-parse_name-requires-clause-word g c = name_word _ (listed_here c.args.p.now (name_so c.args.p.now c.if-not-name_stands.false c.name_stands.ensures))
+parse_name-requires-clause-word g c = name_word c.args.p.now.token.kind (listed_here c.args.p.now (name_so c.args.p.now c.if-not-name_stands.false c.name_stands.ensures))

@@ -62,7 +62,7 @@ pub returns : goal.returns
 returns g c = λ text f a. c.parse_property_value.ensures text f _ a (ap (λ (s : Span). s.start) (ap (λ (t : Token). t.span) c.cur_token-name.ensures)) (name_named a (name_at true a c.requires.name) c.in_ok-key.ensures) (no_shorthand_named a (name_at true a c.requires.name) c.in_ok-key.ensures (c.at.ensures.0 c.if-not-at.false))
 
 pub parse_name-requires-clause-word : goal.parse_name-requires-clause-word
-parse_name-requires-clause-word g c = name_word _ (listed_here c.args.p.now c.requires.name)
+parse_name-requires-clause-word g c = name_word c.args.p.now.token.kind (listed_here c.args.p.now c.requires.name)
 
 pub parse_shorthand-requires-clause-spells : goal.parse_shorthand-requires-clause-spells
-parse_shorthand-requires-clause-spells g c = spells_later c.requires.at (name_word _ (listed_here c.args.p.now c.requires.name)) c.cur_token-name.ensures (name_named c.requires.at c.requires.name c.in_ok-key.ensures).same.follows.text
+parse_shorthand-requires-clause-spells g c = spells_later c.requires.at (name_word c.args.p.now.token.kind (listed_here c.args.p.now c.requires.name)) c.cur_token-name.ensures (name_named c.requires.at c.requires.name c.in_ok-key.ensures).same.follows.text

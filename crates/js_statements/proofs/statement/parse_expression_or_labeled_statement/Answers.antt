@@ -1,7 +1,7 @@
 use Rattle.std.proofs.Common.{◌∙◌, ap, arith, subst}
 use Rattle.std.proofs.lemmas.Result.{err_from_is_err_and}
 use Rattle.js_parsing.proofs.Moving.{standing, stops_so, stops_behind}
-use Rattle.js_base.specs.Contexts.{has_flag, in_flag}
+use Rattle.js_base.specs.Contexts.{has_flag, in_flag, yield_flag, await_flag}
 use Rattle.js_base.specs.declared.span.Span.{Span}
 use Rattle.js_base.specs.declared.token.Token.{Token}
 use Rattle.js_parsing.specs.Statements.{IsLabel}
@@ -58,4 +58,4 @@ pub parse_labeled_statement_rest-requires-clause-spells : goal.parse_labeled_sta
 parse_labeled_statement_rest-requires-clause-spells t c =
     let x = (c.in_ok-expression.ensures.answers _ _ c.requires.at).answer in
     let i : IsLabel c.args.p.now.token c.parse_sequence_expression.new.p = subst (λ (t : Token). IsLabel t c.parse_sequence_expression.new.p) c.cur_token-first.ensures (c.is_label.ensures.0 c.if-is_label.true) in
-    spells_later c.requires.at (name_word _ (listed_name _ _ _ i.name)) c.cur_token-first.ensures x.same.follows.text
+    spells_later c.requires.at (name_word c.args.p.now.token.kind (listed_name (has_flag yield_flag c.parse_sequence_expression.new.p.ctx) (has_flag await_flag c.parse_sequence_expression.new.p.ctx) c.args.p.now.token.kind i.name)) c.cur_token-first.ensures x.same.follows.text

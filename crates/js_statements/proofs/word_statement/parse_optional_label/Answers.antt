@@ -24,4 +24,4 @@ pub returns : goal.returns
 returns g c = (λ m. false≢true (sym c.if-can_insert_semicolon.false ∙ c.can_insert_semicolon.ensures.1 m), name_so c.args.p.now c.if-not-name_stands.false c.name_stands.ensures, c.in_ok-label.ensures)
 
 pub parse_name-requires-clause-word : goal.parse_name-requires-clause-word
-parse_name-requires-clause-word g c = name_word _ (listed_here c.args.p.now (name_so c.args.p.now c.if-not-name_stands.false c.name_stands.ensures))
+parse_name-requires-clause-word g c = name_word c.args.p.now.token.kind (listed_here c.args.p.now (name_so c.args.p.now c.if-not-name_stands.false c.name_stands.ensures))
