@@ -1,148 +1,247 @@
-//! What the moves over lexemes answer.
+//! Rows of what the moves over lexemes answer.
 
-ghost use Rattle.std.specs.Prelude.{◌≡◌, ◌≤◌, length, IfOk};
+ghost use Rattle.std.specs.Prelude.{◌≡◌, ◌≤◌, ◌<◌, length, IfOk};
 ghost use Rattle.js_base.specs.declared.TheConstants.{MAX_LEN};
+ghost use Rattle.js_cursor.specs.Checkpoints.{GoesOn};
 ghost use Rattle.js_cursor.specs.Places.{IsAt};
 
-use crate::deed::{move_on, push_deed};
-use crate::named::kind_named;
-use crate::row::{Row, first_word};
-use js_base::{Diagnostic, Kind, MAX_LEN, NoMemory, ParseOptions, SourceType, Span};
-use js_cursor::{ListStep, ParserImpl, Stop};
+use js_base::{Diagnostic, DiagnosticKind, Kind, MAX_LEN, ParseOptions, SourceType, Span};
+use js_cursor::{CoverInitializer, ListStep, MAX_DEPTH, ParserImpl, Stop};
 use js_lex::NoTokensParserConfig;
-use std::alloc::{AllocError, Global};
+use js_tree::NodeId;
 
-/// A parser that keeps no tokens.
-pub type Parser<'a> = ParserImpl<'a, NoTokensParserConfig>;
-
-/// A parser at the first lexeme of a script.
-fn begun<'a>(alloc: Global, source: &'a str) -> Result<Parser<'a>, NoMemory>
-    requires { length source.now ≤ MAX_LEN }
-    ensures { IfOk result (λ p. IsAt p) }
-{
-    let (goal, options) = (SourceType::script(), ParseOptions::default());
-    ParserImpl::new(alloc, source, goal, options, NoTokensParserConfig)
+/// A call at the first lexeme.
+#[derive(Clone, Copy)]
+enum Call {
+    BumpAny,
+    Eat(Kind),
+    Bump(Kind),
+    Expect(Kind),
+    Asi,
+    Unexpected,
+    Peek,
+    ReLex,
 }
 
-/// What comes of a row that asks a parser at its text's first lexeme.
-pub(crate) fn moved_answer(alloc: Global, row: &Row<'_>) -> Result<String, NoMemory> {
-    let mut out = String::new(alloc);
-    let source = row.text.as_str();
-    if source.len() > MAX_LEN {
-        return Ok(out);
-    }
-    let mut p = begun(alloc, source)?;
-    let moved = match row.asked {
-        "call" => push_call(&mut p, row.words, &mut out),
-        "step" => push_step(&mut p, row.words, &mut out),
-        "marker" => push_marker(&mut p, row.words, &mut out),
-        "deed" => push_deed(&mut p, row.words, &mut out),
-        "turn" => push_turn(p, &mut out),
-        _ => Ok(()),
-    };
-    match moved {
-        Ok(()) => Ok(out),
-        // (nothing is told where the parser gave up)
-        Err(Stop::Fatal) => Ok(out),
-        Err(Stop::NoMemory) => Err(NoMemory),
-    }
+/// What it answers: that it went well, that nothing was eaten, the kind of the lexeme behind, where a pattern ends, or the
+/// kind of the diagnostic that was kept last.
+#[derive(Debug, Clone, Copy, PartialEq, Eq)]
+enum Answer {
+    Done,
+    Stayed,
+    Behind(Kind),
+    PatternEnds(u32),
+    Fatal(DiagnosticKind),
+    NoMemory,
 }
 
-/// Writes the current lexeme, and where the one before ends.
-fn push_place(p: &Parser<'_>, out: &mut String) -> Result<(), AllocError> {
-    write!(out, ", {:?} behind {}", p.cur_kind(), p.prev_token_end())
-}
+type Parser<'a> = ParserImpl<'a, NoTokensParserConfig>;
 
-/// Makes the call of a name, and writes what it answers and where the parser stands then.
-fn push_call(p: &mut Parser<'_>, words: &str, out: &mut String) -> Result<(), Stop>
-    requires { IsAt p.old }
-{
-    let (call, name) = first_word(words);
-    let kind = kind_named(p.alloc, name)?.unwrap_or(Kind::Undetermined);
-    match call {
-        "peek" => push_peek(p, out)?,
-        "read-again" => push_read_again(p, out)?,
-        "eat" => push_eaten(p, kind, out)?,
-        _ => {
-            let moved = made(p, call, kind);
-            push_moved(p, moved, out)?;
-        }
-    }
-    Ok(push_place(p, out)?)
-}
-
-/// Makes the call of a name that answers nothing where it goes well.
-fn made(p: &mut Parser<'_>, call: &str, kind: Kind) -> Result<(), Stop>
-    requires { IsAt p.old }
-{
-    match call {
-        "bump-any" => p.bump_any(),
-        "bump" => p.bump(kind),
-        "expect" => p.expect(kind),
-        "asi" => p.asi(),
-        _ => Err(p.set_unexpected()),
+fn fatal(p: &Parser<'_>, stop: Stop) -> Answer {
+    match stop {
+        Stop::NoMemory => Answer::NoMemory,
+        Stop::Fatal => match p.errors.len() {
+            0 => Answer::Stayed,
+            len => Answer::Fatal(p.errors[len - 1].kind),
+        },
     }
 }
 
-/// Writes how such a call went: well, or with which diagnostic.
-fn push_moved(p: &Parser<'_>, moved: Result<(), Stop>, out: &mut String) -> Result<(), Stop> {
-    match moved {
-        Ok(()) => Ok(out.push_str("done")?),
-        Err(Stop::NoMemory) => Err(Stop::NoMemory),
-        Err(Stop::Fatal) => {
-            if let Some(last) = last_error(p) {
-                write!(out, "{:?}", last.kind)?;
-            }
-            Ok(())
-        }
-    }
-}
-
-/// The diagnostic that was kept last.
-fn last_error(p: &Parser<'_>) -> Option<Diagnostic> {
-    match p.errors.len() {
-        0 => None,
-        len => Some(p.errors[len - 1]),
-    }
-}
-
-/// Writes whether a lexeme of a kind was eaten.
-fn push_eaten(p: &mut Parser<'_>, kind: Kind, out: &mut String) -> Result<(), Stop>
-    requires { IsAt p.old }
-{
-    let eaten = p.eat(kind)?;
-    Ok(out.push_str(if eaten { "eaten" } else { "stayed" })?)
-}
-
-/// Writes the kind of the lexeme behind.
-fn push_peek(p: &mut Parser<'_>, out: &mut String) -> Result<(), Stop>
-    requires { IsAt p.old }
-{
-    let token = p.peek_token()?;
-    Ok(write!(out, "{:?}", token.kind())?)
-}
-
-/// Reads the current sign again, as what it may begin, and writes where a pattern ends.
-fn push_read_again(p: &mut Parser<'_>, out: &mut String) -> Result<(), Stop>
+/// Reads the current sign again, as what it may begin.
+fn re_lex(p: &mut Parser<'_>) -> Result<Answer, Stop>
     requires { IsAt p.old }
 {
     if p.at(Kind::Slash) {
-        let end = p.re_lex_regex()?;
-        return Ok(write!(out, "pattern to {end}")?);
+        return Ok(Answer::PatternEnds(p.re_lex_regex()?));
     }
     if p.at(Kind::SlashEq) {
-        let end = p.re_lex_regex()?;
-        return Ok(write!(out, "pattern to {end}")?);
+        return Ok(Answer::PatternEnds(p.re_lex_regex()?));
     }
     if p.at(Kind::RAngle) {
         p.re_lex_right_angle()?;
-        return Ok(out.push_str("done")?);
+        return Ok(Answer::Done);
     }
     if p.at(Kind::RCurly) {
         p.re_lex_template_tail()?;
-        return Ok(out.push_str("done")?);
+        return Ok(Answer::Done);
     }
-    Ok(())
+    Ok(Answer::Stayed)
+}
+
+/// The lexeme behind.
+fn peek(p: &mut Parser<'_>) -> Result<Answer, Stop>
+    requires { IsAt p.old }
+{
+    let token = p.peek_token()?;
+    Ok(Answer::Behind(token.kind()))
+}
+
+/// The answer of a call that never gives up.
+fn given_by(given: Result<Answer, Stop>) -> Answer {
+    match given {
+        Ok(answer) => answer,
+        Err(_) => Answer::NoMemory,
+    }
+}
+
+fn make(p: &mut Parser<'_>, call: Call) -> Answer
+    requires { IsAt p.old }
+{
+    let made = match call {
+        Call::BumpAny => p.bump_any(),
+        Call::Bump(kind) => p.bump(kind),
+        Call::Expect(kind) => p.expect(kind),
+        Call::Asi => p.asi(),
+        Call::Unexpected => Err(p.set_unexpected()),
+        Call::Peek => return given_by(peek(p)),
+        Call::ReLex => return given_by(re_lex(p)),
+        Call::Eat(kind) => match p.eat(kind) {
+            Ok(true) => Ok(()),
+            Ok(false) => return Answer::Stayed,
+            Err(stop) => Err(stop),
+        },
+    };
+    match made {
+        Ok(()) => Answer::Done,
+        Err(stop) => fatal(p, stop),
+    }
+}
+
+/// The text, the call at its first lexeme and its answer; the kind of the current lexeme then, and the end of the one before.
+static CALLS: [(&str, Call, Answer, Kind, u32); 33] = [
+    ("ab cd", Call::BumpAny, Answer::Done, Kind::Ident, 2),
+    ("", Call::BumpAny, Answer::Done, Kind::Eof, 0),
+    ("\u{1}", Call::BumpAny, Answer::Done, Kind::Undetermined, 0),
+    (">>= a", Call::BumpAny, Answer::Done, Kind::Ident, 3),
+    ("if (", Call::Eat(Kind::If), Answer::Done, Kind::LParen, 2),
+    (
+        "i\\u0066 (",
+        Call::Eat(Kind::If),
+        Answer::Stayed,
+        Kind::If,
+        0,
+    ),
+    ("if (", Call::Eat(Kind::LParen), Answer::Stayed, Kind::If, 0),
+    ("if (", Call::Bump(Kind::If), Answer::Done, Kind::LParen, 2),
+    (
+        "i\\u0066 (",
+        Call::Bump(Kind::If),
+        Answer::Done,
+        Kind::If,
+        0,
+    ),
+    (
+        "if (",
+        Call::Expect(Kind::If),
+        Answer::Done,
+        Kind::LParen,
+        2,
+    ),
+    (
+        "i\\u0066 (",
+        Call::Expect(Kind::If),
+        Answer::Fatal(DiagnosticKind::ExpectToken),
+        Kind::If,
+        0,
+    ),
+    (
+        "if (",
+        Call::Expect(Kind::LParen),
+        Answer::Fatal(DiagnosticKind::ExpectToken),
+        Kind::If,
+        0,
+    ),
+    (";a", Call::Asi, Answer::Done, Kind::Ident, 1),
+    ("}a", Call::Asi, Answer::Done, Kind::RCurly, 0),
+    ("", Call::Asi, Answer::Done, Kind::Eof, 0),
+    ("\na", Call::Asi, Answer::Done, Kind::Ident, 0),
+    (
+        "a",
+        Call::Asi,
+        Answer::Fatal(DiagnosticKind::ExpectToken),
+        Kind::Ident,
+        0,
+    ),
+    (
+        "a",
+        Call::Unexpected,
+        Answer::Fatal(DiagnosticKind::UnexpectedToken),
+        Kind::Ident,
+        0,
+    ),
+    (
+        "'a",
+        Call::Unexpected,
+        Answer::Fatal(DiagnosticKind::UnterminatedString),
+        Kind::Undetermined,
+        0,
+    ),
+    ("#!a\nb", Call::BumpAny, Answer::Done, Kind::Ident, 3),
+    (
+        " #!a",
+        Call::Unexpected,
+        Answer::Fatal(DiagnosticKind::InvalidCharacter),
+        Kind::Undetermined,
+        0,
+    ),
+    (
+        "a b",
+        Call::Peek,
+        Answer::Behind(Kind::Ident),
+        Kind::Ident,
+        0,
+    ),
+    ("a", Call::Peek, Answer::Behind(Kind::Eof), Kind::Ident, 0),
+    (
+        "a 'b",
+        Call::Peek,
+        Answer::Behind(Kind::Undetermined),
+        Kind::Ident,
+        0,
+    ),
+    (
+        ">>",
+        Call::Peek,
+        Answer::Behind(Kind::RAngle),
+        Kind::RAngle,
+        0,
+    ),
+    ("/a/g", Call::ReLex, Answer::PatternEnds(3), Kind::RegExp, 0),
+    ("/=/", Call::ReLex, Answer::PatternEnds(3), Kind::RegExp, 0),
+    (
+        "/a",
+        Call::ReLex,
+        Answer::PatternEnds(2),
+        Kind::Undetermined,
+        0,
+    ),
+    (">>>=", Call::ReLex, Answer::Done, Kind::ShiftRight3Eq, 0),
+    ("> >", Call::ReLex, Answer::Done, Kind::RAngle, 0),
+    ("}a`", Call::ReLex, Answer::Done, Kind::TemplateTail, 0),
+    ("}a${", Call::ReLex, Answer::Done, Kind::TemplateMiddle, 0),
+    ("}a", Call::ReLex, Answer::Done, Kind::Undetermined, 0),
+];
+
+#[test]
+fn calls(rt: HostRuntime) {
+    for &(source, call, answer, kind, end) in &CALLS {
+        assert!(rt; source.len() <= MAX_LEN);
+        match Parser::new(
+            rt.alloc(),
+            source,
+            SourceType::script(),
+            ParseOptions::default(),
+            NoTokensParserConfig,
+        ) {
+            Err(_) => assert!(rt; false),
+            Ok(mut p) => {
+                let given = make(&mut p, call);
+                assert_eq!(rt; given, answer);
+                assert_eq!(rt; p.cur_kind(), kind);
+                assert_eq!(rt; p.prev_token_end(), end);
+            }
+        }
+    }
 }
 
 /// A step in the list that the first lexeme opens; none where it opens none, or where the step gives up.
@@ -159,20 +258,54 @@ fn step(p: &mut Parser<'_>, close: Kind, first: bool) -> Option<ListStep>
     }
 }
 
-/// Makes a step in the list that the first lexeme opens, to a closing bracket, and writes what comes next. `first` says
-/// that no item was read.
-fn push_step(p: &mut Parser<'_>, words: &str, out: &mut String) -> Result<(), Stop>
-    requires { IsAt p.old }
-{
-    let (close, first) = first_word(words);
-    let close = kind_named(p.alloc, close)?.unwrap_or(Kind::Undetermined);
-    match step(p, close, first == "first") {
-        Some(ListStep::Element) => out.push_str("item")?,
-        Some(ListStep::End) => out.push_str("end")?,
-        Some(ListStep::EndAfterComma(comma)) => write!(out, "end behind a comma at {comma}")?,
-        None => out.push_str("none")?,
+/// The text, the closing bracket, whether no item was read, and the step; the kind of the current lexeme then.
+static STEPS: [(&str, Kind, bool, Option<ListStep>, Kind); 7] = [
+    ("()", Kind::RParen, true, Some(ListStep::End), Kind::RParen),
+    ("()", Kind::RParen, false, Some(ListStep::End), Kind::RParen),
+    (
+        "(a)",
+        Kind::RParen,
+        true,
+        Some(ListStep::Element),
+        Kind::Ident,
+    ),
+    (
+        "(,a)",
+        Kind::RParen,
+        false,
+        Some(ListStep::Element),
+        Kind::Ident,
+    ),
+    (
+        "( ,)",
+        Kind::RParen,
+        false,
+        Some(ListStep::EndAfterComma(2)),
+        Kind::RParen,
+    ),
+    ("(a)", Kind::RParen, false, None, Kind::Ident),
+    ("(]", Kind::RParen, false, None, Kind::RBrack),
+];
+
+#[test]
+fn steps(rt: HostRuntime) {
+    for &(source, close, first, answer, kind) in &STEPS {
+        assert!(rt; source.len() <= MAX_LEN);
+        match Parser::new(
+            rt.alloc(),
+            source,
+            SourceType::script(),
+            ParseOptions::default(),
+            NoTokensParserConfig,
+        ) {
+            Err(_) => assert!(rt; false),
+            Ok(mut p) => {
+                let given = step(&mut p, close, first);
+                assert_eq!(rt; given, answer);
+                assert_eq!(rt; p.cur_kind(), kind);
+            }
+        }
     }
-    Ok(push_place(p, out)?)
 }
 
 /// One lexeme on, and back.
@@ -186,16 +319,39 @@ fn on_and_back(p: &mut Parser<'_>) -> Result<Kind, Stop>
     Ok(next)
 }
 
-/// Goes one lexeme on and back, and writes both lexemes and how many comments and faults are kept before the first.
-fn push_turn(mut p: Parser<'_>, out: &mut String) -> Result<(), Stop>
-    requires { IsAt p }
-{
-    let next = on_and_back(&mut p)?;
-    write!(out, "{next:?}")?;
-    push_place(&p, out)?;
-    let kept = p.into_parts().lexer.finish();
-    let (comments, faults) = (kept.comments.len(), kept.errors.len());
-    Ok(write!(out, ", {comments} comments, {faults} faults")?)
+/// The text, the kinds of its first two lexemes, and how many comments and faults are kept before the first.
+static TURNS: [(&str, Kind, Kind, usize, usize); 4] = [
+    ("/*1*/ a /*2*/ ;", Kind::Ident, Kind::Semicolon, 1, 0),
+    ("a 'b", Kind::Ident, Kind::Undetermined, 0, 0),
+    ("'b", Kind::Undetermined, Kind::Undetermined, 0, 1),
+    ("(", Kind::LParen, Kind::Eof, 0, 0),
+];
+
+#[test]
+fn turns(rt: HostRuntime) {
+    for &(source, first, second, comments, faults) in &TURNS {
+        assert!(rt; source.len() <= MAX_LEN);
+        match Parser::new(
+            rt.alloc(),
+            source,
+            SourceType::script(),
+            ParseOptions::default(),
+            NoTokensParserConfig,
+        ) {
+            Err(_) => assert!(rt; false),
+            Ok(mut p) => {
+                match on_and_back(&mut p) {
+                    Ok(kind) => assert_eq!(rt; kind, second),
+                    Err(_) => assert!(rt; false),
+                }
+                assert_eq!(rt; p.cur_kind(), first);
+                assert_eq!(rt; p.prev_token_end(), 0);
+                let kept = p.into_parts().lexer.finish();
+                assert_eq!(rt; kept.comments.len(), comments);
+                assert_eq!(rt; kept.errors.len(), faults);
+            }
+        }
+    }
 }
 
 /// Gives up at the current lexeme.
@@ -229,23 +385,379 @@ fn give_up_at(p: &mut Parser<'_>, next: bool) -> Result<Diagnostic, Stop>
     give_up(p)
 }
 
-/// Gives up at the first lexeme, or behind it, and writes what is told.
-fn push_marker(p: &mut Parser<'_>, words: &str, out: &mut String) -> Result<(), Stop>
-    requires { IsAt p.old }
-{
-    let told = give_up_at(p, words == "behind")?;
-    write!(out, "{:?} ", told.kind)?;
-    push_span(out, Some(told.span))?;
-    out.push(' ')?;
-    push_span(out, told.first)?;
-    out.push(' ')?;
-    Ok(push_span(out, told.second)?)
+/// The kind, and the places of the diagnostic and of its two related places, each as its start and its end.
+type Told = (DiagnosticKind, (u32, u32), (u32, u32), (u32, u32));
+
+/// No place.
+const NONE: (u32, u32) = (0, 0);
+
+fn ends_of(span: Option<Span>) -> (u32, u32) {
+    match span {
+        Some(span) => (span.start, span.end),
+        None => NONE,
+    }
 }
 
-/// Writes a place, or that there is none.
-fn push_span(out: &mut String, span: Option<Span>) -> Result<(), AllocError> {
-    match span {
-        Some(span) => write!(out, "{}..{}", span.start, span.end),
-        None => out.push('-'),
+/// The text, whether its first lexeme is passed before the parser gives up, and what is told.
+static MARKERS: [(&str, bool, Told); 12] = [
+    (
+        "<<<<<<< HEAD\na\n=======\nb\n>>>>>>> x",
+        false,
+        (
+            DiagnosticKind::MergeConflictMarker,
+            (0, 7),
+            (15, 22),
+            (25, 32),
+        ),
+    ),
+    (
+        "<<<<<<<",
+        false,
+        (DiagnosticKind::MergeConflictMarker, (0, 7), NONE, NONE),
+    ),
+    (
+        "a\n<<<<<<< b\n=======",
+        true,
+        (DiagnosticKind::MergeConflictMarker, (2, 9), (12, 19), NONE),
+    ),
+    (
+        "<<<<<<< a\n>>>>>>> b\n=======",
+        false,
+        (DiagnosticKind::MergeConflictMarker, (0, 7), NONE, (10, 17)),
+    ),
+    (
+        "=======\nb\n>>>>>>> x",
+        false,
+        (DiagnosticKind::MergeConflictMarker, (0, 7), NONE, (10, 17)),
+    ),
+    (
+        ">>>>>>> x",
+        false,
+        (DiagnosticKind::MergeConflictMarker, (0, 7), NONE, NONE),
+    ),
+    (
+        "||||||| a\n=======\n>>>>>>> b",
+        false,
+        (
+            DiagnosticKind::MergeConflictMarker,
+            (0, 7),
+            (10, 17),
+            (18, 25),
+        ),
+    ),
+    (
+        "<<<<<<< a\n'\n=======",
+        false,
+        (DiagnosticKind::MergeConflictMarker, (0, 7), NONE, NONE),
+    ),
+    (
+        "<<<<<<< a =======\n\t>>>>>>>",
+        false,
+        (DiagnosticKind::MergeConflictMarker, (0, 7), NONE, (19, 26)),
+    ),
+    (
+        "a <<<<<<< b",
+        true,
+        (DiagnosticKind::UnexpectedToken, (2, 4), NONE, NONE),
+    ),
+    (
+        "<<<<<< a",
+        false,
+        (DiagnosticKind::UnexpectedToken, (0, 2), NONE, NONE),
+    ),
+    (
+        "/*\n*/ ====== ",
+        false,
+        (DiagnosticKind::UnexpectedToken, (6, 9), NONE, NONE),
+    ),
+];
+
+#[test]
+fn markers(rt: HostRuntime) {
+    for &(source, passed, told) in &MARKERS {
+        assert!(rt; source.len() <= MAX_LEN);
+        match Parser::new(
+            rt.alloc(),
+            source,
+            SourceType::script(),
+            ParseOptions::default(),
+            NoTokensParserConfig,
+        ) {
+            Err(_) => assert!(rt; false),
+            Ok(mut p) => match give_up_at(&mut p, passed) {
+                Err(_) => assert!(rt; false),
+                Ok(found) => {
+                    assert_eq!(rt; found.kind, told.0);
+                    assert_eq!(rt; ends_of(Some(found.span)), told.1);
+                    assert_eq!(rt; ends_of(found.first), told.2);
+                    assert_eq!(rt; ends_of(found.second), told.3);
+                }
+            },
+        }
+    }
+}
+
+/// What is done between a checkpoint and the way back to it.
+#[derive(Clone, Copy)]
+enum Deed {
+    Move,
+    Diagnostic,
+    Visit,
+    Parameter,
+    Enter,
+    Cover,
+    Take,
+    Pop,
+    Comma,
+    Memo,
+    OperandMemo,
+}
+
+/// A shorthand at the text's start.
+fn cover() -> CoverInitializer {
+    CoverInitializer {
+        span: Span::empty(0),
+        init: NodeId(1),
+    }
+}
+
+/// Another one that would stand there.
+fn other_cover() -> CoverInitializer {
+    CoverInitializer {
+        span: Span::empty(9),
+        init: NodeId(9),
+    }
+}
+
+/// One lexeme is passed.
+fn move_on(p: &mut Parser<'_>) -> Result<(), Stop>
+    requires { IsAt p.old }
+    ensures { IfOk result (λ _. GoesOn p.old p.new) }
+{
+    p.bump_any()?;
+    Ok(())
+}
+
+/// A diagnostic is kept.
+fn keep_diagnostic(p: &mut Parser<'_>) -> Result<(), Stop>
+    requires { IsAt p.old }
+    ensures { IfOk result (λ _. GoesOn p.old p.new) }
+{
+    match p.set_unexpected() {
+        Stop::Fatal => Ok(()),
+        Stop::NoMemory => Err(Stop::NoMemory),
+    }
+}
+
+/// A visit is kept.
+fn keep_visit(p: &mut Parser<'_>) -> Result<(), Stop>
+    requires { IsAt p.old }
+    ensures { IfOk result (λ _. GoesOn p.old p.new) }
+{
+    p.module_record_builder.set_module_syntax()?;
+    Ok(())
+}
+
+/// A parameter is set.
+fn set_parameter(p: &mut Parser<'_>)
+    requires { IsAt p.old }
+    ensures { GoesOn p.old p.new }
+{
+    p.ctx = p.ctx.and_yield(true);
+}
+
+/// One level deeper.
+fn go_deeper(p: &mut Parser<'_>) -> Result<(), Stop>
+    requires { IsAt p.old }
+    ensures { IfOk result (λ _. GoesOn p.old p.new) }
+{
+    p.enter(1)?;
+    Ok(())
+}
+
+/// A shorthand is kept for the text's start.
+fn keep_cover(p: &mut Parser<'_>, kept: CoverInitializer) -> Result<(), Stop>
+    requires at { IsAt p.old }
+    requires behind { 0 < p.old.token.span.start }
+    ensures goes_on { IfOk result (λ _. GoesOn p.old p.new) }
+    ensures stays { IfOk result (λ _. p.new.token ≡ p.old.token) }
+{
+    p.state.add_cover_initializer(0, kept.span, kept.init)?;
+    Ok(())
+}
+
+/// The one that is kept there is taken out.
+fn take_cover(p: &mut Parser<'_>)
+    requires { IsAt p.old }
+    ensures { GoesOn p.old p.new }
+{
+    p.state.take_cover_initializer(0);
+}
+
+/// The first one is taken out.
+fn pop_cover(p: &mut Parser<'_>)
+    requires { IsAt p.old }
+    ensures { GoesOn p.old p.new }
+{
+    p.state.pop_cover_initializer();
+}
+
+/// A comma is kept for the text's start.
+fn keep_comma(p: &mut Parser<'_>) -> Result<(), Stop>
+    requires at { IsAt p.old }
+    requires behind { 0 < p.old.token.span.start }
+    ensures { IfOk result (λ _. GoesOn p.old p.new) }
+{
+    p.state.add_trailing_comma(0, Span::empty(9))?;
+    Ok(())
+}
+
+/// It is noted that no head of an arrow function stands at the text's start.
+fn note_head(p: &mut Parser<'_>) -> Result<(), Stop>
+    requires { IsAt p.old }
+    ensures { IfOk result (λ _. GoesOn p.old p.new) }
+{
+    p.note_arrow_failed(0)?;
+    Ok(())
+}
+
+/// It is noted that no operand stands there.
+fn note_operand(p: &mut Parser<'_>) -> Result<(), Stop>
+    requires { IsAt p.old }
+    ensures { IfOk result (λ _. GoesOn p.old p.new) }
+{
+    p.note_operand_failed(0)?;
+    Ok(())
+}
+
+/// Does it. The place of what is noted is the text's start, before the current lexeme.
+fn make_deed(p: &mut Parser<'_>, deed: Deed) -> Result<(), Stop>
+    requires at { IsAt p.old }
+    requires behind { 0 < p.old.token.span.start }
+    ensures { IfOk result (λ _. GoesOn p.old p.new) }
+{
+    match deed {
+        Deed::Move => return move_on(p),
+        Deed::Diagnostic => return keep_diagnostic(p),
+        Deed::Visit => return keep_visit(p),
+        Deed::Enter => return go_deeper(p),
+        Deed::Cover => return keep_cover(p, other_cover()),
+        Deed::Comma => return keep_comma(p),
+        Deed::Memo => return note_head(p),
+        Deed::OperandMemo => return note_operand(p),
+        Deed::Parameter => set_parameter(p),
+        Deed::Take => take_cover(p),
+        Deed::Pop => pop_cover(p),
+    }
+    Ok(())
+}
+
+/// Whether no level was entered: all of them may be.
+fn is_outside(p: &mut Parser<'_>) -> bool
+    requires { IsAt p.old }
+{
+    match p.enter(MAX_DEPTH) {
+        Ok(()) => {
+            p.leave(MAX_DEPTH);
+            true
+        }
+        Err(_) => false,
+    }
+}
+
+/// Does a deed and goes back; whether no level was entered then.
+fn turn_back(p: &mut Parser<'_>, deed: Deed) -> Result<bool, Stop>
+    requires at { IsAt p.old }
+    requires behind { 0 < p.old.token.span.start }
+{
+    let here = p.checkpoint()?;
+    make_deed(p, deed)?;
+    p.rewind(here);
+    Ok(is_outside(p))
+}
+
+/// What a parser shows of what it has kept and noted.
+#[derive(Debug, PartialEq, Eq, Drop)]
+struct Shown {
+    start: u32,
+    errors: usize,
+    visits: usize,
+    yields: bool,
+    failed: bool,
+    operand_failed: bool,
+    comma: Option<Span>,
+    first: Option<CoverInitializer>,
+    second: Option<CoverInitializer>,
+}
+
+/// Shows it, and takes out the shorthands.
+fn show(p: &mut Parser<'_>) -> Shown {
+    Shown {
+        start: p.cur_start(),
+        errors: p.errors.len(),
+        visits: p.module_record_builder.mark(),
+        yields: p.ctx.has_yield(),
+        failed: p.arrow_failed(0),
+        operand_failed: p.operand_failed(0),
+        comma: p.state.trailing_comma(0),
+        first: p.state.pop_cover_initializer(),
+        second: p.state.pop_cover_initializer(),
+    }
+}
+
+/// The deed, and whether it is known afterwards that no head of an arrow function, or no operand, stands at the text's
+/// start.
+static DEEDS: [(Deed, bool, bool); 11] = [
+    (Deed::Move, false, false),
+    (Deed::Diagnostic, false, false),
+    (Deed::Visit, false, false),
+    (Deed::Parameter, false, false),
+    (Deed::Enter, false, false),
+    (Deed::Cover, false, false),
+    (Deed::Take, false, false),
+    (Deed::Pop, false, false),
+    (Deed::Comma, false, false),
+    (Deed::Memo, true, false),
+    (Deed::OperandMemo, false, true),
+];
+
+/// Notes a shorthand, does a deed and goes back; whether no level was entered then.
+fn there_and_back(p: &mut Parser<'_>, deed: Deed) -> Result<bool, Stop>
+    requires { IsAt p.old }
+{
+    if p.cur_start() == 0 {
+        return Err(Stop::Fatal);
+    }
+    keep_cover(p, cover())?;
+    turn_back(p, deed)
+}
+
+#[test]
+fn deeds(rt: HostRuntime) {
+    for &(deed, failed, operand_failed) in &DEEDS {
+        match Parser::new(
+            rt.alloc(),
+            " a /*1*/ 'b",
+            SourceType::script(),
+            ParseOptions::default(),
+            NoTokensParserConfig,
+        ) {
+            Err(_) => assert!(rt; false),
+            Ok(mut p) => {
+                assert!(rt; matches!(there_and_back(&mut p, deed), Ok(true)));
+                let expected = Shown {
+                    start: 1,
+                    errors: 0,
+                    visits: 0,
+                    yields: false,
+                    failed,
+                    operand_failed,
+                    comma: None,
+                    first: Some(cover()),
+                    second: None,
+                };
+                assert_eq!(rt; show(&mut p), expected);
+            }
+        }
     }
 }

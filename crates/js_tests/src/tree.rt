@@ -1,109 +1,572 @@
-//! The lines of trees, the slots of their nodes, and the names that these bind.
+//! Trees and their lines, and what is read from nodes, as rows of plain data.
 
-use crate::row::first_word;
-use crate::step::{made, span_of};
-use js_base::{NoMemory, Span};
-use js_tree::{NodeId, ParserAstBuilder, Tree};
-use std::alloc::{AllocError, Global};
+ghost use Rattle.std.specs.Prelude.{◌≡◌, IsTrue, Some, chars};
+ghost use Rattle.js_base.specs.Spans.{LiesIn};
+ghost use Rattle.js_base.specs.declared.kind.Kind.TheVariants.{Str};
+ghost use Rattle.js_grammar.specs.Strings.{string_kind};
 
-/// The tree whose nodes are written, behind the places of Program; the nodes that are in no slot then are Program's.
-fn built(alloc: Global, words: &str) -> Result<Option<Tree>, NoMemory> {
-    let (span, steps) = first_word(words);
-    let mut builder = ParserAstBuilder::new(alloc)?;
-    let Some(children) = made(alloc, &mut builder, steps)? else {
-        return Ok(None);
+use js_base::{AssignmentOperator, JsStr, NoMemory, Span, Text};
+use js_tree::{
+    BigintBase, ClauseWord, DeclarationKind, MethodKind, NodeFlags, NodeId, NodeKind, NumberBase,
+    Op, ParserAstBuilder, PropertyKind, Tree,
+};
+use std::alloc::Global;
+use std::test::Fail;
+
+/// A node to be made: what it is, its places, its op, the bits of its flags, and its slots: `n` is the next of the nodes
+/// that are in no slot yet, `-` an empty slot.
+struct Step(NodeKind, u32, u32, Op, u16, &'static str);
+
+/// The flags of these bits.
+fn flags_of(bits: u16) -> NodeFlags {
+    NodeFlags {
+        prefix: bits & 0x1 != 0,
+        optional: bits & 0x2 != 0,
+        computed: bits & 0x4 != 0,
+        shorthand: bits & 0x8 != 0,
+        method: bits & 0x10 != 0,
+        is_async: bits & 0x20 != 0,
+        generator: bits & 0x40 != 0,
+        delegate: bits & 0x80 != 0,
+        is_static: bits & 0x100 != 0,
+        is_await: bits & 0x200 != 0,
+        tail: bits & 0x400 != 0,
+        bare: bits & 0x800 != 0,
+        pure: bits & 0x1000 != 0,
+        pife: bits & 0x2000 != 0,
+    }
+}
+
+/// `[a, , [b] = 1, ...c.d] = e`
+static TARGET: [Step; 12] = [
+    Step(NodeKind::IdentifierReference, 1, 2, Op::None, 0, ""),
+    Step(NodeKind::IdentifierReference, 7, 8, Op::None, 0, ""),
+    Step(NodeKind::ArrayAssignmentTarget, 6, 9, Op::None, 0, "n"),
+    Step(
+        NodeKind::NumericLiteral,
+        12,
+        13,
+        Op::Number(NumberBase::Decimal),
+        0,
+        "",
+    ),
+    Step(
+        NodeKind::AssignmentTargetWithDefault,
+        6,
+        13,
+        Op::None,
+        0,
+        "nn",
+    ),
+    Step(NodeKind::IdentifierReference, 18, 19, Op::None, 0, ""),
+    Step(NodeKind::IdentifierName, 20, 21, Op::None, 0, ""),
+    Step(NodeKind::StaticMemberExpression, 18, 21, Op::None, 0, "nn"),
+    Step(NodeKind::AssignmentTargetRest, 15, 21, Op::None, 0, "n"),
+    Step(NodeKind::ArrayAssignmentTarget, 0, 22, Op::None, 0, "n-nn"),
+    Step(NodeKind::IdentifierReference, 25, 26, Op::None, 0, ""),
+    Step(
+        NodeKind::AssignmentExpression,
+        0,
+        26,
+        Op::Assignment(AssignmentOperator::Assign),
+        0,
+        "nn",
+    ),
+];
+
+static TARGET_LINES: &str =
+    "Program 0..26\n  AssignmentExpression 0..26 =\n    ArrayAssignmentTarget 0..22\n      IdentifierReference 1..2\n      -\n      AssignmentTargetWithDefault 6..13\n        ArrayAssignmentTarget 6..9\n          IdentifierReference 7..8\n        NumericLiteral 12..13 Decimal\n      AssignmentTargetRest 15..21\n        StaticMemberExpression 18..21\n          IdentifierReference 18..19\n          IdentifierName 20..21\n    IdentifierReference 25..26\n";
+
+/// `let [a, {b: c = 1, ...d}, , ...[e]] = f`
+static PATTERN: [Step; 16] = [
+    Step(NodeKind::BindingIdentifier, 5, 6, Op::None, 0, ""),
+    Step(NodeKind::IdentifierName, 9, 10, Op::None, 0, ""),
+    Step(NodeKind::BindingIdentifier, 12, 13, Op::None, 0, ""),
+    Step(
+        NodeKind::NumericLiteral,
+        16,
+        17,
+        Op::Number(NumberBase::Decimal),
+        0,
+        "",
+    ),
+    Step(NodeKind::AssignmentPattern, 12, 17, Op::None, 0, "nn"),
+    Step(NodeKind::BindingProperty, 9, 17, Op::None, 0, "nn"),
+    Step(NodeKind::BindingIdentifier, 22, 23, Op::None, 0, ""),
+    Step(NodeKind::BindingRestElement, 19, 23, Op::None, 0, "n"),
+    Step(NodeKind::ObjectPattern, 8, 24, Op::None, 0, "nn"),
+    Step(NodeKind::BindingIdentifier, 32, 33, Op::None, 0, ""),
+    Step(NodeKind::ArrayPattern, 31, 34, Op::None, 0, "n"),
+    Step(NodeKind::BindingRestElement, 28, 34, Op::None, 0, "n"),
+    Step(NodeKind::ArrayPattern, 4, 35, Op::None, 0, "nn-n"),
+    Step(NodeKind::IdentifierReference, 38, 39, Op::None, 0, ""),
+    Step(NodeKind::VariableDeclarator, 4, 39, Op::None, 0, "nn"),
+    Step(
+        NodeKind::VariableDeclaration,
+        0,
+        39,
+        Op::Declaration(DeclarationKind::Let),
+        0,
+        "n",
+    ),
+];
+
+static PATTERN_LINES: &str =
+    "Program 0..39\n  VariableDeclaration 0..39 let\n    VariableDeclarator 4..39\n      ArrayPattern 4..35\n        BindingIdentifier 5..6\n        ObjectPattern 8..24\n          BindingProperty 9..17\n            IdentifierName 9..10\n            AssignmentPattern 12..17\n              BindingIdentifier 12..13\n              NumericLiteral 16..17 Decimal\n          BindingRestElement 19..23\n            BindingIdentifier 22..23\n        -\n        BindingRestElement 28..34\n          ArrayPattern 31..34\n            BindingIdentifier 32..33\n      IdentifierReference 38..39\n";
+
+/// Flags, words and bases; places of up to ten digits. No text has this tree.
+static WORDS: [Step; 9] = [
+    Step(
+        NodeKind::MethodDefinition,
+        9,
+        10,
+        Op::Method(MethodKind::Constructor),
+        0x0104,
+        "",
+    ),
+    Step(
+        NodeKind::ObjectProperty,
+        99,
+        100,
+        Op::Property(PropertyKind::Init),
+        0x001C,
+        "",
+    ),
+    Step(NodeKind::UpdateExpression, 999, 1000, Op::None, 0x0001, ""),
+    Step(
+        NodeKind::ImportDeclaration,
+        4096,
+        65_536,
+        Op::None,
+        0x0800,
+        "",
+    ),
+    Step(
+        NodeKind::ArrowFunctionExpression,
+        999_999,
+        1_000_000,
+        Op::None,
+        0x3060,
+        "",
+    ),
+    Step(
+        NodeKind::TemplateElement,
+        12_345_678,
+        123_456_789,
+        Op::None,
+        0x0400,
+        "",
+    ),
+    Step(
+        NodeKind::BigIntLiteral,
+        4_294_967_038,
+        4_294_967_039,
+        Op::Bigint(BigintBase::Hex),
+        0x0282,
+        "",
+    ),
+    Step(
+        NodeKind::NumericLiteral,
+        0,
+        3,
+        Op::Number(NumberBase::Exponential),
+        0,
+        "",
+    ),
+    Step(
+        NodeKind::WithClause,
+        0,
+        4_294_967_295,
+        Op::Clause(ClauseWord::Assert),
+        0,
+        "---",
+    ),
+];
+
+static WORDS_LINES: &str =
+    "Program 0..7\n  MethodDefinition 9..10 constructor computed static\n  ObjectProperty 99..100 init computed shorthand method\n  UpdateExpression 999..1000 prefix\n  ImportDeclaration 4096..65536 bare\n  ArrowFunctionExpression 999999..1000000 async generator pure pife\n  TemplateElement 12345678..123456789 tail\n  BigIntLiteral 4294967038..4294967039 Hex optional delegate await\n  NumericLiteral 0..3 Exponential\n  WithClause 0..4294967295 assert\n    -\n    -\n    -\n";
+
+/// The steps, the end of Program, the lines, and how many nodes there are.
+type Row = (&'static [Step], u32, &'static str, usize);
+
+/// The slots of a step, taken from the end of the nodes that are in none yet.
+fn slots_of(
+    alloc: Global,
+    free: &mut Vec<NodeId>,
+    slots: &str,
+) -> Result<Vec<Option<NodeId>>, NoMemory> {
+    let mut taken = Vec::new(alloc);
+    for slot in slots.bytes().rev() {
+        taken.push(if slot == b'n' { free.pop() } else { None })?;
+    }
+    taken.reverse();
+    Ok(taken)
+}
+
+/// Makes the node of a step, by the call for its number of slots.
+fn step_made(
+    alloc: Global,
+    builder: &mut ParserAstBuilder,
+    free: &mut Vec<NodeId>,
+    step: &Step,
+) -> Result<NodeId, NoMemory> {
+    let Step(kind, start, end, op, bits, slots) = step;
+    let span = Span {
+        start: *start,
+        end: *end,
     };
-    let Some(span) = span_of(span) else {
-        return Ok(None);
-    };
-    Ok(Some(builder.finish(span, children)?))
+    let flags = flags_of(*bits);
+    let children = slots_of(alloc, free, slots)?;
+    match children.as_slice() {
+        [] => builder.leaf(*kind, span, *op, flags, None),
+        [child] => builder.node_of_one(*kind, span, *op, flags, *child),
+        [first, second] => builder.node_of_two(*kind, span, *op, flags, *first, *second),
+        [a, b, c] => builder.node_of_three(*kind, span, *op, flags, [*a, *b, *c]),
+        _ => builder.node(*kind, span, *op, flags, None, children),
+    }
 }
 
-/// The lines of a tree, how many nodes it has, which stands first, and whether memory was taken for the lines alone.
-pub(crate) fn lines_of(alloc: Global, words: &str) -> Result<String, NoMemory> {
-    let mut out = String::new(alloc);
-    let Some(tree) = built(alloc, words)? else {
-        return Ok(out);
-    };
-    let bytes = tree.tree_lines(alloc)?;
-    if let Ok(lines) = str::from_utf8(bytes.as_slice()) {
-        out.push_str(lines)?;
+/// Makes the nodes of the steps, and tells those that are in no slot then.
+fn made(
+    alloc: Global,
+    builder: &mut ParserAstBuilder,
+    steps: &[Step],
+) -> Result<Vec<Option<NodeId>>, NoMemory> {
+    let mut free = Vec::new(alloc);
+    for step in steps {
+        let id = step_made(alloc, builder, &mut free, step)?;
+        free.push(id)?;
     }
-    write!(
-        &mut out,
-        "{} nodes, {} kinds",
-        tree.node_count(),
-        tree.kinds().len()
-    )?;
-    if let Some(kind) = tree.kinds().first() {
-        write!(&mut out, ", first {kind:?}")?;
+    let mut children = Vec::new(alloc);
+    for id in &free {
+        children.push(Some(*id))?;
     }
-    if bytes.capacity() == bytes.len() {
-        out.push_str(", exact")?;
-    }
-    Ok(out)
+    Ok(children)
 }
 
-/// What stands in the slots of the node of a number; the number stands before the tree.
-pub(crate) fn children_of(alloc: Global, words: &str) -> Result<String, NoMemory> {
-    let mut out = String::new(alloc);
-    let (number, words) = first_word(words);
-    let (Some(tree), Ok(number)) = (built(alloc, words)?, number.parse::<usize>()) else {
-        return Ok(out);
-    };
-    let id = NodeId(number);
-    if !tree.contains(id) {
-        out.push_str("no node")?;
-        return Ok(out);
-    }
-    let (kind, span) = (tree.kind(id), tree.span(id));
-    write!(
-        &mut out,
-        "{kind:?} to {}, {} slots:",
-        span.end,
-        tree.child_count(id)
-    )?;
-    push_slots(&mut out, tree.children(id))?;
-    Ok(out)
-}
-
-/// Writes what stands in slots, behind what was written.
-fn push_slots(out: &mut String, slots: &[Option<NodeId>]) -> Result<(), AllocError> {
-    for slot in slots {
-        match slot {
-            Some(id) => write!(out, " {}", id.0)?,
-            None => out.push_str(" -")?,
-        }
-    }
-    Ok(())
-}
-
-/// Writes the numbers of nodes, behind what was written.
-fn push_numbers(out: &mut String, ids: &[NodeId]) -> Result<(), AllocError> {
-    for id in ids {
-        write!(out, " {}", id.0)?;
-    }
-    Ok(())
-}
-
-/// The names that the node of a number binds, before and after the tree is finished; the number stands before the nodes.
-pub(crate) fn bound_of(alloc: Global, words: &str) -> Result<String, NoMemory> {
-    let mut out = String::new(alloc);
-    let (number, steps) = first_word(words);
+/// The tree that steps make; the nodes that are in no slot then are Program's.
+fn built(alloc: Global, steps: &[Step], end: u32) -> Result<Tree, NoMemory> {
     let mut builder = ParserAstBuilder::new(alloc)?;
     let children = made(alloc, &mut builder, steps)?;
-    let (Some(children), Ok(number)) = (children, number.parse::<usize>()) else {
-        return Ok(out);
-    };
-    let id = NodeId(number);
-    if builder.contains(id) {
-        out.push_str("before:")?;
-        push_numbers(&mut out, builder.bound_names(alloc, id)?.as_slice())?;
+    builder.finish(Span { start: 0, end }, children)
+}
+
+/// The lines of each tree, whose memory was taken exactly, and how many nodes it has.
+#[test]
+fn lines_of_trees(rt: HostRuntime) -> Result<(), Fail> {
+    let alloc = rt.alloc();
+    let rows: [Row; 4] = [
+        (&[], 0, "Program 0..0\n", 1),
+        (&TARGET, 26, TARGET_LINES, 13),
+        (&PATTERN, 39, PATTERN_LINES, 17),
+        (&WORDS, 7, WORDS_LINES, 10),
+    ];
+    for (steps, end, lines, count) in rows {
+        let tree = built(alloc, steps, end)?;
+        let bytes = tree.tree_lines(alloc)?;
+        assert_eq!(rt; bytes.as_slice(), lines.as_bytes());
+        assert_eq!(rt; bytes.capacity(), lines.len());
+        assert_eq!(rt; tree.node_count(), count);
+        assert_eq!(rt; tree.kinds().len(), steps.len().wrapping_add(1));
+        assert_eq!(rt; tree.kinds().first().copied(), Some(NodeKind::Program));
     }
-    let tree = builder.finish(Span::empty(0), children)?;
-    if tree.contains(id) {
-        out.push_str("; after:")?;
-        push_numbers(&mut out, tree.bound_names(alloc, id)?.as_slice())?;
+    Ok(())
+}
+
+/// The node of a target has four slots, of which the second is empty.
+#[test]
+fn children_of_a_target(rt: HostRuntime) -> Result<(), Fail> {
+    let tree = built(rt.alloc(), &TARGET, 26)?;
+    let target = NodeId(10);
+    assert!(rt; tree.contains(target));
+    assert!(rt; !tree.contains(NodeId(13)));
+    assert_eq!(rt; tree.kind(target), NodeKind::ArrayAssignmentTarget);
+    let children = tree.children(target);
+    assert_eq!(rt;
+        children,
+        [Some(NodeId(1)), None, Some(NodeId(5)), Some(NodeId(9))].as_slice()
+    );
+    assert_eq!(rt; tree.child_count(target), 4);
+    assert_eq!(rt; tree.span(target).end, 22);
+    Ok(())
+}
+
+/// Nodes of the pattern, and those of the names that each binds.
+static BOUND: [(usize, &[usize]); 4] = [(16, &[1, 3, 7, 10]), (9, &[3, 7]), (5, &[3]), (14, &[])];
+
+/// Whether the nodes have these numbers.
+fn are_numbered(ids: &[NodeId], numbers: &[usize]) -> bool {
+    for (id, number) in ids.iter().zip(numbers) {
+        if id.0 != *number {
+            return false;
+        }
     }
-    Ok(out)
+    ids.len() == numbers.len()
+}
+
+/// The names that a nested pattern binds, the rest's too, before and after the tree is finished.
+#[test]
+fn bound_names_of_a_pattern(rt: HostRuntime) -> Result<(), Fail> {
+    let alloc = rt.alloc();
+    let mut builder = ParserAstBuilder::new(alloc)?;
+    let children = made(alloc, &mut builder, &PATTERN)?;
+    for (number, wanted) in &BOUND {
+        let id = NodeId(*number);
+        assert!(rt; builder.contains(id));
+        let found = builder.bound_names(alloc, id)?;
+        assert!(rt; are_numbered(found.as_slice(), wanted), "at {number}");
+    }
+    let tree = builder.finish(Span { start: 0, end: 39 }, children)?;
+    for (number, wanted) in &BOUND {
+        let id = NodeId(*number);
+        assert!(rt; tree.contains(id));
+        let found = tree.bound_names(alloc, id)?;
+        assert!(rt; are_numbered(found.as_slice(), wanted), "at {number}");
+    }
+    Ok(())
+}
+
+/// Whether a span lies in a text of ASCII, whose characters no span splits.
+fn lies_in(source: &str, span: Span) -> bool
+    ensures { IsTrue result → LiesIn span source.now }
+{
+    source.is_ascii() && span.start <= span.end && span.end as usize <= source.len()
+}
+
+/// Whether it is one of the string literals of the rows.
+fn is_quoted(text: &str) -> bool
+    ensures { IsTrue result → string_kind (chars text.now) ≡ Some Str }
+{
+    matches!(text, "'a\\x62'" | "'\\uD800'")
+}
+
+/// Which call reads a node.
+#[derive(Clone, Copy, PartialEq, Eq)]
+enum Reader {
+    Name,
+    Raw,
+    Digits,
+    Key,
+}
+
+/// A text, the node at its whole, and what is read.
+static READINGS: [(&str, NodeKind, Reader, &str); 14] = [
+    ("ab", NodeKind::IdentifierReference, Reader::Name, "ab"),
+    ("#ab", NodeKind::PrivateIdentifier, Reader::Name, "ab"),
+    ("ab", NodeKind::IdentifierName, Reader::Key, "ab"),
+    ("#ab", NodeKind::PrivateIdentifier, Reader::Key, "ab"),
+    ("12", NodeKind::NumericLiteral, Reader::Key, "none"),
+    ("'a\\x62'", NodeKind::StringLiteral, Reader::Key, "ab"),
+    ("'\\uD800'", NodeKind::StringLiteral, Reader::Key, "none"),
+    ("a\rb", NodeKind::TemplateElement, Reader::Raw, "a\nb"),
+    (
+        "a\r\nb\n\r",
+        NodeKind::TemplateElement,
+        Reader::Raw,
+        "a\nb\n\n",
+    ),
+    (
+        "\\u00e9\\r",
+        NodeKind::TemplateElement,
+        Reader::Raw,
+        "\\u00e9\\r",
+    ),
+    ("0x1_fn", NodeKind::BigIntLiteral, Reader::Digits, "1f"),
+    ("1_000n", NodeKind::BigIntLiteral, Reader::Digits, "1000"),
+    ("0n", NodeKind::BigIntLiteral, Reader::Digits, "0"),
+    ("0B10n", NodeKind::BigIntLiteral, Reader::Digits, "10"),
+];
+
+/// What a reader gives, as text.
+fn read(
+    alloc: Global,
+    builder: &ParserAstBuilder,
+    id: NodeId,
+    source: &str,
+    reader: Reader,
+) -> Result<Option<Text>, NoMemory> {
+    if !builder.contains(id) || !lies_in(source, builder.span(id)) {
+        return Ok(None);
+    }
+    if builder.kind(id) == NodeKind::StringLiteral && !is_quoted(builder.text(id, source)) {
+        return Ok(None);
+    }
+    match reader {
+        Reader::Name => Ok(Some(Text::from_str(alloc, builder.name(id, source))?)),
+        Reader::Raw => Ok(Some(builder.raw(alloc, id, source)?)),
+        Reader::Digits => Ok(Some(builder.digits(alloc, id, source)?)),
+        Reader::Key => builder.prop_name(alloc, id, source),
+    }
+}
+
+/// What a reader of a finished tree gives, as text.
+fn read_finished(
+    alloc: Global,
+    tree: &Tree,
+    id: NodeId,
+    source: &str,
+    reader: Reader,
+) -> Result<Option<Text>, NoMemory> {
+    if !tree.contains(id) || !lies_in(source, tree.span(id)) {
+        return Ok(None);
+    }
+    if tree.kind(id) == NodeKind::StringLiteral && !is_quoted(tree.text(id, source)) {
+        return Ok(None);
+    }
+    match reader {
+        Reader::Name => Ok(Some(Text::from_str(alloc, tree.name(id, source))?)),
+        Reader::Raw => Ok(Some(tree.raw(alloc, id, source)?)),
+        Reader::Digits => Ok(Some(tree.digits(alloc, id, source)?)),
+        Reader::Key => tree.prop_name(alloc, id, source),
+    }
+}
+
+/// Whether what was read is this text, or none.
+fn is_wanted(found: &Option<Text>, wanted: &str) -> bool {
+    match found {
+        Some(text) => text.as_str() == wanted,
+        None => wanted == "none",
+    }
+}
+
+/// What each reader gives, before and after the tree is finished.
+#[test]
+fn readings(rt: HostRuntime) -> Result<(), Fail> {
+    let alloc = rt.alloc();
+    for (source, kind, reader, wanted) in &READINGS {
+        let mut builder = ParserAstBuilder::new(alloc)?;
+        let span = Span {
+            start: 0,
+            end: u32::try_from(source.len()).unwrap_or(0),
+        };
+        let id = builder.leaf(*kind, span, Op::None, flags_of(0), None)?;
+        let found = read(alloc, &builder, id, source, *reader)?;
+        assert!(rt; is_wanted(&found, wanted), "at {source}");
+        let tree = builder.finish(span, vec![in alloc; Some(id)]?)?;
+        let found = read_finished(alloc, &tree, id, source, *reader)?;
+        assert!(rt; is_wanted(&found, wanted), "at {source}");
+    }
+    Ok(())
+}
+
+/// A text, the kind of the node at its whole, a string literal or a part of a template, and the text of ASCII that its code
+/// units spell; none where an escape of the part is ill-formed.
+static VALUES: [(&str, NodeKind, Option<&str>); 5] = [
+    ("'a\\x62'", NodeKind::StringLiteral, Some("ab")),
+    ("a\rb", NodeKind::TemplateElement, Some("a\nb")),
+    ("\\x61\\u{62}", NodeKind::TemplateElement, Some("ab")),
+    ("\\0", NodeKind::TemplateElement, Some("\0")),
+    ("\\01", NodeKind::TemplateElement, None),
+];
+
+/// The code units of a string literal or of a part of a template.
+fn units_of(
+    alloc: Global,
+    builder: &ParserAstBuilder,
+    id: NodeId,
+    source: &str,
+) -> Result<Option<JsStr>, NoMemory> {
+    if !builder.contains(id) || !lies_in(source, builder.span(id)) {
+        return Ok(None);
+    }
+    if is_quoted(builder.text(id, source)) {
+        return Ok(Some(builder.string_value(alloc, id, source)?));
+    }
+    builder.cooked(alloc, id, source)
+}
+
+/// The same of a finished tree.
+fn units_finished(
+    alloc: Global,
+    tree: &Tree,
+    id: NodeId,
+    source: &str,
+) -> Result<Option<JsStr>, NoMemory> {
+    if !tree.contains(id) || !lies_in(source, tree.span(id)) {
+        return Ok(None);
+    }
+    if is_quoted(tree.text(id, source)) {
+        return Ok(Some(tree.string_value(alloc, id, source)?));
+    }
+    tree.cooked(alloc, id, source)
+}
+
+/// Whether the code units are those of a text of ASCII.
+fn are_spelled(units: &JsStr, text: &str) -> bool {
+    for (i, byte) in text.bytes().enumerate() {
+        if units.unit(i) != Some(u16::from(byte)) {
+            return false;
+        }
+    }
+    units.len() == text.len()
+}
+
+/// Whether there are code units, and those of this text, or none.
+fn is_value(found: &Option<JsStr>, wanted: Option<&str>) -> bool {
+    match (found, wanted) {
+        (Some(units), Some(text)) => are_spelled(units, text),
+        (None, None) => true,
+        _ => false,
+    }
+}
+
+/// The code units of each, before and after the tree is finished.
+#[test]
+fn values(rt: HostRuntime) -> Result<(), Fail> {
+    let alloc = rt.alloc();
+    for (source, kind, wanted) in &VALUES {
+        let mut builder = ParserAstBuilder::new(alloc)?;
+        let end = u32::try_from(source.len()).unwrap_or(0);
+        let span = Span { start: 0, end };
+        let id = builder.leaf(*kind, span, Op::None, flags_of(0), None)?;
+        let found = units_of(alloc, &builder, id, source)?;
+        assert!(rt; is_value(&found, *wanted), "at {source}");
+        let tree = builder.finish(span, vec![in alloc; Some(id)]?)?;
+        let found = units_finished(alloc, &tree, id, source)?;
+        assert!(rt; is_value(&found, *wanted), "at {source}");
+    }
+    Ok(())
+}
+
+/// A name that is kept stands under its own number: in `a; \u0061` the second name's.
+#[test]
+fn kept_names(rt: HostRuntime) -> Result<(), Fail> {
+    let alloc = rt.alloc();
+    let source = "a; \\u0061";
+    let mut builder = ParserAstBuilder::for_text(alloc, source.len())?;
+    let kind = NodeKind::IdentifierReference;
+    let first = builder.leaf(kind, Span { start: 0, end: 1 }, Op::None, flags_of(0), None)?;
+    let name = Some(Text::from_str(alloc, "a")?);
+    let second = builder.leaf(kind, Span { start: 3, end: 9 }, Op::None, flags_of(0), name)?;
+    for (id, owned) in [(first, false), (second, true)] {
+        assert!(rt; builder.contains(id));
+        assert_eq!(rt; builder.owns_name(id), owned);
+        match read(alloc, &builder, id, source, Reader::Name)? {
+            Some(text) => assert_eq!(rt; text.as_str(), "a"),
+            None => assert!(rt; false),
+        }
+    }
+    builder.set_flags(first, flags_of(0x2000));
+    assert!(rt; builder.contains(second));
+    assert!(rt; !builder.flags(second).pife);
+    assert!(rt; builder.contains(first));
+    assert!(rt; builder.flags(first).pife);
+    Ok(())
+}
+
+/// A tree as deep as it has nodes, whose lines would have more bytes than there may be.
+#[test]
+fn too_deep(rt: HostRuntime) -> Result<(), Fail> {
+    let alloc = rt.alloc();
+    let mut builder = ParserAstBuilder::new(alloc)?;
+    let span = Span { start: 0, end: 1 };
+    let mut inner = None;
+    for _ in 0..60_000u32 {
+        let kind = NodeKind::ParenthesizedExpression;
+        inner = Some(builder.node_of_one(kind, span, Op::None, flags_of(0), inner)?);
+    }
+    let tree = builder.finish(span, vec![in alloc; inner]?)?;
+    assert_eq!(rt; tree.node_count(), 60_001);
+    assert!(rt; tree.tree_lines(alloc).is_err());
+    Ok(())
 }

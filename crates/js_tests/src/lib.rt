@@ -1,0 +1,13 @@
+//! Tests of the libraries below the parse functions, by their public calls.
+#![tactic(auto)]
+
+#[cfg(test)]
+mod base;
+#[cfg(test)]
+mod cursor;
+#[cfg(test)]
+mod decoding;
+#[cfg(test)]
+mod record;
+#[cfg(test)]
+mod tree;
