@@ -56,10 +56,10 @@ parse_property_value-requires-clause-nests g c =
 pub parse_property_value-requires-clause-before : goal.parse_property_value-requires-clause-before
 parse_property_value-requires-clause-before g c =
     let x = (name_named c.requires.at c.requires.name c.in_ok-key.ensures).further in
-    let b = ap (λ (s : Span). s.start) (ap (λ (t : Token). t.span) c.cur_token-name.ensures) in omega arith
+    let u = c.start.ensures in let b = ap (λ (t : Token). t.span.start) c.cur_token-name.ensures in omega arith
 
 pub returns : goal.returns
-returns g c = λ text f a. c.parse_property_value.ensures text f _ a (ap (λ (s : Span). s.start) (ap (λ (t : Token). t.span) c.cur_token-name.ensures)) (name_named a (name_at true a c.requires.name) c.in_ok-key.ensures) (no_shorthand_named a (name_at true a c.requires.name) c.in_ok-key.ensures (c.at.ensures.0 c.if-not-at.false))
+returns g c = λ text f a. c.parse_property_value.ensures text f _ a (c.start.ensures ∙ ap (λ (t : Token). t.span.start) c.cur_token-name.ensures) (name_named a (name_at true a c.requires.name) c.in_ok-key.ensures) (no_shorthand_named a (name_at true a c.requires.name) c.in_ok-key.ensures (c.at.ensures.0 c.if-not-at.false))
 
 pub parse_name-requires-clause-word : goal.parse_name-requires-clause-word
 parse_name-requires-clause-word g c = name_word c.args.p.now.token.kind (listed_here c.args.p.now c.requires.name)
