@@ -26,4 +26,5 @@ pub mod SlashOperators
 pub mod SlashesInText
 pub mod Updates
 pub mod Awaits
+pub mod BinaryOperators
 pub mod Yields
