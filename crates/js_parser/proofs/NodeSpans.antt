@@ -1,6 +1,6 @@
 -- Where nodes stand in a text, and where those of the tree that they stand for.
 use Rattle.std.proofs.Common.{ℕ, List, Option, drop}
-use Rattle.std.proofs.lemmas.List.Elements.{All-cons, All-drop, All-get_or}
+use Rattle.std.proofs.lemmas.List.Elements.{All-cons, All-drop, All-get_or, All-weaker}
 use Rattle.js_base.specs.Spans.{LiesIn}
 use Rattle.js_grammar.specs.Trees.{Label, Slots}
 use Rattle.js_tree.specs.declared.id.NodeId.{NodeId}
@@ -28,4 +28,4 @@ program_lie {text} n x ns s h = All-cons (NodeFits text) n (drop 1 ns) (record {
 
 -- all of them lie in the text
 pub spans_lie : {text : List ℕ} {ns : List Node} → NodesLie text ns → All (λ (n : Node). LiesIn n.span text) ns
-spans_lie h = λ i d b. (h i d b).lies
+spans_lie {text} {ns} h = All-weaker (NodeFits text) (λ (n : Node). LiesIn n.span text) (λ n k. k.lies) ns h
