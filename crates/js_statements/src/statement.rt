@@ -176,9 +176,7 @@ fn parse_labeled_statement_rest<C: ParserConfig, N: Nested<C>>(
 fn is_label<C: ParserConfig>(p: &ParserImpl<'_, C>, first: Token) -> bool
     ensures { IsTrue result ↔ IsLabel first p.now }
 {
-    p.at(Kind::Colon)
-        && is_name_here(p, first.kind())
-        && first.end() == p.prev_token_end()
+    p.at(Kind::Colon) && is_name_here(p, first.kind()) && first.end() == p.prev_token_end()
 }
 
 /// The semicolon of a statement, or none where the grammar permits that (12.10).
