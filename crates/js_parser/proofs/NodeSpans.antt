@@ -27,5 +27,5 @@ pub program_lie : {text : List ℕ} (n : Node) → Texted n.kind n.name (chars (
 program_lie {text} n x ns s h = All-cons (NodeFits text) n (drop 1 ns) (record { lies = s; texted = x }) (All-drop (NodeFits text) 1 ns h)
 
 -- all of them lie in the text
-pub spans_lie : {text : List ℕ} {ns : List Node} → NodesLie text ns → All (λ (n : Node). LiesIn n.span text) ns
-spans_lie {text} {ns} h = All-weaker (NodeFits text) (λ (n : Node). LiesIn n.span text) (λ n k. k.lies) ns h
+pub spans_lie : (text : List ℕ) (ns : List Node) → NodesLie text ns → All (λ (n : Node). LiesIn n.span text) ns
+spans_lie text ns h = All-weaker (NodeFits text) (λ (n : Node). LiesIn n.span text) (λ n k. k.lies) ns h

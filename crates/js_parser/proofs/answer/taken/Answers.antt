@@ -35,4 +35,4 @@ returns-clause-kept c = λ text s o asks h. taken_kept _ c.finish-kept.result c.
 pub early_errors-requires : goal.early_errors-requires
 early_errors-requires c =
     subst (λ (w : List ℕ). All (λ (n : Node). LiesIn n.span w) c.in_ok-tree.tree) (sym (ap (λ (q : Parser). q.text) c.p.view_is))
-    (spans_lie (nodes_lie c.new-span.result c.in_ok-tree.tree c.new-span.ensures.start (c.new-span.ensures.end ∙ (c.end.ensures ∙ ap (λ (t : Token). t.span.end) c.cur_token.ensures)) (c.in_ok-tree.ensures.nodes ∙ ap (λ (ns : List Node). with_program (program_node c.new-span.result c.args.items.items) ns) c.into_parts-parts.ensures.ast) c.requires.at c.requires.lie))
+    (spans_lie _ _ (nodes_lie c.new-span.result c.in_ok-tree.tree c.new-span.ensures.start (c.new-span.ensures.end ∙ (c.end.ensures ∙ ap (λ (t : Token). t.span.end) c.cur_token.ensures)) (c.in_ok-tree.ensures.nodes ∙ ap (λ (ns : List Node). with_program (program_node c.new-span.result c.args.items.items) ns) c.into_parts-parts.ensures.ast) c.requires.at c.requires.lie))
