@@ -16,6 +16,7 @@ use Rattle.js_grammar.specs.Lexemes.{is_escaped, division}
 use Rattle.js_grammar.specs.Parsing.{plain, Reads}
 use Rattle.js_grammar.specs.Productions.{Flags, at, Program}
 use Rattle.js_grammar.specs.Table.{rule, rule_of}
+use Rattle.js_grammar.proofs.Behind.{lexed_behind}
 use Rattle.js_grammar.proofs.Looks.{covers}
 use Rattle.js_grammar.proofs.Calculus.{◌▹◌, more_of, here_at, ends, label_is, slots_are}
 use Rattle.js_lex.specs.States.{goal_of}
@@ -36,6 +37,7 @@ use Rattle.js_parsing.specs.States.{At, IsPlain, whole, sign, nothing as no_lexe
 use Rattle.js_statements.specs.StatementLists.{at_end, with_directives, statements, NoList, Taken, AllTaken, AllRefused}
 use Rattle.js_statements.specs.declared.statement_list.StatementList.TheVariants.{Text}
 use Rattle.js_parsing.proofs.Beginning.{begins, begins_with_hashbang, behind_first, none_noted}
+use Rattle.js_parsing.proofs.Escapes.{read_plain}
 use Rattle.js_parsing.proofs.Giving.{fails_none}
 use Rattle.js_parsing.proofs.Here.{alike, told, plain_there, kind_here}
 use Rattle.js_parsing.proofs.Paths.{at_kind, read_of}
@@ -118,6 +120,11 @@ record Body (L : ℕ → Lexeme → Type 0) (f : Flags) (s : ℕ) (slots : Slots
   is_end : final.kind ≡ Eof
   derived : Takes rule (with_directives Text f) end slots s ls end place (last final)
 
+-- the text's end is no word, so no escape stands in it
+unescaped : {text : List ℕ} {f : Flags} {s : ℕ} {slots : Slots} {ls : Lexemes} (b : Body (Lex text) f s slots ls) → b.final.escaped ≡ false
+unfolding words
+unescaped {text} b = read_plain b.final (lexed_behind (Lex text) b.derived b.lexed) b.is_end refl
+
 module _ {text : List ℕ} {f : Flags} {q : Parser} (a : At text f q) (e : q.token.kind ≡ Eof) where
   end_kind : (y : Lexeme) → Lex text q.prev_token_end y → y.kind ≡ Eof
   end_kind y l = kind_here a e refl y l
@@ -149,7 +156,7 @@ module _ {text : List ℕ} {f : Flags} {q : Parser} (a : At text f q) (e : q.tok
 
     only_so : {ts : Slots} {ls : Lexemes} (b : Body (Lex text) f s ts ls) → (ts ≡ slots end) × (ls ≡ pass (last (end_here a e).0)) × (b.final ≡ (end_here a e).0)
     only_so {ts} {ls} b =
-        let x = list_reads.only ts end b.place ls (last b.final) b.lexed b.derived (rw b.is_end refl, refl) in
+        let x = list_reads.only ts end b.place ls (last b.final) b.lexed b.derived (rw b.is_end refl, rw (unescaped b) refl) in
         let z = ends x.4 in
         let same : b.final ≡ (end_here a e).0 = same_end (subst (λ (v : Lexemes). Lexes (Lex text) q.prev_token_end v) z.2 x.3) in
         (x.2 ∙ ap slots z.0, x.5 ∙ ap pass (z.2 ∙ ap (λ (v : Lexeme). last v) same), same)
@@ -160,7 +167,7 @@ module _ {text : List ℕ} {f : Flags} {q : Parser} (a : At text f q) (e : q.tok
 
 -- where statements can't be taken, no list is derived
 no_list : {text : List ℕ} {f : Flags} {s : ℕ} {ts : Slots} {ls : Lexemes} → NoList text Text (with_directives Text f) s → Body (Lex text) f s ts ls → ⊥
-no_list {ts = ts} {ls} n b = n.no ts end b.place ls (last b.final) b.lexed b.derived (rw b.is_end refl, refl)
+no_list {ts = ts} {ls} n b = n.no ts end b.place ls (last b.final) b.lexed b.derived (rw b.is_end refl, rw (unescaped b) refl)
 
 -- ---- faults
 
