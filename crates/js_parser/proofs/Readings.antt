@@ -156,7 +156,7 @@ module _ {text : List ℕ} {f : Flags} {q : Parser} (a : At text f q) (e : q.tok
 
     only_so : {ts : Slots} {ls : Lexemes} (b : Body (Lex text) f s ts ls) → (ts ≡ slots end) × (ls ≡ pass (last (end_here a e).0)) × (b.final ≡ (end_here a e).0)
     only_so {ts} {ls} b =
-        let x = list_reads.only ts end b.place ls (last b.final) b.lexed b.derived (rw b.is_end refl, ap not (unescaped b)) in
+        let x = list_reads.only ts end b.place ls (last b.final) b.lexed b.derived (rw b.is_end (ap not (unescaped b)), refl) in
         let z = ends x.4 in
         let same : b.final ≡ (end_here a e).0 = same_end (subst (λ (v : Lexemes). Lexes (Lex text) q.prev_token_end v) z.2 x.3) in
         (x.2 ∙ ap slots z.0, x.5 ∙ ap pass (z.2 ∙ ap (λ (v : Lexeme). last v) same), same)
@@ -167,7 +167,7 @@ module _ {text : List ℕ} {f : Flags} {q : Parser} (a : At text f q) (e : q.tok
 
 -- where statements can't be taken, no list is derived
 no_list : {text : List ℕ} {f : Flags} {s : ℕ} {ts : Slots} {ls : Lexemes} → NoList text Text (with_directives Text f) s → Body (Lex text) f s ts ls → ⊥
-no_list {ts = ts} {ls} n b = n.no ts end b.place ls (last b.final) b.lexed b.derived (rw b.is_end refl, ap not (unescaped b))
+no_list {ts = ts} {ls} n b = n.no ts end b.place ls (last b.final) b.lexed b.derived (rw b.is_end (ap not (unescaped b)), refl)
 
 -- ---- faults
 
