@@ -1,7 +1,7 @@
 -- A core text's readings by the whole table, over the kinds of lexemes that are read so far, are its readings by the core grammar.
 use Rattle.std.proofs.Common.{ℕ, ◌≡◌, true, not, List, Some, None, refl, sym, subst, ap, ◌∙◌, Bool, false}
 use Rattle.std.specs.Prelude.{IsUtf8, codes, Option}
-use Rattle.std.proofs.lemmas.Bool.{false≢true, and_parts, and_from}
+use Rattle.std.proofs.lemmas.Bool.{false≢true, and_parts}
 use Rattle.js_base.specs.declared.kind.Kind.{Kind}
 use Rattle.js_base.specs.declared.kind.Kind.TheVariants.{Eof, HashbangComment}
 use Rattle.js_base.specs.declared.options.ParseOptions.{ParseOptions}

@@ -1,7 +1,7 @@
 -- Lists of statements in braces (ECMA-262, 14.2, 15.2).
 use Rattle.std.proofs.Common.{ℕ, ◌≡◌, ◌≤◌, max, List, ◌∷◌, length, Option, Bool, true, false, ◌||◌, refl, sym, ap, subst, arith, ◌∙◌}
 use Rattle.std.specs.Prelude.{Some, Err}
-use Rattle.std.proofs.lemmas.Bool.{false≢true, and_parts}
+use Rattle.std.proofs.lemmas.Bool.{false≢true}
 use Rattle.js_base.specs.declared.diagnostic.Diagnostic.{Diagnostic}
 use Rattle.js_base.specs.declared.diagnostic.DiagnosticKind.TheVariants.{ExpectClosing}
 use Rattle.js_base.specs.declared.kind.Kind.TheVariants as kind

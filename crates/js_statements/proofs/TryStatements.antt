@@ -1,7 +1,7 @@
 -- The `try` statement (ECMA-262, 14.15): its clauses, and the whole.
-use Rattle.std.proofs.Common.{ℕ, ◌≡◌, ◌≤◌, ◌<◌, max, List, [], ◌∷◌, length, Option, Some, None, Bool, true, false, not, ◌||◌, IsCharBoundary, refl, sym, ap, subst, arith, ◌∙◌}
+use Rattle.std.proofs.Common.{ℕ, ◌≡◌, ◌≤◌, ◌<◌, max, List, [], ◌∷◌, length, Option, Some, None, Bool, true, false, ◌||◌, IsCharBoundary, refl, sym, ap, subst, arith, ◌∙◌}
 use Rattle.std.specs.Prelude.{Ok, Err}
-use Rattle.std.proofs.lemmas.Bool.{false≢true, and_parts}
+use Rattle.std.proofs.lemmas.Bool.{false≢true}
 use Rattle.js_base.specs.declared.diagnostic.Diagnostic.{Diagnostic}
 use Rattle.js_base.specs.declared.kind.Kind.{Kind}
 use Rattle.js_base.specs.declared.kind.Kind.TheVariants as kind
@@ -18,7 +18,6 @@ use Rattle.js_grammar.specs.Productions.{Catch as ACatch}
 use Rattle.js_grammar.specs.Productions.{Statement as AStatement}
 use Rattle.js_grammar.specs.Productions.{sym as symbol}
 use Rattle.js_grammar.specs.Table.{rule, rule_of}
-use Rattle.js_base.proofs.KindLemmas.{kind_of_same}
 use Rattle.js_grammar.proofs.Looks.{covers, covered, apart}
 use Rattle.js_grammar.proofs.Calculus.{Between, Heads, fails_lexeme, ◌▹◌, ◌▹✗◌, by_plain, here_at, left, right, then_by, part_fails, fails_alt, fails_node, fails_rule, inside_full, inside_plain, reads_empty_slot, weaken_on, weaken_fails_on}
 use Rattle.js_grammar.proofs.FirstClaims.{firsts}
@@ -41,13 +40,12 @@ use Rattle.js_cursor.specs.declared.stop.Stop.{Stop}
 use Rattle.js_cursor.specs.declared.stop.Stop.TheVariants.{Fatal, NoMemory}
 use Rattle.js_parsing.specs.Answers.{Numbered, Stops, Underived, unclean}
 use Rattle.js_parsing.specs.Classes.{IsEarly}
-use Rattle.js_parsing.specs.Lexemes.{Lex, escaped_word, other_goals, spot, nowhere}
+use Rattle.js_parsing.specs.Lexemes.{Lex, other_goals, spot, nowhere}
 use Rattle.js_parsing.specs.Moves.{Moved, MadeHere, plain_label}
 use Rattle.js_parsing.specs.Stands.{StandsHere}
 use Rattle.js_parsing.specs.States.{At, Same, NodesLie}
 use Rattle.js_parsing.specs.Statements.{placed, after_statement, NoStatement, Statement}
 use Rattle.js_parsing.proofs.Edges.{last_edge}
-use Rattle.js_parsing.proofs.Escapes.{plain_word}
 use Rattle.js_parsing.proofs.Giving.{kept_one, fails_unescaped}
 use Rattle.js_parsing.proofs.Here.{kind_here, unsettled}
 use Rattle.js_parsing.proofs.MadeNodes.{node_held, one_lies, made_lies}

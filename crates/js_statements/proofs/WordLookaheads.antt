@@ -1,8 +1,8 @@
 -- What stands at a word and behind it, and the lookaheads of statements that ask for that (ECMA-262, 14.2, 14.5, 14.7.5).
-use Rattle.std.proofs.Common.{◌∷◌, ℕ, suc, ◌≡◌, ◌≤◌, ◌⊎◌, inl, inr, max, List, Bool, true, false, not, ◌&&◌, ◌||◌, IsTrue, refl, sym, ap, subst, arith, ◌∙◌}
+use Rattle.std.proofs.Common.{ℕ, suc, ◌≡◌, ◌≤◌, ◌⊎◌, inl, inr, max, List, Bool, true, false, not, ◌&&◌, ◌||◌, IsTrue, refl, sym, ap, subst, arith, ◌∙◌}
 use Rattle.std.proofs.lemmas.Bool.{false≢true, not-true, and_from, and_parts}
 use Rattle.js_base.specs.declared.kind.Kind.{Kind}
-use Rattle.js_base.specs.declared.kind.Kind.TheVariants.{Async, Eof, Function, Ident, LBrack, Let, RAngle}
+use Rattle.js_base.specs.declared.kind.Kind.TheVariants.{Async, Eof, Function, LBrack, Let, RAngle}
 use Rattle.js_base.specs.Kinds.{same_kind, one_of_kinds}
 use Rattle.js_base.proofs.KindLemmas.{kind_of_same}
 use Rattle.js_grammar.specs.Trees.{Slots, end}

@@ -41,7 +41,7 @@ use Rattle.js_cursor.specs.Places.{goal}
 use Rattle.js_cursor.specs.declared.stop.Stop.{Stop}
 use Rattle.js_cursor.specs.declared.stop.Stop.TheVariants.{Fatal, NoMemory}
 use Rattle.js_parsing.specs.Answers.{Grown, Underived, Numbered, Stops, unclean}
-use Rattle.js_parsing.specs.Lexemes.{Lex, Walked, escaped_word, name_kinds, read_kinds, read_word, nowhere, spot, may_name}
+use Rattle.js_parsing.specs.Lexemes.{Lex, Walked, name_kinds, read_kinds, read_word, nowhere, spot, may_name}
 use Rattle.js_parsing.specs.Stands.{NameHere, StandsHere}
 use Rattle.js_parsing.proofs.NamedFirsts.{fails_unnamed}
 use Rattle.js_parsing.proofs.NameKinds.{listed_here, name_at, a_name}
