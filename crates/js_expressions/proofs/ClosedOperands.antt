@@ -1,5 +1,5 @@
 -- An operand of one lexeme with a closing sign behind it is all of an AssignmentExpression (ECMA-262, 13.15): level by level, no production goes on with such a sign.
-use Rattle.std.proofs.Common.{ℕ, ◌≡◌, ◌<◌, inl, Bool, true, false, not, ◌&&◌, cond, List, [], ◌∷◌, Some, None, IsTrue, refl, sym, ap, subst, arith, ◌∙◌}
+use Rattle.std.proofs.Common.{ℕ, ◌≡◌, inl, Bool, true, false, not, ◌&&◌, cond, List, [], ◌∷◌, Some, None, refl, sym, ap, subst, arith, ◌∙◌}
 use Rattle.std.specs.Prelude.{MatchResult, Option, Result, Ok, Err}
 use Rattle.std.proofs.lemmas.Bool.{false≢true}
 use Rattle.js_base.specs.declared.kind.Kind.{Kind}
@@ -11,7 +11,7 @@ use Rattle.js_base.specs.Texts.{words}
 use Rattle.js_grammar.specs.Grammar.{Lexeme}
 use Rattle.js_grammar.specs.Insertion.{assign_operators}
 use Rattle.js_grammar.specs.Levels.{level_at}
-use Rattle.js_grammar.specs.Productions.{Flags, at, Assignment, Exponent, LeftHandSide, Or, Primary, Short, Unary, Update}
+use Rattle.js_grammar.specs.Productions.{Flags, at, Assignment, Exponent, LeftHandSide, Primary, Short, Unary, Update}
 use Rattle.js_grammar.proofs.Lexemes.{first_or}
 use Rattle.js_tree.specs.declared.id.NodeId.{NodeId}
 use Rattle.js_tree.specs.declared.kind.NodeKind.TheVariants as node
@@ -20,7 +20,7 @@ use Rattle.js_tree.specs.declared.op.NumberBase.TheVariants as number
 use Rattle.js_cursor.specs.Moves.{OnlyMemory}
 use Rattle.js_cursor.specs.Parsers.{Parser}
 use Rattle.js_cursor.specs.declared.stop.Stop.{Stop}
-use Rattle.js_parsing.specs.Answers.{Answers, Numbered, Outcome}
+use Rattle.js_parsing.specs.Answers.{Answers, Numbered}
 use Rattle.js_parsing.specs.Lexemes.{Lex, may_name, name_kinds}
 use Rattle.js_parsing.specs.Moves.{Tightness}
 use Rattle.js_parsing.specs.Operators.{power_of, unary_kinds}
@@ -30,7 +30,6 @@ use Rattle.js_parsing.proofs.Here.{kind_here, uncut, unsettled}
 use Rattle.js_parsing.proofs.Moving.{same_itself}
 use Rattle.js_parsing.proofs.Phrases.{unary_result}
 use Rattle.js_parsing.proofs.Signs.{plain_sign}
-use Rattle.js_operands.specs.Functions.{NoFunctionHere}
 use Rattle.js_operands.specs.Members.{LinkForm, by_call, by_index, by_name, no_link, sign_of}
 use Rattle.js_operands.specs.Numbers.{node_of_number, op_of_number}
 use Rattle.js_operands.specs.Templates.{heads}

@@ -1,5 +1,5 @@
 -- A closing sign at a place is the lexeme that stands there: each is a punctuator by itself and begins no longer one (ECMA-262, 12.8).
-use Rattle.std.proofs.Common.{ℕ, ◌≡◌, ◌<◌, ◌≤◌, ◌+◌, ◌==◌, inl, Bool, true, false, ◌||◌, List, [], ◌∷◌, length, Some, refl, sym, ap, subst, arith, ◌∙◌}
+use Rattle.std.proofs.Common.{ℕ, ◌≡◌, ◌<◌, ◌+◌, ◌==◌, inl, Bool, true, false, ◌||◌, List, [], ◌∷◌, Some, refl, sym, ap, subst, arith, ◌∙◌}
 use Rattle.std.specs.Prelude.{IsCharBoundary, IsUtf8, codes, slice_index}
 use Rattle.std.proofs.lemmas.Bool.{eqb-true, false≢true}
 use Rattle.js_base.specs.Characters.{one_of}
