@@ -77,7 +77,7 @@ use Rattle.js_expressions.proofs.OnePlace.{calm, one_alone, one_move, one_told}
 use Rattle.js_expressions.proofs.ParenthesizedFronts.{no_arrow_admitted, args_one}
 use Rattle.js_cursor.specs.Tokens.{may_be_read_again}
 use Rattle.js_parsing.proofs.KeptTokens.{before_back, last_back}
-use Rattle.js_parsing.specs.Lexemes.{Lex, escaped_word, name_kinds, other_goals, signs, spot, slashes, Plain, may_name, Walked}
+use Rattle.js_parsing.specs.Lexemes.{Lex, name_kinds, other_goals, signs, spot, slashes, Plain, may_name, Walked}
 use Rattle.js_parsing.specs.Moves.{Moved, MadeHere, LeafTaken, TakesLeaf, plain_label}
 use Rattle.js_parsing.specs.States.{At, Same, Standing, IsPlain, whole, sign, nothing as nothing_here, NodesLie, SpansLie}
 use Rattle.js_targets.proofs.ArraysBeforeSigns.{is_cover}

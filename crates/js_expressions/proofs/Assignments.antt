@@ -55,7 +55,7 @@ use Rattle.js_parsing.proofs.Paths.{Path, ◌⟼◌, ◌⟶◌, ◌⟶✗◌, to
 use Rattle.js_parsing.proofs.Signs.{none_kept, plain_of}
 use Rattle.js_targets.proofs.Targets.{of_short}
 use Rattle.js_parsing.proofs.Escapes.{read_listed}
-use Rattle.js_parsing.proofs.Tight.{plain_is_read, plain_lex, plain_is_none}
+use Rattle.js_parsing.proofs.Tight.{plain_lex, plain_is_none}
 
 -- the sign behind was told whole
 pub shifted : {text : List ℕ} {f : Flags} {n : Symbol} {p q t : Parser} {id : NodeId} {power : ℕ} → Numbered text f n p q id → Tightness text f q t power → Numbered text f n p t id

@@ -46,7 +46,7 @@ use Rattle.js_parsing.proofs.Here.{found, kind_here, one_plain, plainly, told, u
 use Rattle.js_parsing.proofs.Moving.{same_both}
 use Rattle.js_parsing.proofs.NameKinds.{name_apart, name_read, name_whole}
 use Rattle.js_parsing.proofs.Paths.{fails_at, read_of, walked_both, walked_one}
-use Rattle.js_parsing.proofs.Signs.{other_kind, plain_sign}
+use Rattle.js_parsing.proofs.Signs.{other_kind}
 use Rattle.js_parsing.proofs.Escapes.{read_as, read_plain, plain_or_word}
 use Rattle.js_parsing.proofs.Verdicts.{grown_then}
 use Rattle.js_operands.proofs.Operands.{name_signless}

@@ -57,8 +57,8 @@ use Rattle.js_parsing.proofs.Moving.{same_both}
 use Rattle.js_operands.proofs.Operands.{by_path}
 use Rattle.js_parsing.proofs.Paths.{Path, ◌⟼◌, ◌⟶◌, ◌⟶✗◌, fails_at, not_here, token, called, last_called, noded_by, by_symbol_as, label_here}
 use Rattle.js_parsing.proofs.Phrases.{lift, lift_fails, narrow_operand, operand_assigned}
-use Rattle.js_parsing.proofs.Escapes.{no_name_where, read_listed, read_plain, read_unnamed}
-use Rattle.js_parsing.proofs.Tight.{narrows, plain_is_read, plain_lex, plain_so}
+use Rattle.js_parsing.proofs.Escapes.{read_listed, read_plain}
+use Rattle.js_parsing.proofs.Tight.{narrows, plain_lex, plain_so}
 use Rattle.js_parsing.specs.Classes.{EndsParse}
 
 pub question_plain : (is_word Question || same_kind PrivateIdentifier Question) ≡ false

@@ -13,7 +13,7 @@ use Rattle.js_cursor.proofs.Later.{follows_on}
 use Rattle.js_parsing.specs.Answers.{Grown}
 use Rattle.js_parsing.specs.Contexts.{EntersAsyncHead, arrow_head}
 use Rattle.js_parsing.specs.Heads.{NoHead, widened}
-use Rattle.js_parsing.specs.Lexemes.{Lex, escaped_word, name_kinds}
+use Rattle.js_parsing.specs.Lexemes.{Lex, name_kinds}
 use Rattle.js_parsing.specs.Stands.{NameHere, StandsHere}
 use Rattle.js_parsing.specs.States.{At, IsPlain, Same, Standing, flags_of, whole, sign, nothing as none_stands}
 use Rattle.js_parsing.proofs.Contexts.{async_head_at}

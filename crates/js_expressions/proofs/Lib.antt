@@ -3,6 +3,8 @@ pub mod ArraysAssigned
 pub mod AsyncHeads
 pub mod Arrows
 pub mod Assignments
+pub mod ClosedOperands
+pub mod ClosingSigns
 pub mod Closings
 pub mod CalledFronts
 pub mod CoalesceOperands

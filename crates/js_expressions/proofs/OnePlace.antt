@@ -15,7 +15,6 @@ use Rattle.js_parsing.specs.Lexemes.{Lex, Plain, is_read, other_goals, signs, si
 use Rattle.js_parsing.proofs.Here.{Plainly, plain_there, plainly, signs_are}
 use Rattle.js_parsing.proofs.Paths.{read_of}
 use Rattle.js_parsing.proofs.Slashes.{sign_there, tail_goal}
-use Rattle.js_parsing.proofs.Escapes.{read_listed}
 use Rattle.js_parsing.proofs.Tight.{plain_so}
 
 -- ---- kinds

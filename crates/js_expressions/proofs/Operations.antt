@@ -3,9 +3,8 @@ use Rattle.std.proofs.Common.{ℕ, zero, suc, ◌≡◌, ◌<◌, ◌≤◌, ◌
 use Rattle.std.proofs.lemmas.Bool.{false≢true, and_parts, or_left, or_right, ltb-true, lt-ltb}
 use Rattle.js_base.specs.declared.diagnostic.Diagnostic.{Diagnostic}
 use Rattle.js_base.specs.declared.kind.Kind.{Kind}
-use Rattle.js_base.specs.declared.kind.Kind.TheVariants.{Ident, PrivateIdentifier, Eof, RegExp, Slash, Undetermined}
-use Rattle.js_base.proofs.KindLemmas.{kind_of_same}
-use Rattle.js_base.specs.Kinds.{same_kind, one_of_kinds}
+use Rattle.js_base.specs.declared.kind.Kind.TheVariants.{PrivateIdentifier, Eof, RegExp, Slash, Undetermined}
+use Rattle.js_base.specs.Kinds.{one_of_kinds}
 use Rattle.js_grammar.proofs.FirstClaims.{firsts}
 use Rattle.js_grammar.proofs.First.{starts}
 use Rattle.js_grammar.specs.Trees.{Label, Slots, end, tree}
@@ -37,7 +36,7 @@ use Rattle.js_parsing.specs.Operators.{power_of}
 use Rattle.js_parsing.specs.Answers.{Grown, Verdict, Stretch, Underived, Numbered, beside}
 use Rattle.js_parsing.proofs.Here.{told_plain, begins_here, found, plain_token, slash_here}
 use Rattle.js_parsing.proofs.Paths.{skips, read_of, walked_both, walked_one, walked_to, walked_from}
-use Rattle.js_parsing.proofs.Tight.{stops_by_power, power_listed, Level, level_of, operator_read, plain_is_none, plain_is_read, plain_lex, plain_so, power_anywhere}
+use Rattle.js_parsing.proofs.Tight.{stops_by_power, power_listed, Level, level_of, operator_read, plain_is_none, plain_lex, plain_so, power_anywhere}
 use Rattle.js_parsing.proofs.Verdicts.{verdict_of, either_way, and_then, behind_none, grown_then}
 use Rattle.js_parsing.proofs.Verdicts.{after as grown_behind}
 use Rattle.js_parsing.proofs.Moving.{same_both, same_with, beside_nodes}

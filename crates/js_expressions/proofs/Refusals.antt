@@ -38,7 +38,6 @@ use Rattle.js_parsing.proofs.Here.{found, uncut}
 use Rattle.js_parsing.proofs.Moving.{same_itself, same_both}
 use Rattle.js_parsing.proofs.Paths.{read_of, not_here, settles}
 use Rattle.js_targets.proofs.Targets.{passes_itself, of_unary}
-use Rattle.js_parsing.proofs.Escapes.{no_name_where, read_unnamed}
 use Rattle.js_expressions.proofs.Updates.{of_update, update_plain, a_postfix, postfix_here, line_here}
 use Rattle.js_parsing.specs.Classes.{EndsParse}
 use Rattle.js_cursor.specs.Moves.{GivesUp}

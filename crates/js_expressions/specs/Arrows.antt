@@ -28,7 +28,7 @@ use Rattle.js_cursor.specs.declared.stop.Stop.TheVariants.{Fatal}
 use Rattle.js_parsing.specs.Answers.{Answers, Grown, Outcome, Stops, Stretch, Underived}
 use Rattle.js_parsing.specs.Contexts.{EntersAsyncHead, arrow_body, arrow_head, braced_body}
 use Rattle.js_parsing.specs.Heads.{NoHead, NotedHeads, OnlyArrow}
-use Rattle.js_parsing.specs.Lexemes.{Lex, Walked, escaped_word, name_kinds, spot}
+use Rattle.js_parsing.specs.Lexemes.{Lex, Walked, name_kinds, spot}
 use Rattle.js_parsing.specs.Moves.{Moved}
 use Rattle.js_parsing.specs.Stands.{StandsHere}
 use Rattle.js_parsing.specs.States.{At, Same, NodesLie, SpansLie}
