@@ -4,6 +4,7 @@ ghost use Rattle.std.specs.Prelude.{◌≡◌, true};
 ghost use Rattle.js_base.specs.Contexts.{has_flag, in_flag};
 ghost use Rattle.js_parsing.specs.States.{Standing};
 
+use crate::covered::cover_text;
 use js_base::{Precedence, StatementContext};
 use js_core::{
     Parser, parse_assignment_expression_or_higher, parse_binary_expression_or_higher,
@@ -23,11 +24,13 @@ pub enum Answer {
     Computed(NodeId),
     /// No node.
     Absent,
+    /// The text is none that the call can take.
+    Unread,
     /// There is no such call.
     Unknown,
 }
 
-/// What the call of a name answers, with a word for the one that takes a word.
+/// What the call of a name answers, with the word that it takes.
 pub(crate) fn call(p: &mut Parser<'_>, name: &str, word: &str) -> Result<Answer, Stop>
     requires at { Standing p.old }
     requires allows_in { has_flag in_flag p.old.ctx ≡ true }
@@ -37,6 +40,7 @@ pub(crate) fn call(p: &mut Parser<'_>, name: &str, word: &str) -> Result<Answer,
             Ok(Answer::Node(parse_statement_list_item(p, context_of(word))?))
         }
         "parse_function_body" => Ok(Answer::Node(parse_function_body(p)?)),
+        "cover" => cover_text(p, word),
         _ => call_anywhere(p, name, word),
     }
 }

@@ -1,10 +1,11 @@
-//! Reads rows of texts for the calls of `js_core`, and says of each whether what the call answers is what the row says.
+//! Reads rows of texts for the calls of `js_core` and `js_covers`, and says of each whether what the call answers is what the row says.
 //!
 //! A row has three fields with ` ¦ ` between them: the call, with a word behind it where the call takes one, the text as a
 //! script, and what has to come. Lines that begin with `--` are no rows.
 #![tactic(auto)]
 
 mod called;
+mod covered;
 mod row;
 mod written;
 

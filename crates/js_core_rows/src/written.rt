@@ -20,6 +20,7 @@ pub(crate) fn push_answer(
             push_tree(out, &p.ast, id)?;
         }
         Ok(Answer::Absent) => out.push_str("none")?,
+        Ok(Answer::Unread) => out.push_str("not read")?,
         Ok(Answer::Unknown) => out.push_str("no such call")?,
         Err(Stop::Fatal) => out.push_str("fatal")?,
         Err(Stop::NoMemory) => out.push_str("no memory")?,
