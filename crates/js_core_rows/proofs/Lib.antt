@@ -1,1 +1,2 @@
+mod FirstProperty
 mod WasRead

@@ -72,7 +72,7 @@ expression_stands {p} {q} s x = standing (x p.text (flags_of p) s).answer.at
 
 -- ---- by the node's kind
 
-held_kind : {ns : List Node} {id : NodeId} {l : Label} {cs : Slots} {rs : List ℕ} → Stands ns id.0 l cs rs → l.kind ≡ kind_of (node_at ns id).kind
+pub held_kind : {ns : List Node} {id : NodeId} {l : Label} {cs : Slots} {rs : List ℕ} → Stands ns id.0 l cs rs → l.kind ≡ kind_of (node_at ns id).kind
 held_kind (stands n h d) = refl
 
 lower : (f : Flags) {l : Label} {cs : Slots} {i j : ℕ} {ls rest : Lexemes} → is_literal l.kind ≡ true → Takes rule (rule (at Assignment f)) end (tree l cs end) i ls end j rest → Takes rule (rule (at Primary f)) end (tree l cs end) i ls end j rest
@@ -82,7 +82,7 @@ lower f {l} {cs} {i} {j} {ls} {rest} h d = go (literal_shape h ((of_assignment f
     go (of_array d) = by_brackets d
     go (of_object d) = by_braces f d
 
-inside : {m : Symbol} {l : Label} {cs : Slots} {i j : ℕ} {ls rest : Lexemes} → Takes rule (such m always) end (tree l cs end) i ls end j rest → Takes rule (rule m) end (tree l cs end) i ls end j rest
+pub inside : {m : Symbol} {l : Label} {cs : Slots} {i j : ℕ} {ls rest : Lexemes} → Takes rule (such m always) end (tree l cs end) i ls end j rest → Takes rule (rule m) end (tree l cs end) i ls end j rest
 inside (is_such d c) = d
 
 pub literal_read : {q : Parser} {id : NodeId} (o : Bool) → ReadBefore an_expression AnyLabel q id → kind_of (node_at q.nodes id).kind ≡ literal_kind o → ReadBefore (at Primary) (IsLiteral o) q id

@@ -11,11 +11,13 @@ use js_core::{Parser, parse_assignment_expression_or_higher};
 use js_covers::grammar::CoverGrammar;
 use js_covers::ids::{
     ArrayAssignmentTargetId, ArrayExpressionId, AssignmentExpressionId, AssignmentTargetId,
-    AssignmentTargetMaybeDefaultId, AssignmentTargetWithDefaultId, ExpressionId,
-    ObjectAssignmentTargetId, ObjectExpressionId, SimpleAssignmentTargetId,
+    AssignmentTargetMaybeDefaultId, AssignmentTargetPropertyId, AssignmentTargetWithDefaultId,
+    ExpressionId, ObjectAssignmentTargetId, ObjectExpressionId, ObjectPropertyId,
+    SimpleAssignmentTargetId,
 };
 use js_cursor::Stop;
 use js_parsing::diagnostics::kept_so_far;
+use js_targets::cover::{child_at, is_object};
 use js_tree::{NodeId, NodeKind};
 
 /// What the text covers, where it is an AssignmentExpression of which nothing is told.
@@ -52,6 +54,7 @@ fn cover_as(p: &mut Parser<'_>, id: NodeId, word: &str) -> Result<Answer, Stop>
             let target = AssignmentTargetMaybeDefaultId::cover(ExpressionId(id), p)?;
             Ok(Answer::Node(target.0))
         }
+        "AssignmentTargetPropertyId" => cover_first_property(p, id),
         "by kind" => cover_by_kind(p, id),
         _ => Ok(Answer::Unknown),
     }
@@ -76,6 +79,32 @@ fn cover_by_kind(p: &mut Parser<'_>, id: NodeId) -> Result<Answer, Stop>
         }
         NodeKind::AssignmentExpression => {
             let target = AssignmentTargetWithDefaultId::cover(AssignmentExpressionId(id), p)?;
+            Ok(Answer::Node(target.0))
+        }
+        _ => Ok(Answer::Unread),
+    }
+}
+
+/// What the first property of an object literal covers.
+fn cover_first_property(p: &mut Parser<'_>, id: NodeId) -> Result<Answer, Stop>
+    requires at { Standing p.old }
+    requires read { ReadBefore an_expression AnyLabel p.old id }
+{
+    if !p.ast.contains(id) {
+        return Ok(Answer::Unread);
+    }
+    if !is_object(p.ast.kind(id)) {
+        return Ok(Answer::Unread);
+    }
+    let Some(first) = child_at(&p.ast, id, 0) else {
+        return Ok(Answer::Unread);
+    };
+    if !p.ast.contains(first) {
+        return Ok(Answer::Unread);
+    }
+    match p.ast.kind(first) {
+        NodeKind::ObjectProperty => {
+            let target = AssignmentTargetPropertyId::cover(ObjectPropertyId(first), p)?;
             Ok(Answer::Node(target.0))
         }
         _ => Ok(Answer::Unread),
