@@ -51,7 +51,7 @@ pub fn parse_assignment_expression<C: ParserConfig, N: Nested<C>>(
 }
 
 /// An AssignmentExpression, whatever stands here.
-#[inline(never)]
+#[inline(always)]
 fn parse_any_assignment<C: ParserConfig, N: Nested<C>>(
     p: &mut ParserImpl<'_, C>,
     nested: &N,

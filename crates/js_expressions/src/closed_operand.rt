@@ -58,7 +58,9 @@ fn is_closing_byte(byte: u8) -> bool
 }
 
 /// The node of a name, a string or a decimal number, where one stands here.
-#[inline(always)]
+///
+/// It has a frame of its own: that of the function that recurses stays small.
+#[inline(never)]
 fn parse_lexeme<C: ParserConfig>(p: &mut ParserImpl<'_, C>) -> Result<Option<NodeId>, Stop>
     requires { Standing p.old }
     ensures { MatchResult result (λ found. TakesLexeme p.old p.new found) OnlyMemory }
