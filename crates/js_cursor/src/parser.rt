@@ -79,24 +79,6 @@ impl<'a, C: ParserConfig> Model for ParserImpl<'a, C> {
 /// overflows the stack.
 pub const MAX_DEPTH: u32 = 16_100;
 
-/// A token, field by field, and its end from elsewhere: a processor waits where it reads in one piece what a call has
-/// just written in several.
-#[inline(always)]
-fn copy_of(token: &Token, end: usize) -> Token
-    requires end { end ≡ token.now.span.end }
-    requires ordered { token.now.span.start ≤ end }
-    requires short { end ≤ MAX_LEN }
-    ensures { result ≡ token.now }
-{
-    Token::new(
-        token.kind(),
-        Span::new(token.start(), end as u32),
-        token.is_on_new_line(),
-        token.escaped(),
-        token.has_separator(),
-    )
-}
-
 /// The parameters in force where a text begins.
 fn context_at_start(source_type: SourceType, options: ParseOptions) -> Context
     ensures { AtStart source_type options result }
@@ -199,7 +181,7 @@ impl<'a, C: ParserConfig> ParserImpl<'a, C> {
         let next = self.lexer.next_token()?;
         self.prev_token_end = self.token.end();
         self.cut = is_kind(next.kind(), Kind::RAngle);
-        self.token = copy_of(&next, self.lexer.place());
+        self.token = next;
         Ok(())
     }
 
@@ -241,6 +223,9 @@ impl<'a, C: ParserConfig> ParserImpl<'a, C> {
 
     /// What stands behind the current token, as the lexer's `peek_token` gives it; behind a `>` that begins a longer
     /// punctuator, what stands behind this sign. Nothing moves, and nothing is kept. Never `Fatal`.
+    ///
+    /// The lexer's code is part of it, so it has a frame of its own: those who call it may recurse.
+    #[inline(never)]
     pub fn peek_token(&mut self) -> Result<Token, Stop>
         requires { IsAt self.old }
         ensures answer { MatchResult result (λ t. Peeks self.old t) OnlyMemory }

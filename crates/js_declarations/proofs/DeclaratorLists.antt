@@ -115,7 +115,7 @@ comma_goes : {text : List ℕ} {f : Flags} (c : Bool) {p q : Parser} → At text
 comma_goes c a k m = skips a Comma k (plain_sign Comma a k refl refl comma_word) refl m
 
 commas_here : {text : List ℕ} {f : Flags} {q : Parser} → At text f q → q.token.kind ≡ Comma → (y : Lexeme) → Lex text q.prev_token_end y → IsTrue (seen (is Comma) y)
-commas_here a k y l = and_from _ _ (subst (λ (v : Kind). same_kind Comma v ≡ true) (sym (kind_here a k refl y l)) refl) (ap not (read_plain y l.1 (kind_here a k refl y l) refl))
+commas_here a k y l = and_from _ _ (subst (λ (v : Kind). same_kind Comma v ≡ true) (sym (kind_here a k refl y l)) refl) (ap not (read_plain y l (kind_here a k refl y l) refl))
 
 no_comma_here : {text : List ℕ} {f : Flags} {q : Parser} → At text f q → (q.token.kind ≡ Comma → ⊥) → (y : Lexeme) → Lex text q.prev_token_end y → IsTrue (seen (is Comma) y) → ⊥
 unfolding apart

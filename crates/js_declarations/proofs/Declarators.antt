@@ -35,8 +35,9 @@ use Rattle.js_base.specs.declared.diagnostic.DiagnosticKind.{DiagnosticKind}
 use Rattle.js_base.specs.declared.diagnostic.DiagnosticClass.TheVariants.{Early}
 use Rattle.js_base.specs.Diagnostics.{class_of}
 use Rattle.js_cursor.specs.Moves.{Keeps as KeepsOne}
+use Rattle.js_parsing.proofs.Escapes.{plain_or_word}
 use Rattle.js_parsing.specs.Answers.{Grown, Verdict, Stretch, Underived, Answer, Numbered, Stops, beside, unclean}
-use Rattle.js_parsing.specs.Lexemes.{Lex, Walked, escaped_word, name_kinds, spot, Plain}
+use Rattle.js_parsing.specs.Lexemes.{Lex, Walked, name_kinds, spot, Plain, read_word}
 use Rattle.js_parsing.specs.Moves.{Moved, MadeHere, plain_label}
 use Rattle.js_parsing.specs.Stands.{NameHere}
 use Rattle.js_parsing.specs.States.{At, Same, NodesLie}
@@ -45,15 +46,14 @@ use Rattle.js_parsing.specs.Told.{unrelated_at}
 use Rattle.js_declarations.specs.Declarations.{One, NoOne, Declarator, EndsDeclarator, ChecksInitialiser, behind_row, ends_row, stops_row, missing}
 use Rattle.js_patterns.proofs.Bindings.{no_binding, no_pattern_name}
 use Rattle.js_parsing.proofs.NamedFirsts.{fails_unnamed}
-use Rattle.js_parsing.proofs.NameKinds.{listed_here, listed_name, name_at, no_name_here}
-use Rattle.js_parsing.proofs.Giving.{fails_escaped, kept_one}
+use Rattle.js_parsing.proofs.NameKinds.{listed_here, name_at, no_listed_name}
+use Rattle.js_parsing.proofs.Giving.{kept_one}
 use Rattle.js_parsing.proofs.Here.{begins_here, kind_here}
 use Rattle.js_parsing.proofs.MadeNodes.{node_held, two_held, made_lies}
 use Rattle.js_parsing.proofs.Moving.{beside_nodes, same_both, same_with, stops_behind}
 use Rattle.js_parsing.proofs.Paths.{fails_at, label_here, not_here, skips, walked_both, walked_one, walked_to}
 use Rattle.js_parsing.proofs.Phrases.{narrow_assignment, narrow_operand}
 use Rattle.js_parsing.proofs.Signs.{other_kind, plain_sign}
-use Rattle.js_parsing.proofs.Escapes.{read_word_plain}
 use Rattle.js_parsing.proofs.Tight.{narrows, plain_is_read, plain_lex}
 use Rattle.js_parsing.proofs.Told.{told_at, told_same}
 use Rattle.js_parsing.proofs.Verdicts.{and_then, behind_none, either_way, grown_then, verdict_of}
@@ -103,7 +103,7 @@ unbound {text} {f} {s} c n = record { no = λ ts us k ls rest lx d h. go ts us k
 
 -- no lexeme stands here
 pub none_at : {text : List ℕ} {f : Flags} {p : Parser} (c : Bool) → At text f p → p.token.kind ≡ Undetermined → NoOne text (declarator c f) p.prev_token_end
-none_at c a h = unbound c (no_binding a (λ k e. false≢true (ap (same_kind LBrack) (sym h ∙ k))) (λ k e. false≢true (ap (same_kind LCurly) (sym h ∙ k))) (λ k e. false≢true (ap (one_of_kinds name_kinds) (sym h) ∙ listed_name _ _ _ k)))
+none_at c a h = unbound c (no_binding a (λ k e. false≢true (ap (same_kind LBrack) (sym h ∙ k))) (λ k e. false≢true (ap (same_kind LCurly) (sym h ∙ k))) (no_listed_name _ _ _ (ap (one_of_kinds name_kinds) h)))
 
 -- ---- what may stand behind a declarator
 
@@ -146,7 +146,7 @@ comma_behind_name = refl
 
 -- what no expression goes on with
 abbrev ends_value : Row → Look
-ends_value r k w e = not (escaped_word k e) && (looser 1 true r k w e || beside k w e)
+ends_value r k w e = (not e || read_word k) && (looser 1 true r k w e || beside k w e)
 
 value_stops : (r : Row) → covers (ends_value r) (stops_row r) ≡ true
 unfolding covers
@@ -246,11 +246,7 @@ module _ {text : List ℕ} {f : Flags} {p q : Parser} (a : At text f p) (x : Ans
   -- no name stands here
   pub no_name : {X : Test} → NameHere p false → Fails rule (Lex text) X end (symbol BindingIdentifier f) p.prev_token_end
   unfolding covers apart
-  no_name {X} h = by (escaped_word p.token.kind p.token.escaped) refl
-    where
-      by : (b : Bool) → escaped_word p.token.kind p.token.escaped ≡ b → Fails rule (Lex text) X end (symbol BindingIdentifier f) p.prev_token_end
-      by true e = fails_escaped a e
-      by false e = fails_unnamed a f (λ g. symbol BindingIdentifier g) [] refl refl refl refl refl (no_name_here f p (name_at false a h) e) refl
+  no_name {X} h = fails_unnamed a f (λ g. symbol BindingIdentifier g) [] refl refl refl refl refl (name_at false a h) refl
 
   -- an initialiser is missing
   none_bare : (c is_name : Bool) → (is_name ≡ false) ⊎ (c ≡ true) → NameHere p is_name → BindingRead a x → NoOne text (declarator c f) p.prev_token_end
@@ -320,7 +316,7 @@ unfolding covers apart
 value_ends {text} {f} {r} {v} y i n z l =
     let row = row_of y.label y.slots in
     let s = narrows 2 1 (Comma ∷ []) f.in_ row (narrow_assignment 2 1 (Comma ∷ []) (narrow_operand 2 1 (Comma ∷ []) refl refl refl refl) refl refl refl refl f.in_ row y.row) z l.1 (no_comma (one_of_kinds (Comma ∷ []) z.kind) refl) (y.stops z l) in
-    covered (ends_value row) (stops_row row) (value_stops row) z.kind z.newline z.escaped (and_from _ _ (ap not (read_word_plain z (plain_is_read z l.1))) (subst (λ (b : Bool). IsTrue (seen (looser 1 b row) z || seen beside z)) i s))
+    covered (ends_value row) (stops_row row) (value_stops row) z.kind z.newline z.escaped (and_from _ _ (plain_or_word z (plain_lex l)) (subst (λ (b : Bool). IsTrue (seen (looser 1 b row) z || seen beside z)) i s))
   where
     no_comma : (b : Bool) → one_of_kinds (Comma ∷ []) z.kind ≡ b → one_of_kinds (Comma ∷ []) z.kind ≡ false
     no_comma true e = absurd (not_here y.at (Comma ∷ []) refl (other_kind Comma v.token.kind n) z (plain_lex l) e)

@@ -41,15 +41,14 @@ use Rattle.js_declarations.specs.declared.head.HeadForm.TheVariants as form
 use Rattle.js_declarations.proofs.DeclaratorLists.{Underway, underway_end, underway_init, underway_step}
 use Rattle.js_declarations.proofs.Declarators.{BindingRead, as_binding, eq_plain, bound, declared_bare, declared_with, initialiser_none, name_alone, no_eq_here, unbound}
 use Rattle.js_patterns.proofs.Bindings.{no_binding, no_pattern_name}
-use Rattle.js_parsing.proofs.Giving.{fails_escaped}
 use Rattle.js_parsing.proofs.Here.{unsettled}
-use Rattle.js_parsing.proofs.NameKinds.{listed_here, listed_name, name_at, no_name_here}
+use Rattle.js_parsing.proofs.NameKinds.{listed_here, listed_name, name_at, no_listed_name}
 use Rattle.js_parsing.proofs.NamedFirsts.{fails_unnamed}
 use Rattle.js_parsing.specs.Lexemes.{escaped_word, name_kinds}
 use Rattle.js_parsing.proofs.MadeNodes.{node_held, two_held, made_lies}
 use Rattle.js_parsing.proofs.Moving.{beside_nodes, same_both, same_with, stops_behind}
 use Rattle.js_parsing.proofs.Paths.{Path, ◌⟶◌, ◌⟶✗◌, by_symbol_as, fails_at, label_here, last_called, noded, noded_by, token, walked_both}
-use Rattle.js_parsing.proofs.Signs.{plain_sign, stands_not, stands_there}
+use Rattle.js_parsing.proofs.Signs.{plain_sign, stands_not, word_there}
 use Rattle.js_parsing.proofs.Verdicts.{and_then, either_way, grown_then, verdict_of}
 use Rattle.js_parsing.proofs.Verdicts.{after as grown_behind}
 
@@ -58,8 +57,8 @@ use Rattle.js_parsing.proofs.Verdicts.{after as grown_behind}
 through_look : {text : List ℕ} {f : Flags} {q : Parser} → At text f q → ThroughHere q true → (y : Lexeme) → Lex text q.prev_token_end y → IsTrue (seen goes_through y)
 through_look {q = q} a h y l = by h
   where
-    with_kind : (k : Kind) → one_of_kinds (In ∷ Of ∷ []) k ≡ true → one_of_kinds (Ident ∷ unsettled) k ≡ false → StandsHere q k true → IsTrue (seen goes_through y)
-    with_kind k m r s = let z = stands_there a s.0 r y l in and_from (one_of_kinds (In ∷ Of ∷ []) y.kind) (not y.escaped) (ap (one_of_kinds (In ∷ Of ∷ [])) z.0 ∙ m) (ap not z.1)
+    with_kind : (k : Kind) → one_of_kinds (In ∷ Of ∷ []) k ≡ true → one_of_kinds unsettled k ≡ false → StandsHere q k true → IsTrue (seen goes_through y)
+    with_kind k m r s = let z = word_there a s.0 s.1 r y l in and_from (one_of_kinds (In ∷ Of ∷ []) y.kind) (not y.escaped) (ap (one_of_kinds (In ∷ Of ∷ [])) z.0 ∙ m) (ap not z.1)
 
     by : ThroughHere q true → IsTrue (seen goes_through y)
     by (inl s) = with_kind In refl refl s
@@ -77,11 +76,18 @@ in_or_of k h = by (same_kind In k) refl h
     by false e h = last (same_kind Of k) refl h
 
 through_not : {text : List ℕ} {f : Flags} {q : Parser} → At text f q → ThroughHere q false → (y : Lexeme) → Lex text q.prev_token_end y → IsTrue (seen goes_through y) → ⊥
-through_not a n y l h = by (in_or_of y.kind (and_parts (one_of_kinds (In ∷ Of ∷ []) y.kind) (not y.escaped) h).0)
+through_not a n y l h = by (in_or_of y.kind parts.0)
   where
+    parts : (one_of_kinds (In ∷ Of ∷ []) y.kind ≡ true) × (not y.escaped ≡ true)
+    parts = and_parts (one_of_kinds (In ∷ Of ∷ []) y.kind) (not y.escaped) h
+
+    plain : (b : Bool) → not b ≡ true → b ≡ false
+    plain true i = absurd (false≢true i)
+    plain false i = refl
+
     by : (y.kind ≡ In) ⊎ (y.kind ≡ Of) → ⊥
-    by (inl e) = stands_not a refl n.0 y l e
-    by (inr e) = stands_not a refl n.1 y l e
+    by (inl e) = stands_not a refl n.0 y l e (plain y.escaped parts.1)
+    by (inr e) = stands_not a refl n.1 y l e (plain y.escaped parts.1)
 
 -- neither is what goes on with a list
 comma_not_through : apart (is Comma) goes_through ≡ true
@@ -179,11 +185,7 @@ name_as {f = f} {p = p} a h {j = j} {ls = ls} {rest = rest} l (is_such {l = m} {
 -- where none stands, no name is derived
 no_identifier : {text : List ℕ} {f : Flags} {p : Parser} {X : Test} → At text f p → NameHere p false → Fails rule (Lex text) X end (symbol BindingIdentifier f) p.prev_token_end
 unfolding covers apart
-no_identifier {text} {f} {p} {X} a h = by (escaped_word p.token.kind p.token.escaped) refl
-  where
-    by : (b : Bool) → escaped_word p.token.kind p.token.escaped ≡ b → Fails rule (Lex text) X end (symbol BindingIdentifier f) p.prev_token_end
-    by true e = fails_escaped a e
-    by false e = fails_unnamed a f (λ g. symbol BindingIdentifier g) [] refl refl refl refl refl (no_name_here f p (name_at false a h) e) refl
+no_identifier {f = f} a h = fails_unnamed a f (λ g. symbol BindingIdentifier g) [] refl refl refl refl refl (name_at false a h) refl
 
 no_named_value : {text : List ℕ} {f : Flags} {p : Parser} {X : Test} → At text f p → NameHere p false → Fails rule (Lex text) X end (named_value f) p.prev_token_end
 no_named_value a h = fails_node inside_full (part_fails {X' = plain full} (no_identifier a h) (record { admits = λ ts us vs j k ls mid rest d d' e. (refl, refl) }))
@@ -300,7 +302,7 @@ module _ {text : List ℕ} {f : Flags} {p q r : Parser} {binding : NodeId} (a : 
 
 -- where no lexeme stands
 pub none_at_head : {text : List ℕ} {f : Flags} {p : Parser} (c : Bool) → At text f p → p.token.kind ≡ Undetermined → NoHeadDeclarator text f c p.prev_token_end
-none_at_head c a h = no_head_declarator c (no_binding a (λ k e. false≢true (ap (same_kind LBrack) (sym h ∙ k))) (λ k e. false≢true (ap (same_kind LCurly) (sym h ∙ k))) (λ k e. false≢true (ap (one_of_kinds name_kinds) (sym h) ∙ listed_name _ _ _ k)))
+none_at_head c a h = no_head_declarator c (no_binding a (λ k e. false≢true (ap (same_kind LBrack) (sym h ∙ k))) (λ k e. false≢true (ap (same_kind LCurly) (sym h ∙ k))) (no_listed_name _ _ _ (ap (one_of_kinds name_kinds) h)))
 
 pub through_so : (p : Parser) {b r : Bool} → r ≡ b → ThroughHere p r → ThroughHere p b
 through_so p e h = subst (λ (v : Bool). ThroughHere p v) e h

@@ -142,7 +142,7 @@ module _ {text : List ℕ} {f : Flags} {p q : Parser} (a : At text f p) (x : Ans
       let g = assigns q.token.kind u in
       let z = found x.at c g.no_end in
       let e : z.0.escaped ≡ false = plain_of q.token.kind z.1.word z.0.escaped (subst (λ (v : Kind). z.0.escaped ≡ is_escaped v z.1.word) (sym z.2.kind) z.1.escaped) g.unescaped in
-      (z.0, (z.1, read_of z.0 (sym z.2.kind) e g.is_read), sym z.2.kind)
+      (z.0, (z.1, read_of z.0 (sym z.2.kind) g.is_read), sym z.2.kind)
 
   pub not_simple_marked : (start : ℕ) → start ≡ p.token.span.start → length q.errors ≡ length p.errors → Mark (goal q) q.text (not_simple_at start q.prev_token_end)
   not_simple_marked start d k = subst (λ (v : List ℕ). Mark (goal q) v (not_simple_at start q.prev_token_end)) (sym x.at.text_is) it

@@ -58,8 +58,7 @@ use Rattle.js_cursor.specs.declared.checkpoint.ParserCheckpoint.{ParserCheckpoin
 use Rattle.js_cursor.specs.declared.stop.Stop.{Stop}
 use Rattle.js_cursor.specs.declared.stop.Stop.TheVariants.{Fatal}
 use Rattle.js_parsing.specs.Stands.{NameHere, StandsHere}
-use Rattle.js_parsing.proofs.NameKinds.{a_name, listed_name, name_apart, name_at, name_test, name_whole, no_name_here, or_kind, listed_here}
-use Rattle.js_parsing.proofs.Giving.{fails_escaped}
+use Rattle.js_parsing.proofs.NameKinds.{a_name, listed_name, name_apart, name_at, name_test, name_whole, or_kind, listed_here}
 use Rattle.js_cursor.specs.Moves.{is_last}
 use Rattle.js_cursor.specs.Parsers.{Parser}
 use Rattle.js_cursor.specs.Places.{IsAt}
@@ -78,13 +77,13 @@ use Rattle.js_expressions.proofs.OnePlace.{calm, one_alone, one_move, one_told}
 use Rattle.js_expressions.proofs.ParenthesizedFronts.{no_arrow_admitted, args_one}
 use Rattle.js_cursor.specs.Tokens.{may_be_read_again}
 use Rattle.js_parsing.proofs.KeptTokens.{before_back, last_back}
-use Rattle.js_parsing.specs.Lexemes.{Lex, escaped_word, name_kinds, other_goals, signs, spot, slashes, Plain, may_name, Walked}
+use Rattle.js_parsing.specs.Lexemes.{Lex, name_kinds, other_goals, signs, spot, slashes, Plain, may_name, Walked}
 use Rattle.js_parsing.specs.Moves.{Moved, MadeHere, LeafTaken, TakesLeaf, plain_label}
 use Rattle.js_parsing.specs.States.{At, Same, Standing, IsPlain, whole, sign, nothing as nothing_here, NodesLie, SpansLie}
 use Rattle.js_targets.proofs.ArraysBeforeSigns.{is_cover}
-use Rattle.js_targets.proofs.Assigned.{arrow_passes, no_yield, only_arrow}
+use Rattle.js_targets.proofs.Assigned.{arrow_passes, no_yield, only_arrow, no_yield_escaped}
 use Rattle.js_targets.specs.Others.{NoYield}
-use Rattle.js_parsing.proofs.NamedFirsts.{fails_unnamed}
+use Rattle.js_parsing.proofs.NamedFirsts.{fails_unnamed, fails_escaped}
 use Rattle.js_expressions.specs.Yields.{BeginsYield}
 use Rattle.js_expressions.proofs.Assignments.{by_second, second}
 use Rattle.js_expressions.proofs.Conditionals.{conditional_none}
@@ -92,16 +91,16 @@ use Rattle.js_parsing.proofs.Signs.{other_kind, plain_sign}
 use Rattle.js_parsing.proofs.Told.{beside_errors}
 use Rattle.js_parsing.proofs.Unbuilt.{nothing_unbuilt}
 use Rattle.js_parsing.proofs.ToEnd.{to_end_stays}
-use Rattle.js_parsing.proofs.Giving.{kept_one}
+use Rattle.js_parsing.proofs.Giving.{kept_one, fails_unescaped}
 use Rattle.js_parsing.proofs.Here.{angled, found, plainly, one_plain, newline_here, kind_here, told, uncut, told_plain}
-use Rattle.js_parsing.proofs.MadeNodes.{leaf_held, node_held, two_held, one_lies, LabelLies, from_start}
+use Rattle.js_parsing.proofs.MadeNodes.{leaf_held, node_held, two_held, one_lies, one_lies_in, LabelLies, from_start}
 use Rattle.js_parsing.proofs.Moving.{beside_nodes, flags_same, heads_kept, same_both, same_itself, same_with, standing_for, stops_behind, nodes_lie}
 use Rattle.js_operands.proofs.Operands.{by_path, by_such, name_signless}
 use Rattle.js_patterns.proofs.Bindings.{bound_path, ended_by, then_any}
 use Rattle.js_parsing.proofs.Paths.{Path, ◌⟼◌, ◌⟶◌, ◌⟶✗◌, fails_at, not_here, token, last_called, noded, by_symbol_as, label_here, read_of, walked_both, walked_from, walked_one, flagged_here, flagged_by}
 use Rattle.js_parsing.proofs.Signs.{none_kept, plain_of}
 use Rattle.js_parsing.proofs.Ahead.{pass_over}
-use Rattle.js_parsing.proofs.Escapes.{plain_word, read_plain}
+use Rattle.js_parsing.proofs.Escapes.{read_plain, escaped_unnamed}
 use Rattle.js_parsing.proofs.Verdicts.{grown_both, grown_first, grown_on, grown_then}
 use Rattle.js_parsing.specs.Classes.{IsEarly}
 use Rattle.js_parsing.proofs.Classes.{kept_early}
@@ -259,6 +258,15 @@ pub no_line_here : {text : List ℕ} {f : Flags} {p : Parser} → At text f p �
 unfolding covers apart
 no_line_here {f = f} a m n = fails_unnamed a f {X = plain full} line_of (LParen ∷ []) refl refl refl refl refl m n
 
+-- nor does a word with an escape begin one
+pub no_line_escaped : {text : List ℕ} {f : Flags} {p : Parser} → At text f p → may_name f.yield_ f.await_ p.token.kind ≡ false → p.token.escaped ≡ true → NoLine text f p.prev_token_end
+unfolding covers apart
+no_line_escaped {f = f} {p} a m e = fails_escaped a f {X = plain full} line_of refl refl refl refl (escaped_unnamed f.yield_ f.await_ p.token.kind p.token.escaped m e) m
+
+pub no_async_escaped : {text : List ℕ} {f : Flags} {p : Parser} → At text f p → p.token.escaped ≡ true → NoLed true text f p.prev_token_end
+unfolding covers apart
+no_async_escaped {f = f} a e = fails_unescaped {X = plain full} (lead_of true ▸ line_of (arrow_head true f)) a refl e
+
 -- `async` doesn't stand here
 pub no_async_here : {text : List ℕ} {f : Flags} {p : Parser} → At text f p → one_of_kinds (Async ∷ []) p.token.kind ≡ false → NoLed true text f p.prev_token_end
 unfolding covers apart
@@ -303,8 +311,8 @@ module _ {text : List ℕ} {f : Flags} {p : Parser} (a : At text f p) where
   name_only k = fails_at a (symbol Params f) (LParen ∷ []) refl (name_apart (LParen ∷ []) refl _ k)
 
   -- a name as the parameters
-  name_path : {q : Parser} → may_name f.yield_ f.await_ p.token.kind ≡ true → escaped_word p.token.kind p.token.escaped ≡ false → Moved text f p q → Path text f (plain full) (head_of f) p nothing q (tree (label_here formal_parameters no_op p q) (tree (label_here formal_parameter no_op p q) (tree (label_here binding_identifier no_op p q) end (hole end)) end))
-  name_path k e m = left (name_only (listed_name f.yield_ f.await_ p.token.kind k)) ⟼ noded a (noded a (ended_by (then_any (bound_path a k e m)) reads_empty_slot))
+  name_path : {q : Parser} → may_name f.yield_ f.await_ p.token.kind ≡ true → Moved text f p q → Path text f (plain full) (head_of f) p nothing q (tree (label_here formal_parameters no_op p q) (tree (label_here formal_parameter no_op p q) (tree (label_here binding_identifier no_op p q) end (hole end)) end))
+  name_path k m = left (name_only (listed_name f.yield_ f.await_ p.token.kind k)) ⟼ noded a (noded a (ended_by (then_any (bound_path a k m)) reads_empty_slot))
 
   -- parentheses as the parameters
   no_name : (g : Flags) {X : Test} → p.token.kind ≡ LParen → Fails rule (Lex text) X end (mk formal_parameters (mk formal_parameter (symbol BindingIdentifier g ▸ empty_slot))) p.prev_token_end
@@ -371,7 +379,7 @@ module _ {text : List ℕ} {f : Flags} {p : Parser} {t : Token} (a : At text f p
       by x false e =
           let i : x.lexeme.kind ≡ Arrow = ap (λ (z : Lexeme). z.kind) (sym (cut_same x.lexeme e)) ∙ (sym x.tells.kind ∙ k) in
           let n : x.lexeme.escaped ≡ false = plain_of Arrow x.stands.lex.word x.lexeme.escaped (subst (λ (v : Kind). x.lexeme.escaped ≡ is_escaped v x.stands.lex.word) i x.stands.lex.escaped) arrow_plain in
-          (x.lexeme, (x.stands.lex, read_of x.lexeme i n refl), i)
+          (x.lexeme, (x.stands.lex, read_of x.lexeme i refl), i)
 
 -- ---- what is answered of a head
 
@@ -402,7 +410,7 @@ arrow_here : {text : List ℕ} {f : Flags} {p : Parser} → At text f p → p.to
 arrow_here a k =
     let z = found a (uncut a (ap (same_kind RAngle) k)) (ap is_last k) in
     let e : z.0.kind ≡ Arrow = sym z.2.kind ∙ k in
-    (z.0, (z.1, read_of z.0 e (sym z.2.escaped ∙ plain_sign Arrow a k refl refl arrow_plain) refl), ap (same_kind Arrow) e, z.2.start)
+    (z.0, (z.1, read_of z.0 e refl), ap (same_kind Arrow) e, z.2.start)
 
 -- what stands behind them
 one_behind : (text : List ℕ) (s : ℕ) {st : List ℕ} {ls r : Lexemes} {e : ℕ} → Lexes (Lex text) s ls → One st ls e r → Lexes (Lex text) e r
@@ -474,14 +482,14 @@ pub unmoved : {p q : Parser} → q ≡ p → Unmoved p q
 unmoved {p} e = subst (Unmoved p) (sym e) (record { at = λ text f a. a; same = same_itself; kept = refl; place = refl; spot_is = refl; start = refl; kind = refl; keeps = Keeps-refl p.nodes })
 
 -- the node of a name stands before the arrow
-pub name_found : {p q w : Parser} {id : NodeId} → Standing p → ArrowBehind p q true → escaped_word p.token.kind p.token.escaped ≡ false → Single q w id → NamesHead p w (Some id)
-name_found {p} {q} {w} {id} a b e s = (k, head, b.1)
+pub name_found : {p q w : Parser} {id : NodeId} → Standing p → ArrowBehind p q true → Single q w id → NamesHead p w (Some id)
+name_found {p} {q} {w} {id} a b s = (k, head, b.1)
   where
     z : Single p w id
     z = subst (λ (v : Parser). Single v w id) b.0 s
 
     head : (text : List ℕ) (f : Flags) → At text f p → Head text f f p w id
-    head text f a = z.1 text f a e
+    head text f a = z.1 text f a
 
     k : w.token.kind ≡ Arrow
     k = let y = b.1 _ _ a in arrow_is_here (head _ _ a).at y.0 (subst (λ (v : ℕ). Lex p.text v y.0) (sym z.0) y.1) y.2
@@ -496,7 +504,7 @@ no_yield_paren a k = no_yield a (λ i. let z : LParen ≡ Yield = sym k ∙ i in
 
 -- no operand begins with it
 pub named_head : {p w : Parser} {id : NodeId} → Standing p → NameHere p true → NamesHead p w (Some id) → IsHeadHere p w id
-named_head {p} {w} {id} a n h = (h.0, (λ text f b. a_head (h.1 text f b) (no_yield_named b (name_at true b n).0) (none text f b)), none)
+named_head {p} {w} {id} a n h = (h.0, (λ text f b. a_head (h.1 text f b) (no_yield_named b (name_at true b n)) (none text f b)), none)
   where
     listed : one_of_kinds name_kinds p.token.kind ≡ true
     listed = listed_here p n
@@ -528,8 +536,8 @@ parenthesized_head {f = f} {p = p} a k x e z = record {
 }
 
 -- a name
-pub single_head : {text : List ℕ} {f : Flags} {p q v w : Parser} {name parameter id : NodeId} (s : Span) → At text f p → may_name f.yield_ f.await_ p.token.kind ≡ true → escaped_word p.token.kind p.token.escaped ≡ false → s ≡ p.token.span → LeafTaken node_kind.BindingIdentifier op_made.None text f p q name → MadeHere (plain_label node_kind.FormalParameter op_made.None s) (Some name ∷ None ∷ []) q v parameter → MadeHere (plain_label node_kind.FormalParameters op_made.None s) (Some parameter ∷ []) v w id → Head text f f p w id
-single_head {text} {f} {p} {q} {v} {w} {name} {parameter} {id} s a k e b t n m =
+pub single_head : {text : List ℕ} {f : Flags} {p q v w : Parser} {name parameter id : NodeId} (s : Span) → At text f p → may_name f.yield_ f.await_ p.token.kind ≡ true → s ≡ p.token.span → LeafTaken node_kind.BindingIdentifier op_made.None text f p q name → MadeHere (plain_label node_kind.FormalParameter op_made.None s) (Some name ∷ None ∷ []) q v parameter → MadeHere (plain_label node_kind.FormalParameters op_made.None s) (Some parameter ∷ []) v w id → Head text f f p w id
+single_head {text} {f} {p} {q} {v} {w} {name} {parameter} {id} s a k b t n m =
     let i : p.token.span.end ≡ t.mid.prev_token_end = t.moved.tells.end ∙ t.moved.ends in
     let ks : Keeps p.nodes t.mid.nodes = subst (λ (ns : List Node). Keeps p.nodes ns) (sym t.moved.nodes) (Keeps-refl p.nodes) in
     let h = leaf_held t.made ks in
@@ -537,9 +545,9 @@ single_head {text} {f} {p} {q} {v} {w} {name} {parameter} {id} s a k e b t n m =
     let hv = node_held n (HoldsAll-hole (HoldsAll-one name h)) in
     let kv : Keeps p.nodes v.nodes = Keeps-trans kq (Keeps-made n.made) in
     let hw = node_held m (HoldsAll-one parameter hv) in
-    head_of_path w (subst (λ (x : ℕ). Path text f (plain full) (head_of f) p nothing t.mid (tree (label_to formal_parameters x) (tree (label_to formal_parameter x) (tree (label_to binding_identifier x) end (hole end)) end))) (sym i) (name_path a k e t.moved)) t.moved.kept t.moved.same (m.stays ∙ ap (λ (z : Parser). record z { nodes = w.nodes }) (n.stays ∙ ap (λ (z : Parser). record z { nodes = v.nodes }) t.made.stays))
+    head_of_path w (subst (λ (x : ℕ). Path text f (plain full) (head_of f) p nothing t.mid (tree (label_to formal_parameters x) (tree (label_to formal_parameter x) (tree (label_to binding_identifier x) end (hole end)) end))) (sym i) (name_path a k t.moved)) t.moved.kept t.moved.same (m.stays ∙ ap (λ (z : Parser). record z { nodes = w.nodes }) (n.stays ∙ ap (λ (z : Parser). record z { nodes = v.nodes }) t.made.stays))
     (subst (λ (x : Span). Holds w.nodes (length p.nodes) (length w.nodes) id.0 (plain_label node_kind.FormalParameters op_made.None x) (tree (plain_label node_kind.FormalParameter op_made.None x) (tree (label_to binding_identifier p.token.span.end) end (hole end)) end)) b hw) (Keeps-trans kv (Keeps-made m.made))
-    (λ c z. let y = from_start (plain_label node_kind.FormalParameters op_made.None s) t.moved.same t.moved.at.at (let j = t.moved.further in omega arith) (ap (λ (x : Span). record { from = x.start; to = x.end }) b ∙ ap (λ (x : ℕ). record { from = p.token.span.start; to = x }) i) c in one_lies m y (one_lies n y (one_lies t.made (subst (λ (x : Span). LabelLies t.mid.text (plain_label node_kind.BindingIdentifier op_made.None x)) b y) z)))
+    (λ c z. let y = from_start (plain_label node_kind.FormalParameters op_made.None s) t.moved.same t.moved.at.at (let j = t.moved.further in omega arith) (ap (λ (x : Span). record { from = x.start; to = x.end }) b ∙ ap (λ (x : ℕ). record { from = p.token.span.start; to = x }) i) c in one_lies_in (ap (λ (x : Parser). x.text) n.stays ∙ ap (λ (x : Parser). x.text) t.made.stays) m y (one_lies_in (ap (λ (x : Parser). x.text) t.made.stays) n y (one_lies t.made (subst (λ (x : Span). LabelLies t.mid.text (plain_label node_kind.BindingIdentifier op_made.None x)) b y) z)))
   where
     label_to : NodeKind → ℕ → Label
     label_to n x = record { kind = n; op = no_op; flags = 0; span = record { from = p.token.span.start; to = x } }
@@ -627,11 +635,11 @@ some_looked p o q id r s e h = subst (λ (z : Parser). ParametersRead z q id) s 
 
 -- neither a name nor a parenthesis
 pub neither : {p : Parser} → NameHere p false → StandsHere p LParen false → NoLineHere p
-neither {p} n m = λ text f a. by text f (escaped_word p.token.kind p.token.escaped) refl a
+neither {p} n m = λ text f a. by text f p.token.escaped refl a
   where
-    by : (text : List ℕ) (f : Flags) (b : Bool) → escaped_word p.token.kind p.token.escaped ≡ b → At text f p → NoLine text f p.prev_token_end
-    by text f true e a = fails_escaped a e
-    by text f false e a = no_line_here a (no_name_here f p (name_at false a n) e) (or_kind LParen [] p.token.kind (λ k. m k (plain_word p.token k refl e)) refl)
+    by : (text : List ℕ) (f : Flags) (e : Bool) → p.token.escaped ≡ e → At text f p → NoLine text f p.prev_token_end
+    by text f true e a = no_line_escaped a (name_at false a n) e
+    by text f false e a = no_line_here a (name_at false a n) (or_kind LParen [] p.token.kind (λ k. m k e) refl)
 
 -- ---- where the parser is where it was
 
@@ -647,15 +655,15 @@ unmoved_went_on a u = let b = u.at _ _ a in ((u.same.follows, b.at), b.heads, λ
 
 -- where no YieldExpression begins
 no_yield_here : {text : List ℕ} {f : Flags} {p : Parser} → At text f p → (BeginsYield p → ⊥) → NoYield text f p.prev_token_end
-no_yield_here {text} {f} {p} a n = go (escaped_word p.token.kind p.token.escaped) refl
+no_yield_here {text} {f} {p} a n = go p.token.escaped refl
   where
     by : (b : Bool) → has_flag yield_flag p.ctx ≡ b → p.token.kind ≡ Yield → p.token.escaped ≡ false → f.yield_ ≡ false
     by true i k e = absurd (n (record { kind = k; plain = e; yields = i }))
     by false i k e = sym (ap (λ (g : Flags). g.yield_) a.flags_are) ∙ i
 
-    go : (b : Bool) → escaped_word p.token.kind p.token.escaped ≡ b → NoYield text f p.prev_token_end
-    go true e = fails_escaped a e
-    go false e = no_yield a (λ k. by (has_flag yield_flag p.ctx) refl k (plain_word p.token k refl e))
+    go : (e : Bool) → p.token.escaped ≡ e → NoYield text f p.prev_token_end
+    go true e = no_yield_escaped a e
+    go false e = no_yield a (λ k. by (has_flag yield_flag p.ctx) refl k e)
 
 unmoved_yield : {p q : Parser} → Standing p → Unmoved p q → (BeginsYield p → ⊥) → (text : List ℕ) (f : Flags) → At text f q → NoYield text f q.prev_token_end
 unmoved_yield {p} {q} a u n text f b = subst (λ (s : ℕ). NoYield text f s) (sym u.place) (no_yield_here (before_unmoved a u b) n)
@@ -734,7 +742,7 @@ behind g v = grown_on g v
 -- the body: in braces where a brace stands, else an expression
 to_body : {text : List ℕ} {f : Flags} {X : Test} {r : Parser} (m : Bool) → At text f r → (b : Bool) → same_kind LCurly r.token.kind ≡ b → Goes rule (Lex text) X end (body_slots m f) r.prev_token_end (such (body_of b m f) always) r.prev_token_end (λ us. us) (still 0)
 unfolding covers apart
-to_body {r = r} m a true c = left (part_fails {X' = plain full} (fails_look (other (is LCurly)) (λ y l z. let e = kind_here a (sym (kind_of_same LCurly r.token.kind c)) refl y l in braced y e (read_plain y l.1 e refl) z)) (record { admits = λ ts us vs j k ls mid rest d d' e. (refl, refl) }))
+to_body {r = r} m a true c = left (part_fails {X' = plain full} (fails_look (other (is LCurly)) (λ y l z. let e = kind_here a (sym (kind_of_same LCurly r.token.kind c)) refl y l in braced y e (read_plain y l e refl) z)) (record { admits = λ ts us vs j k ls mid rest d d' e. (refl, refl) }))
   where
     braced : (y : Lexeme) → y.kind ≡ LCurly → y.escaped ≡ false → IsTrue (seen (other (is LCurly)) y) → ⊥
     braced y k n z = let w : not (same_kind LCurly y.kind && not y.escaped) ≡ false = rw (k, n) refl in false≢true (sym w ∙ z)

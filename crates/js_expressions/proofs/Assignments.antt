@@ -55,7 +55,7 @@ use Rattle.js_parsing.proofs.Paths.{Path, ◌⟼◌, ◌⟶◌, ◌⟶✗◌, to
 use Rattle.js_parsing.proofs.Signs.{none_kept, plain_of}
 use Rattle.js_targets.proofs.Targets.{of_short}
 use Rattle.js_parsing.proofs.Escapes.{read_listed}
-use Rattle.js_parsing.proofs.Tight.{plain_is_read, plain_lex, plain_is_none}
+use Rattle.js_parsing.proofs.Tight.{plain_lex, plain_is_none}
 
 -- the sign behind was told whole
 pub shifted : {text : List ℕ} {f : Flags} {n : Symbol} {p q t : Parser} {id : NodeId} {power : ℕ} → Numbered text f n p q id → Tightness text f q t power → Numbered text f n p t id
@@ -103,7 +103,7 @@ module _ {text : List ℕ} {f : Flags} {p q : Parser} (x : Answer text f (at Sho
   sign_here y l r = sym (told_plain x.at c y r l).kind
 
   pub all_assign : (y : Lexeme) → Plain text q.prev_token_end y → IsTrue (seen an_assign y)
-  all_assign y l = let m = subst (λ (k : Kind). one_of_kinds assign_operators k ≡ true) (sym (sign_here y (plain_lex l) (plain_is_none y l.1))) u in and_from _ _ m (ap not (read_listed assign_operators y (plain_is_read y l.1) m refl))
+  all_assign y l = let m = subst (λ (k : Kind). one_of_kinds assign_operators k ≡ true) (sym (sign_here y (plain_lex l) (plain_is_none y l.1))) u in and_from _ _ m (ap not (read_listed assign_operators y (plain_lex l) m refl))
 
   pub plain_here : q.token.escaped ≡ false
   plain_here = let z = found x.at c (assigns q.token.kind u).no_end in z.2.escaped ∙ plain_of q.token.kind z.1.word z.0.escaped (subst (λ (v : Kind). z.0.escaped ≡ is_escaped v z.1.word) (sym z.2.kind) z.1.escaped) (assigns q.token.kind u).unescaped
@@ -193,10 +193,10 @@ assign_marked {text} {f} {p} {q} a x c u b e start d k = subst (λ (v : List ℕ
     stood =
         let z = found x.at c g.no_end in
         let n : z.0.escaped ≡ false = plain_of q.token.kind z.1.word z.0.escaped (subst (λ (v : Kind). z.0.escaped ≡ is_escaped v z.1.word) (sym z.2.kind) z.1.escaped) g.unescaped in
-        (z.0, (z.1, read_of z.0 (sym z.2.kind) n g.is_read), sym z.2.kind)
+        (z.0, (z.1, read_of z.0 (sym z.2.kind) g.is_read), sym z.2.kind)
 
     stood_sign : IsTrue (seen an_assign stood.0)
-    stood_sign = let m = subst (λ (v : Kind). one_of_kinds assign_operators v ≡ true) (sym stood.2) u in and_from _ _ m (ap not (read_listed assign_operators stood.0 stood.1.1 m refl))
+    stood_sign = let m = subst (λ (v : Kind). one_of_kinds assign_operators v ≡ true) (sym stood.2) u in and_from _ _ m (ap not (read_listed assign_operators stood.0 stood.1 m refl))
 
     follows : (l : Label) (cs : Slots) (t : Tree) → target_of l cs ≡ Some t → IsTrue (seen (follow (at Short f) (edge_of l cs)) stood.0)
     follows l cs t h = subst (λ (r : Row). IsTrue (seen (looser 4 f.in_ r) stood.0)) (sym (row_of_target l cs t h)) (covered an_assign (looser 4 f.in_ after_expression) (short_follows f.in_) stood.0.kind stood.0.newline stood.0.escaped stood_sign)

@@ -38,17 +38,16 @@ use Rattle.js_cursor.proofs.Later.{follows_on}
 use Rattle.js_parsing.specs.Answers.{Underived}
 use Rattle.js_parsing.specs.Contexts.{arrow_head}
 use Rattle.js_parsing.specs.Heads.{NoHead, OnlyArrow}
-use Rattle.js_parsing.specs.Lexemes.{Lex, escaped_word, is_read, name_kinds, other_goals, read_kinds, signs}
+use Rattle.js_parsing.specs.Lexemes.{Lex, name_kinds, other_goals, read_kinds, signs, read_word}
 use Rattle.js_parsing.specs.Moves.{Moved, Moves}
 use Rattle.js_parsing.specs.Stands.{StandsHere}
 use Rattle.js_parsing.specs.States.{At, Standing}
-use Rattle.js_parsing.proofs.Giving.{fails_escaped}
 use Rattle.js_parsing.proofs.Here.{found, kind_here, one_plain, plainly, told, uncut, unsettled}
 use Rattle.js_parsing.proofs.Moving.{same_both}
 use Rattle.js_parsing.proofs.NameKinds.{name_apart, name_read, name_whole}
 use Rattle.js_parsing.proofs.Paths.{fails_at, read_of, walked_both, walked_one}
-use Rattle.js_parsing.proofs.Signs.{other_kind, plain_sign}
-use Rattle.js_parsing.proofs.Escapes.{no_name_where, plain_word, read_as, read_unnamed, read_word_plain}
+use Rattle.js_parsing.proofs.Signs.{other_kind}
+use Rattle.js_parsing.proofs.Escapes.{read_as, read_plain, plain_or_word}
 use Rattle.js_parsing.proofs.Verdicts.{grown_then}
 use Rattle.js_operands.proofs.Operands.{name_signless}
 use Rattle.js_targets.proofs.ArraysBeforeSigns.{array_part, is_cover}
@@ -57,7 +56,7 @@ use Rattle.js_expressions.specs.Arrows.{AsyncHead, list_head, name_head, AsyncHe
 use Rattle.js_expressions.specs.declared.arrow.ArrowHead.{ArrowHead}
 use Rattle.js_expressions.specs.HeadOperands.{NoTargetPart}
 use Rattle.js_expressions.specs.Lists.{NoParameters, parameters_of}
-use Rattle.js_expressions.proofs.Arrows.{from_unmoved, given_behind, head_one, no_arrow, no_arrow_behind, no_async_here, no_head_no_line, no_plain_led, plain_head_flags, unmoved, unmoved_went_on, went_back}
+use Rattle.js_expressions.proofs.Arrows.{from_unmoved, given_behind, head_one, no_arrow, no_arrow_behind, no_async_here, no_head_no_line, no_plain_led, plain_head_flags, unmoved, unmoved_went_on, went_back, no_async_escaped}
 use Rattle.js_expressions.proofs.CalledFronts.{Front, word_alone, with_arguments, word_front}
 use Rattle.js_lex.specs.Reading.{Tells, is_right_angle}
 use Rattle.js_lex.proofs.Again.{cut_same}
@@ -85,7 +84,7 @@ one_passed (the_last {x = x} {ls = ls} m) = (x, ls, refl)
 one_passed (and_more {x = x} {ls = ls} m o) = (x, ls, refl)
 
 abbrev a_head_there : Look
-a_head_there k w e = begins_head k w e && (not w && not (escaped_word k e))
+a_head_there k w e = begins_head k w e && (not w && (not e || read_word k))
 
 -- an operand doesn't end before a head on its line
 head_binds : (b : Bool) → covers a_head_there (λ k w e. not (looser 2 b after_expression k w e)) ≡ true
@@ -181,14 +180,11 @@ module _ {text : List ℕ} {f : Flags} {s t : ℕ} (w : (y : Lexeme) → Lex tex
       lexed : Lexes (Lex text) j rest
       lexed = lexed_behind (Lex text) d l
 
-      is_read_there : IsTrue (is_read (here rest))
-      is_read_there = (here_at (Lex text) rest lexed).1
-
       by : Stood text t ts rest → ⊥
       by (behind_word m i) =
           let y = b (here rest) (here_at (Lex text) rest m) in
-          contrary (seen (looser 2 f.in_ (first_row ts)) (here rest)) (subst (λ (r : Row). not (seen (looser 2 f.in_ r) (here rest)) ≡ true) (sym i) (covered a_head_there (λ k w e. not (looser 2 f.in_ after_expression k w e)) (head_binds f.in_) (here rest).kind (here rest).newline (here rest).escaped (and_from _ _ y.1 (and_from _ _ (ap not y.0) (ap not (read_word_plain (here rest) is_read_there)))))) a
-      by (at_arrow u) = contrary (seen (looser 2 f.in_ (first_row ts)) (here rest)) (covered an_arrow (λ k w e. not (looser 2 f.in_ (first_row ts) k w e)) (arrow_binds f.in_ (first_row ts) (row_claimed d)) (here rest).kind (here rest).newline (here rest).escaped (and_from _ _ u (ap not (read_unnamed (here rest) is_read_there (no_name_where (same_kind Arrow) (here rest).kind u refl))))) a
+          contrary (seen (looser 2 f.in_ (first_row ts)) (here rest)) (subst (λ (r : Row). not (seen (looser 2 f.in_ r) (here rest)) ≡ true) (sym i) (covered a_head_there (λ k w e. not (looser 2 f.in_ after_expression k w e)) (head_binds f.in_) (here rest).kind (here rest).newline (here rest).escaped (and_from _ _ y.1 (and_from _ _ (ap not y.0) (plain_or_word (here rest) (here_at (Lex text) rest m)))))) a
+      by (at_arrow u) = contrary (seen (looser 2 f.in_ (first_row ts)) (here rest)) (covered an_arrow (λ k w e. not (looser 2 f.in_ (first_row ts) k w e)) (arrow_binds f.in_ (first_row ts) (row_claimed d)) (here rest).kind (here rest).newline (here rest).escaped (and_from _ _ u (ap not (read_plain (here rest) (here_at (Lex text) rest lexed) (sym (kind_of_same Arrow (here rest).kind u)) refl)))) a
 
   conditional_fails : Fails rule (Lex text) (after (at Assignment f)) end (such (at Conditional f) always) s
   unfolding rule rule_of
@@ -285,7 +281,7 @@ module _ {text : List ℕ} {f : Flags} {q w : Parser} {id : NodeId} (a : At text
   behind_so : AsyncHead text f q w id → Behind text f q.prev_token_end
   unfolding apart
   behind_so (list_head k h n) = list_behind (λ y l. kind_here a k refl y l) n
-  behind_so (name_head k e h n) = name_behind (λ y l.
+  behind_so (name_head k h n) = name_behind (λ y l.
       let t = told a (name_whole a k).0 (name_signless q.token.kind k) y l in
       ((λ i. false≢true (sym (name_apart (LParen ∷ []) refl q.token.kind k) ∙ ap (one_of_kinds (LParen ∷ [])) (t.kind ∙ i))), λ z m. n z (subst (λ (v : ℕ). Lex text v z) (sym t.end) m)))
 
@@ -293,11 +289,11 @@ module _ {text : List ℕ} {f : Flags} {q w : Parser} {id : NodeId} (a : At text
   on_its_line b (list_head k h n) =
       let y = found a (uncut a (ap (same_kind RAngle) k)) (ap is_last k) in
       let e : y.0.kind ≡ LParen = sym y.2.kind ∙ k in
-      y.2.newline ∙ (b y.0 (y.1, read_of y.0 e (sym y.2.escaped ∙ plain_sign LParen a k refl refl paren_plain) refl)).0
-  on_its_line b (name_head k e h n) =
+      y.2.newline ∙ (b y.0 (y.1, read_of y.0 e refl)).0
+  on_its_line b (name_head k h n) =
       let u = name_whole a k in
       let y = found a u.0 u.1 in
-      y.2.newline ∙ (b y.0 (y.1, read_as y.0 y.2 e (name_read q.token.kind k))).0
+      y.2.newline ∙ (b y.0 (y.1, read_as y.0 y.2 (name_read q.token.kind k))).0
 
 -- what was told of parameters behind the word
 told_before : {text : List ℕ} {f : Flags} {p q w : Parser} {id : NodeId} → Moved text f p q → ToldHead text f q w id → ToldHead text f p w id
@@ -342,7 +338,7 @@ module _ {p q : Parser} (k : StandsHere p Async true) (b : (text : List ℕ) (f 
       before : AsyncHead text f q w id → BeforeArrow true text f p w id
       before (list_head e (read_clean h) n) = led_head q passed h only
       before (list_head e (read_unclean t h) n) = told_led (told_before m t) (underived e h)
-      before (name_head e i h n) = led_head q passed h only
+      before (name_head e h n) = led_head q passed h only
 
     async_head : IsHeadBefore true p w id
     async_head = (x.0, (λ text f a. before a (head a)), λ text f a i. inr (k.0, no_target_there a k.0 (b text f a) (behind_there a)))
@@ -414,7 +410,7 @@ module _ {text : List ℕ} {f : Flags} {p : Parser} {t : Token} (a : At text f p
   async_late k w = led_unless a k (λ y l n b. false≢true (sym n ∙ (sym (head_told y l b).newline ∙ w)))
 
   async_other : p.token.kind ≡ Async → one_of_kinds (LParen ∷ name_kinds) t.kind ≡ false → NoLed true text f p.prev_token_end
-  async_other k q = led_unless a k (λ y l n b. false≢true (sym q ∙ (ap (one_of_kinds (LParen ∷ name_kinds)) (head_told y l b).kind ∙ covered (λ k w e. begins_head k w e && one_of_kinds read_kinds k) a_first begins_first y.kind y.newline y.escaped (and_from _ _ b (and_parts (one_of_kinds read_kinds y.kind) _ l.1).0))))
+  async_other k q = led_unless a k (λ y l n b. false≢true (sym q ∙ (ap (one_of_kinds (LParen ∷ name_kinds)) (head_told y l b).kind ∙ covered (λ k w e. begins_head k w e && one_of_kinds read_kinds k) a_first begins_first y.kind y.newline y.escaped (and_from _ _ b l.1))))
 
   -- no parenthesis stands behind the word
   pub list_other : p.token.kind ≡ Async → (t.kind ≡ LParen → ⊥) → NoParameters true text f p.prev_token_end
@@ -441,11 +437,11 @@ pub async_on_new_line : {p : Parser} {t : Token} → StandsHere p Async true →
 async_on_new_line k h w = λ text f a. async_late a h k.0 w
 
 pub no_async_word : {p : Parser} → StandsHere p Async false → NoAsyncHere p
-no_async_word {p} n = λ text f a. by (escaped_word p.token.kind p.token.escaped) refl a
+no_async_word {p} n = λ text f a. by p.token.escaped refl a
   where
-    by : {text : List ℕ} {f : Flags} (b : Bool) → escaped_word p.token.kind p.token.escaped ≡ b → At text f p → NoLed true text f p.prev_token_end
-    by true e a = fails_escaped a e
-    by false e a = no_async_here a (other_kind Async p.token.kind (λ k. n k (plain_word p.token k refl e)))
+    by : {text : List ℕ} {f : Flags} (e : Bool) → p.token.escaped ≡ e → At text f p → NoLed true text f p.prev_token_end
+    by true e a = no_async_escaped a e
+    by false e a = no_async_here a (other_kind Async p.token.kind (λ k. n k e))
 
 pub begins_so : (p q : Parser) {b r : Bool} → r ≡ b → AsyncHeadBegins p q r → AsyncHeadBegins p q b
 begins_so p q e h = subst (λ (v : Bool). AsyncHeadBegins p q v) e h

@@ -117,7 +117,7 @@ begun_lexed (operands o h x) ls i = x.around.passes.lexed ls i
 
 module _ {text : List ℕ} {f : Flags} where
   sign_here : {q : Parser} → At text f q → q.token.kind ≡ Question2 → AllSigns text f q.prev_token_end
-  sign_here a k y l = and_from _ _ (subst (λ (v : Kind). same_kind Question2 v ≡ true) (sym (kind_here a k refl y l)) refl) (ap not (read_plain y l.1 (kind_here a k refl y l) refl))
+  sign_here a k y l = and_from _ _ (subst (λ (v : Kind). same_kind Question2 v ≡ true) (sym (kind_here a k refl y l)) refl) (ap not (read_plain y l (kind_here a k refl y l) refl))
 
   sign_none : {q : Parser} → At text f q → (q.token.kind ≡ Question2 → ⊥) → NoSign text f q.prev_token_end
   unfolding apart
@@ -144,7 +144,7 @@ module _ {text : List ℕ} {f : Flags} where
   }
     where
       no_kind : (y : Lexeme) → Lex text q.prev_token_end y → one_of_kinds (Question2 ∷ []) y.kind ≡ false
-      no_kind y l = other_kind Question2 y.kind (λ e. sign_none s.at n y l (and_from _ _ (subst (λ (v : Kind). same_kind Question2 v ≡ true) (sym e) refl) (ap not (read_plain y l.1 e refl))))
+      no_kind y l = other_kind Question2 y.kind (λ e. sign_none s.at n y l (and_from _ _ (subst (λ (v : Kind). same_kind Question2 v ≡ true) (sym e) refl) (ap not (read_plain y l e refl))))
 
   sign_plain : {q : Parser} → At text f q → q.token.kind ≡ Question2 → q.token.escaped ≡ false
   unfolding words
@@ -298,7 +298,7 @@ module _ {text : List ℕ} {f : Flags} where
           right_lexed = read.1.goes.passes.lexed (last y) l
 
           left_lexed : Lexes (Lex text) q.prev_token_end behind_left
-          left_lexed = ((m.stood, read_of m.lexeme sign_is (sym m.tells.escaped ∙ sign_plain s.at k) refl), subst (λ (e : ℕ). Lexes (Lex text) e (x.answer.pass (last y))) (sym m.ends) right_lexed)
+          left_lexed = ((m.stood, read_of m.lexeme sign_is refl), subst (λ (e : ℕ). Lexes (Lex text) e (x.answer.pass (last y))) (sym m.ends) right_lexed)
 
           all_lexed : Lexes (Lex text) p.prev_token_end (s.pass behind_left)
           all_lexed = begun_lexed read.0 behind_left left_lexed

@@ -1,4 +1,5 @@
 -- Conditional expressions (ECMA-262, 13.14), and an AssignmentExpression that is none.
+use Rattle.js_base.proofs.KindLemmas.{kind_of_same}
 use Rattle.js_parsing.proofs.Signs.{plain_sign, other_kind}
 use Rattle.std.proofs.Common.{ℕ, ◌≡◌, ◌≤◌, List, [], ◌∷◌, length, Bool, true, false, not, ◌&&◌, ◌||◌, IsTrue, Some, None, refl, sym, ap, subst, arith, ◌∙◌}
 use Rattle.std.specs.Prelude.{Err}
@@ -56,8 +57,8 @@ use Rattle.js_parsing.proofs.Moving.{same_both}
 use Rattle.js_operands.proofs.Operands.{by_path}
 use Rattle.js_parsing.proofs.Paths.{Path, ◌⟼◌, ◌⟶◌, ◌⟶✗◌, fails_at, not_here, token, called, last_called, noded_by, by_symbol_as, label_here}
 use Rattle.js_parsing.proofs.Phrases.{lift, lift_fails, narrow_operand, operand_assigned}
-use Rattle.js_parsing.proofs.Escapes.{no_name_where, read_listed, read_plain, read_unnamed}
-use Rattle.js_parsing.proofs.Tight.{narrows, plain_is_read, plain_lex, plain_so}
+use Rattle.js_parsing.proofs.Escapes.{read_listed, read_plain}
+use Rattle.js_parsing.proofs.Tight.{narrows, plain_lex, plain_so}
 use Rattle.js_parsing.specs.Classes.{EndsParse}
 
 pub question_plain : (is_word Question || same_kind PrivateIdentifier Question) ≡ false
@@ -165,7 +166,7 @@ module _ {text : List ℕ} {f : Flags} {p q : Parser} (x : Answer text f (at Sho
 
   behind_alone : one_of_kinds (Question ∷ []) q.token.kind ≡ false → ((y : Lexeme) → Lex text q.prev_token_end y → IsTrue (seen an_assign y) → ⊥) → (y : Lexeme) → Plain text q.prev_token_end y → IsTrue (seen (looser 2 f.in_ (row_of x.label x.slots)) y || seen beside y)
   unfolding covers
-  behind_alone n z y l = narrows 3 2 assign_operators f.in_ (row_of x.label x.slots) (narrow_operand 3 2 assign_operators refl refl refl refl f.in_ (row_of x.label x.slots) x.row) y l.1 (none_here assign_operators x.at y (λ h. z y (plain_lex l) (and_from _ _ h (ap not (read_listed assign_operators y (plain_is_read y l.1) h refl))))) (behind_test n y l)
+  behind_alone n z y l = narrows 3 2 assign_operators f.in_ (row_of x.label x.slots) (narrow_operand 3 2 assign_operators refl refl refl refl f.in_ (row_of x.label x.slots) x.row) y l.1 (none_here assign_operators x.at y (λ h. z y (plain_lex l) (and_from _ _ h (ap not (read_listed assign_operators y (plain_lex l) h refl))))) (behind_test n y l)
 
   -- a `?` is no assignment operator
   no_sign : q.token.kind ≡ Question → (y : Lexeme) → Lex text q.prev_token_end y → IsTrue (seen an_assign y) → ⊥
@@ -176,7 +177,7 @@ module _ {text : List ℕ} {f : Flags} {p q : Parser} (x : Answer text f (at Sho
   no_end e = fails_nothing (λ ts y l h. no y l h.1)
     where
       asked : (y : Lexeme) → Lex text q.prev_token_end y → (same_kind Question y.kind && not y.escaped) ≡ true
-      asked y l = let k = kind_here x.at e refl y l in rw (k, read_plain y l.1 k refl) refl
+      asked y l = let k = kind_here x.at e refl y l in rw (k, read_plain y l k refl) refl
 
       no : (y : Lexeme) → Lex text q.prev_token_end y → IsTrue (seen (looser 2 f.in_ (row_of x.label x.slots)) y) → ⊥
       no y l h = contrary (seen (looser 2 f.in_ (row_of x.label x.slots)) y) (covered a_question (λ k w e. not (looser 2 f.in_ (row_of x.label x.slots) k w e)) (question_binds f.in_ (row_of x.label x.slots) x.row) y.kind y.newline y.escaped (asked y l)) h
@@ -260,7 +261,7 @@ no_conditional {text} {f} {p} {q} x n s = fails_rule {X' = after (at Assignment 
         no_part o n = let z = brace_stands l o n in false≢true (ap (one_of_kinds assign_operators) (sym z.2) ∙ (and_parts (one_of_kinds assign_operators z.0.kind) _ (s z.0 z.1)).0)
 
         of_another : (b : Bool) → same_kind RegExp y.kind ≡ b → one_of_kinds other_goals y.kind ≡ true → ⊥
-        of_another true e o = contrary (seen (looser 2 f.in_ (row_of x.label x.slots)) y) (covered a_pattern (λ k w e. not (looser 2 f.in_ (row_of x.label x.slots) k w e)) (pattern_binds f.in_ (row_of x.label x.slots) x.row) y.kind y.newline y.escaped (and_from _ _ e (ap not (read_unnamed y l.1 (no_name_where (same_kind RegExp) y.kind e refl))))) h
+        of_another true e o = contrary (seen (looser 2 f.in_ (row_of x.label x.slots)) y) (covered a_pattern (λ k w e. not (looser 2 f.in_ (row_of x.label x.slots) k w e)) (pattern_binds f.in_ (row_of x.label x.slots) x.row) y.kind y.newline y.escaped (and_from _ _ e (ap not (read_plain y l (sym (kind_of_same RegExp y.kind e)) refl)))) h
         of_another false e o = no_part o e
 
         by : (b : Bool) → one_of_kinds other_goals y.kind ≡ b → ⊥

@@ -151,7 +151,7 @@ module _ {text : List ℕ} {f : Flags} where
   star_none {q} a n y l h = not_here a (Star2 ∷ []) refl (other_kind Star2 q.token.kind n) y l (or_left (same_kind Star2 y.kind) false (and_parts (same_kind Star2 y.kind) (not y.escaped) h).0)
 
   star_here : {q : Parser} → At text f q → q.token.kind ≡ Star2 → (y : Lexeme) → Lex text q.prev_token_end y → IsTrue (seen (is Star2) y)
-  star_here a k y l = and_from _ _ (subst (λ (v : Kind). same_kind Star2 v ≡ true) (sym (kind_here a k refl y l)) refl) (ap not (read_plain y l.1 (kind_here a k refl y l) refl))
+  star_here a k y l = and_from _ _ (subst (λ (v : Kind). same_kind Star2 v ≡ true) (sym (kind_here a k refl y l)) refl) (ap not (read_plain y l (kind_here a k refl y l) refl))
 
 -- ---- an operand alone
 
@@ -164,7 +164,7 @@ power_alone {text} {f} {p} {q} x n =
     (λ y l. narrows 16 15 (Star2 ∷ []) f.in_ r (narrow_operand 16 15 (Star2 ∷ []) refl refl refl refl f.in_ r x.answer.row) y l.1 (no_kind y (plain_lex l)) (x.answer.stops y l))
   where
     no_kind : (y : Lexeme) → Lex text q.prev_token_end y → one_of_kinds (Star2 ∷ []) y.kind ≡ false
-    no_kind y l = other_kind Star2 y.kind (λ e. star_none x.answer.at n y l (and_from _ _ (subst (λ (v : Kind). same_kind Star2 v ≡ true) (sym e) refl) (ap not (read_plain y l.1 e refl))))
+    no_kind y l = other_kind Star2 y.kind (λ e. star_none x.answer.at n y l (and_from _ _ (subst (λ (v : Kind). same_kind Star2 v ≡ true) (sym e) refl) (ap not (read_plain y l e refl))))
 
 pub power_none : (text : List ℕ) (f : Flags) (s : ℕ) → Underived text (at Unary f) s → Underived text (at Exponent f) s
 unfolding rule rule_of
@@ -277,7 +277,7 @@ module _ {text : List ℕ} {f : Flags} {p q : Parser} {id : NodeId} (a : At text
   star =
       let z = found x.answer.at (uncut x.answer.at (ap (same_kind RAngle) k)) (ap is_last k) in
       let e : q.token.escaped ≡ false = plain_sign Star2 x.answer.at k refl refl refl in
-      (z.0, (z.1, read_of z.0 (sym z.2.kind ∙ k) (sym z.2.escaped ∙ e) refl), sym z.2.kind ∙ k)
+      (z.0, (z.1, read_of z.0 (sym z.2.kind ∙ k) refl), sym z.2.kind ∙ k)
 
   base_node : begins_by_unary f.awaits p.token.kind ≡ true → {l : Label} {cs : Slots} {ls : Lexemes} → Lexes (Lex text) p.prev_token_end ls → Takes rule (rule (at Unary f)) end (tree l cs end) p.prev_token_end ls end q.prev_token_end (last star.0) → (l.kind ≡ unary_expression) ⊎ (l.kind ≡ await_expression)
   unfolding rule rule_of apart

@@ -13,7 +13,7 @@ use Rattle.js_cursor.proofs.Later.{follows_on}
 use Rattle.js_parsing.specs.Answers.{Grown}
 use Rattle.js_parsing.specs.Contexts.{EntersAsyncHead, arrow_head}
 use Rattle.js_parsing.specs.Heads.{NoHead, widened}
-use Rattle.js_parsing.specs.Lexemes.{Lex, escaped_word, name_kinds}
+use Rattle.js_parsing.specs.Lexemes.{Lex, name_kinds}
 use Rattle.js_parsing.specs.Stands.{NameHere, StandsHere}
 use Rattle.js_parsing.specs.States.{At, IsPlain, Same, Standing, flags_of, whole, sign, nothing as none_stands}
 use Rattle.js_parsing.proofs.Contexts.{async_head_at}
@@ -147,7 +147,7 @@ module _ (b : Bool) {p e : Parser} {c d : Context} (a : Standing p) (i : d ≡ p
 
 module _ {p e : Parser} {c d : Context} (a : Standing p) (i : d ≡ p.ctx) (s : EntersHead true d c) (h : e ≡ record p { ctx = c }) where
   pub name_read : (q : Parser) {w : Parser} → NameHere e true → w ≡ record q { ctx = d } → (found : Option NodeId) → NamesHead e q found → HeadBehindAsync p w found
-  name_read q {w} n j (Some id) x = (ap (λ (z : Parser). z.token.kind) j ∙ x.0, λ text f b. name_head (ap (λ (z : Parser). one_of_kinds name_kinds z.token.kind) (sym h) ∙ listed_here e n) (ap (λ (z : Parser). escaped_word z.token.kind z.token.escaped) (sym h) ∙ n.1) (named_back true a i s h j x text f b) (arrow text f b))
+  name_read q {w} n j (Some id) x = (ap (λ (z : Parser). z.token.kind) j ∙ x.0, λ text f b. name_head (ap (λ (z : Parser). one_of_kinds name_kinds z.token.kind) (sym h) ∙ listed_here e n) (named_back true a i s h j x text f b) (arrow text f b))
     where
       arrow : (text : List ℕ) (f : Flags) → At text f p → (y : Lexeme) → Lex text p.token.span.end y → y.kind ≡ Arrow
       arrow text f b y l =

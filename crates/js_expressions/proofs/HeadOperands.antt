@@ -79,7 +79,7 @@ none_before_arrow {text} {f} {o} {p} x n k z = record { no = λ ts vs j ls rest 
         let r : (here rest).kind ≡ Arrow = kind_here x.at k refl (here rest) m in
         let b : IsTrue (seen (looser 2 f.in_ (row_of x.label x.slots)) (here rest)) = subst (λ (v : Slots). IsTrue (seen (follow (at Assignment f) (first_edge v)) (here rest))) y.2 a.1 in
         contrary (seen (looser 2 f.in_ after_expression) (here rest))
-        (covered an_arrow (λ k w e. not (looser 2 f.in_ after_expression k w e)) (paren_binds f.in_) (here rest).kind (here rest).newline (here rest).escaped (and_from _ _ (ap (same_kind Arrow) r) (ap not (read_plain (here rest) m.1 r refl))))
+        (covered an_arrow (λ k w e. not (looser 2 f.in_ after_expression k w e)) (paren_binds f.in_) (here rest).kind (here rest).newline (here rest).escaped (and_from _ _ (ap (same_kind Arrow) r) (ap not (read_plain (here rest) m r refl))))
         (subst (λ (v : Row). IsTrue (seen (looser 2 f.in_ v) (here rest))) (paren_row x.label x.slots n) b)
 
 pub refused_so : (id : NodeId) (kept : ℕ) (p : Parser) {r : Bool} → r ≡ true → IsRefusedHead id kept p r → (length p.errors ≡ kept → ⊥) × (p.token.kind ≡ Arrow) × ((node_at p.nodes id).kind ≡ ParenthesizedExpression)

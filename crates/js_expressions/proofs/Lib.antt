@@ -3,6 +3,8 @@ pub mod ArraysAssigned
 pub mod AsyncHeads
 pub mod Arrows
 pub mod Assignments
+pub mod ClosedOperands
+pub mod ClosingSigns
 pub mod Closings
 pub mod CalledFronts
 pub mod CoalesceOperands
@@ -26,4 +28,5 @@ pub mod SlashOperators
 pub mod SlashesInText
 pub mod Updates
 pub mod Awaits
+pub mod BinaryOperators
 pub mod Yields

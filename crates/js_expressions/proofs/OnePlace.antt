@@ -15,7 +15,6 @@ use Rattle.js_parsing.specs.Lexemes.{Lex, Plain, is_read, other_goals, signs, si
 use Rattle.js_parsing.proofs.Here.{Plainly, plain_there, plainly, signs_are}
 use Rattle.js_parsing.proofs.Paths.{read_of}
 use Rattle.js_parsing.proofs.Slashes.{sign_there, tail_goal}
-use Rattle.js_parsing.proofs.Escapes.{read_listed}
 use Rattle.js_parsing.proofs.Tight.{plain_so}
 
 -- ---- kinds
@@ -162,5 +161,5 @@ pub brace_stands : {text : List ℕ} {s : ℕ} {y : Lexeme} → Lex text s y →
 brace_stands {y = y} l o n =
     let z = sign_there l.0 o in
     let k : z.lexeme.kind ≡ RCurly = brace_of y.kind z.lexeme.kind o n z.is in
-    let r : IsTrue (is_read z.lexeme) = read_of z.lexeme k (z.escaped ∙ read_listed other_goals y l.1 o refl) refl in
+    let r : IsTrue (is_read z.lexeme) = read_of z.lexeme k refl in
     (z.lexeme, (z.stands.lex, plain_so z.lexeme r (ap (one_of_kinds other_goals) k)), k)

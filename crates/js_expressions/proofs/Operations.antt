@@ -3,23 +3,24 @@ use Rattle.std.proofs.Common.{ℕ, zero, suc, ◌≡◌, ◌<◌, ◌≤◌, ◌
 use Rattle.std.proofs.lemmas.Bool.{false≢true, and_parts, or_left, or_right, ltb-true, lt-ltb}
 use Rattle.js_base.specs.declared.diagnostic.Diagnostic.{Diagnostic}
 use Rattle.js_base.specs.declared.kind.Kind.{Kind}
-use Rattle.js_base.specs.declared.kind.Kind.TheVariants.{Ident, PrivateIdentifier, Eof, RegExp, Slash, Undetermined}
-use Rattle.js_base.proofs.KindLemmas.{kind_of_same}
-use Rattle.js_base.specs.Kinds.{same_kind, one_of_kinds}
+use Rattle.js_base.specs.declared.kind.Kind.TheVariants.{PrivateIdentifier, Eof, RegExp, Slash, Undetermined}
+use Rattle.js_base.specs.Kinds.{one_of_kinds}
+use Rattle.js_grammar.proofs.FirstClaims.{firsts}
+use Rattle.js_grammar.proofs.First.{starts}
 use Rattle.js_grammar.specs.Trees.{Label, Slots, end, tree}
 use Rattle.js_grammar.specs.Grammar.{Lexeme, Lexemes, next, seen, seq, such, nothing}
 use Rattle.js_grammar.specs.Insertion.{Row, edge_is_last}
-use Rattle.js_grammar.specs.Parsing.{Test, Goes, always, passing}
-use Rattle.js_grammar.specs.Productions.{G, Flags, at, tok, Exponent}
+use Rattle.js_grammar.specs.Parsing.{Test, Goes, always, passing, full, Reads, Way}
+use Rattle.js_grammar.specs.Productions.{G, Flags, at, tok, Exponent, Symbol}
 use Rattle.js_grammar.specs.Table.{rule}
-use Rattle.js_grammar.specs.Levels.{level_at, node_at, operators_at, operators_of}
+use Rattle.js_grammar.specs.Levels.{level_at, node_at, operators_at, operators_of, top_level, feet_at}
 use Rattle.js_grammar.specs.Follow.{row_of, tight, looser, after}
 use Rattle.js_grammar.proofs.Calculus.{◌▹◌, ◌▹✗◌}
-use Rattle.js_grammar.proofs.Towers.{OneOf, head, later, linked_label}
-use Rattle.js_grammar.proofs.Loops.{Around}
-use Rattle.js_grammar.proofs.Operators.{levels, operates}
+use Rattle.js_grammar.proofs.Towers.{OneOf, head, later, linked_label, Link, of_operations}
+use Rattle.js_grammar.proofs.Loops.{Around, Step, finish, part_at}
+use Rattle.js_grammar.proofs.Operators.{levels, operates, climbs}
 use Rattle.js_grammar.proofs.OperatorEdges.{level_looser, operator_exactly, operator_level}
-use Rattle.js_grammar.proofs.OperatorLoops.{loop_start, loop_start_fails, loop_end}
+use Rattle.js_grammar.proofs.OperatorLoops.{loop_start, loop_start_fails}
 use Rattle.js_expressions.proofs.SlashOperators.{division_sign, operator_plain, slash_step, slash_step_fails}
 use Rattle.js_grammar.proofs.RightEdges.{of_operand, may_end}
 use Rattle.js_tree.specs.declared.id.NodeId.{NodeId}
@@ -35,8 +36,7 @@ use Rattle.js_parsing.specs.Operators.{power_of}
 use Rattle.js_parsing.specs.Answers.{Grown, Verdict, Stretch, Underived, Numbered, beside}
 use Rattle.js_parsing.proofs.Here.{told_plain, begins_here, found, plain_token, slash_here}
 use Rattle.js_parsing.proofs.Paths.{skips, read_of, walked_both, walked_one, walked_to, walked_from}
-use Rattle.js_parsing.proofs.Escapes.{no_name_where, read_plain, read_unnamed}
-use Rattle.js_parsing.proofs.Tight.{stops_by_power, power_listed, Level, level_of, operator_read, plain_is_none, plain_is_read, plain_lex, plain_so, power_anywhere}
+use Rattle.js_parsing.proofs.Tight.{stops_by_power, power_listed, Level, level_of, operator_read, plain_is_none, plain_lex, plain_so, power_anywhere}
 use Rattle.js_parsing.proofs.Verdicts.{verdict_of, either_way, and_then, behind_none, grown_then}
 use Rattle.js_parsing.proofs.Verdicts.{after as grown_behind}
 use Rattle.js_parsing.proofs.Moving.{same_both, same_with, beside_nodes}
@@ -68,7 +68,7 @@ pub record Operand (text : List ℕ) (f : Flags) (m : ℕ) (p q : Parser) (id : 
 
 -- no `#` is read
 no_hash : {text : List ℕ} {s : ℕ} (y : Lexeme) → Lex text s y → y.kind ≡ PrivateIdentifier → ⊥
-no_hash y l e = false≢true (subst (λ (k : Kind). one_of_kinds read_kinds k ≡ true) e (and_parts (one_of_kinds read_kinds y.kind) _ l.1).0)
+no_hash y l e = false≢true (subst (λ (k : Kind). one_of_kinds read_kinds k ≡ true) e l.1)
 
 -- the rows of operands
 level_rows : (f : Flags) (q : ℕ) (r : Row) → may_end (level_at f q).name r ≡ of_operand r
@@ -189,12 +189,9 @@ module _ {text : List ℕ} {f : Flags} where
     above : m ≤ it.level
     above = let h = strong.1 in let i = it.is in omega arith
 
-    no_name : same_kind Ident t.token.kind ≡ false
-    no_name = no_name_where (λ (k : Kind). nat_lt 0 (power_of f.in_ k)) t.token.kind (lt-ltb 0 (power_of f.in_ t.token.kind) (let h = strong.1 in omega arith)) refl
-
     -- the operator stands behind the operand
     here : (y : Lexeme) → Plain text q.prev_token_end y → (y.kind ≡ t.token.kind) × (y.escaped ≡ false)
-    here y l = let e : y.kind ≡ t.token.kind = sym (told_plain o.at o.uncut y (plain_is_none y l.1) (subst (λ (v : ℕ). Lex text v y) (sym o.place) (plain_lex l))).kind in (e, read_plain y (plain_is_read y l.1) e no_name)
+    here y l = let z = told_plain o.at o.uncut y (plain_is_none y l.1) (subst (λ (v : ℕ). Lex text v y) (sym o.place) (plain_lex l)) in (sym z.kind, sym z.escaped ∙ strong.0)
 
     -- a regular expression may stand in the place of the division sign
     pattern_here : (y : Lexeme) → Lex text q.prev_token_end y → y.kind ≡ RegExp → t.token.kind ≡ Slash
@@ -207,7 +204,7 @@ module _ {text : List ℕ} {f : Flags} where
     standing =
         let z = found o.at o.uncut not_last in
         let h = strong.1 in
-        (z.0, subst (λ (v : ℕ). Plain text v z.0) o.place (z.1, plain_so z.0 (read_of z.0 (sym z.2.kind) (sym z.2.escaped ∙ strong.0) (operator_read f.in_ t.token.kind true (omega arith)).0) (ap (one_of_kinds other_goals) (sym z.2.kind) ∙ plain_token o.at.plain)))
+        (z.0, subst (λ (v : ℕ). Plain text v z.0) o.place (z.1, plain_so z.0 (read_of z.0 (sym z.2.kind) (operator_read f.in_ t.token.kind true (omega arith)).0) (ap (one_of_kinds other_goals) (sym z.2.kind) ∙ plain_token o.at.plain)))
 
     -- it binds no tighter than what was read
     within : of_operand (row_of s.label s.slots) ≡ true → it.level ≤ s.cap
@@ -315,18 +312,31 @@ module _ {text : List ℕ} {f : Flags} where
 
   -- no operator of these levels stands here
   module _ {m : ℕ} {p q t : Parser} {id : NodeId} (s : Operand text f m p q id) {power : ℕ} (o : Tightness text f q t power) (c : power < m + 5) where
-    weak : (y : Lexeme) → Plain text q.prev_token_end y → power_of f.in_ y.kind < m + 5
+    weak : (y : Lexeme) → Plain text q.prev_token_end y → cond y.escaped 0 (power_of f.in_ y.kind) < m + 5
     weak y l =
         let z = told_plain o.at o.uncut y (plain_is_none y l.1) (subst (λ (v : ℕ). Lex text v y) (sym o.place) (plain_lex l)) in
-        let k : power_of f.in_ t.token.kind ≡ power_of f.in_ y.kind = ap (power_of f.in_) z.kind in
-        go k z.escaped (same_kind Ident y.kind) refl
-      where
-        go : power_of f.in_ t.token.kind ≡ power_of f.in_ y.kind → t.token.escaped ≡ y.escaped → (b : Bool) → same_kind Ident y.kind ≡ b → power_of f.in_ y.kind < m + 5
-        go k e true i = let n : power_of f.in_ y.kind ≡ 0 = ap (power_of f.in_) (sym (kind_of_same Ident y.kind i)) in omega arith
-        go k e false i = let h : power ≡ power_of f.in_ t.token.kind = o.is ∙ ap (λ (b : Bool). cond b 0 (power_of f.in_ t.token.kind)) (e ∙ read_unnamed y (plain_is_read y l.1) i) in omega arith
+        let e : power ≡ cond y.escaped 0 (power_of f.in_ y.kind) = o.is ∙ (λ i. cond (z.escaped i) 0 (power_of f.in_ (z.kind i))) in omega arith
 
-    no_operator : (q' : ℕ) → m ≤ q' → q' ≤ s.cap → (y : Lexeme) → Lex text q.prev_token_end y → OneOf y.kind (operators_at f q') → ⊥
-    no_operator q' a b y l i = let h = operator_level f q' i in let o = listed_low f.in_ q' i in let p : Plain text q.prev_token_end y = (l.0, plain_so y l.1 (operator_plain f q' i)) in let k = power_listed f.in_ y p.1 (omega arith) (omega arith) in let w = weak y p in absurd (omega arith)
+    no_operator : (q' : ℕ) → m ≤ q' → q' ≤ s.cap → (y : Lexeme) → Lex text q.prev_token_end y → y.escaped ≡ false → OneOf y.kind (operators_at f q') → ⊥
+    no_operator q' a b y l e i =
+        let h = operator_level f q' i in
+        let o = listed_low f.in_ q' i in
+        let p : Plain text q.prev_token_end y = (l.0, plain_so y l.1 (operator_plain f q' i)) in
+        let k = power_listed f.in_ y p.1 (omega arith) (omega arith) in
+        let w : power_of f.in_ y.kind < m + 5 = subst (λ (b : Bool). cond b 0 (power_of f.in_ y.kind) < m + 5) e (weak y p) in absurd (omega arith)
+
+    -- an operator has no escape
+    part_plain : (q' : ℕ) (x : Link Symbol) → Step (levels f) m s.cap q' x → (k : Kind) (w e : Bool) → starts firsts.first x.part full k w e ≡ true → e ≡ false
+    part_plain q' x st k w e h =
+        let y = of_operations (level_at f) node_at q' (operators_at f q') st.3 in
+        not_true e (and_parts _ _ (subst (λ (v : Link Symbol). starts firsts.first v.part full k w e ≡ true) y.2 h)).1
+      where
+        not_true : (b : Bool) → not b ≡ true → b ≡ false
+        not_true true i = absurd (false≢true i)
+        not_true false i = refl
+
+    operators_over : {ks : Slots} {l : Label} {cs : Slots} {from : ℕ} {way : Way} → Around (Lex text) (after (level_at f m)) (levels f) m p.prev_token_end from s.cap l cs q.prev_token_end way → Reads rule (Lex text) (after (level_at f m)) ks (such (level_at f m) always) p.prev_token_end q.prev_token_end (tree l cs) way
+    operators_over a = finish firsts refl (λ l cs vs y e. e) a (λ q' x st y l t. no_operator q' st.0 st.1 y l (part_plain q' x st y.kind y.newline y.escaped t) (part_at firsts (level_at f) top_level node_at (feet_at f) (operators_at f) (climbs f) m s.cap q' x st y.kind y.newline y.escaped t).0)
 
     pub operands_answer : m ≤ 10 → Numbered text f (level_at f m) p t id
     operands_answer h = record {
@@ -342,7 +352,7 @@ module _ {text : List ℕ} {f : Flags} where
         walked = walked_to (sym o.spot_is) s.walked;
         verdict = subst (λ (v : ℕ). Verdict (f.wide ≡ true) p.errors t.errors (Stretch text (after (level_at f m)) (such (level_at f m) always) p.prev_token_end nothing v (tree s.label s.slots) s.pass) (Underived text (level_at f m) p.prev_token_end)) (sym o.place)
             (subst (λ (ds : List Diagnostic). Verdict (f.wide ≡ true) p.errors ds (Stretch text (after (level_at f m)) (such (level_at f m) always) p.prev_token_end nothing q.prev_token_end (tree s.label s.slots) s.pass) (Underived text (level_at f m) p.prev_token_end)) (sym o.kept)
-            (verdict_of s.verdict (λ z. record { reach = z.reach; near = z.near; goes = loop_end f z.around no_operator }) (λ n. n)));
+            (verdict_of s.verdict (λ z. record { reach = z.reach; near = z.near; goes = operators_over z.around }) (λ n. n)));
       };
       holds = subst (λ (ns : List Node). Holds ns (length p.nodes) (length ns) id.0 s.label s.slots) (sym o.nodes) s.holds;
       keeps = subst (λ (ns : List Node). Keeps p.nodes ns) (sym o.nodes) s.keeps;

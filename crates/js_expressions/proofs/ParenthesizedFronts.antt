@@ -3,6 +3,7 @@ use Rattle.std.proofs.Common.{ℕ, ◌≡◌, ◌⊎◌, inl, inr, Bool, true, f
 use Rattle.std.proofs.lemmas.Bool.{false≢true, and_parts, and_from, or_right}
 use Rattle.js_base.specs.declared.kind.Kind.TheVariants.{LParen, RParen, Arrow}
 use Rattle.js_base.specs.Kinds.{same_kind}
+use Rattle.js_base.proofs.KindLemmas.{kind_of_same}
 use Rattle.js_grammar.specs.Trees.{Label, Slots, end, tree}
 use Rattle.js_grammar.specs.Grammar.{Lexeme, Lexemes, Look, here, seen, is, nothing, never, lexeme, look, text, ahead, empty_slot, seq, alt, when, many, commas, such, marked, node, ended, keep, kept, Takes, is_nothing, is_lexeme, is_look, is_text, is_ahead, is_empty_slot, is_seq, is_left, is_right, is_when, is_many, is_commas, is_such, is_marked, is_node, is_ended, is_keep, is_kept}
 use Rattle.js_grammar.specs.FirstSets.{first}
@@ -22,7 +23,7 @@ use Rattle.js_grammar.proofs.Heads.{One, the_last, and_more, in_one, of_operands
 use Rattle.js_grammar.proofs.Looks.{apart, covers, covered, not_both}
 use Rattle.js_grammar.proofs.RightEdges.{of_operand, first_row}
 use Rattle.js_parsing.proofs.FreeOfIn.{any_in}
-use Rattle.js_parsing.proofs.Escapes.{no_name_where, read_unnamed}
+use Rattle.js_parsing.proofs.Escapes.{read_plain}
 use Rattle.js_parsing.specs.Answers.{Underived}
 use Rattle.js_parsing.specs.Heads.{OnlyArrow}
 use Rattle.js_parsing.specs.Lexemes.{Lex}
@@ -300,7 +301,7 @@ contrary false h e = false≢true e
 pub no_arrow_admitted : (source : List ℕ) (f : Flags) (ts : Slots) {vs : Slots} {s j : ℕ} {ls rest : Lexemes} → Lexes (Lex source) s ls → Takes rule (such (at Short f) always) end ts s ls vs j rest → Admits (after (at Short f)) ts (here rest) → same_kind Arrow (here rest).kind ≡ true → ⊥
 no_arrow_admitted source f ts {j = j} {rest = rest} m d a q =
     let l : Lex source j (here rest) = here_at (Lex source) rest (lexed_behind (Lex source) d m) in
-    contrary (seen (looser 4 f.in_ (first_row ts)) (here rest)) (covered an_arrow (λ k w e. not (looser 4 f.in_ (first_row ts) k w e)) (arrow_binds f.in_ (first_row ts) (row_claimed d)) (here rest).kind (here rest).newline (here rest).escaped (and_from _ _ q (ap not (read_unnamed (here rest) l.1 (no_name_where (same_kind Arrow) (here rest).kind q refl))))) a.1
+    contrary (seen (looser 4 f.in_ (first_row ts)) (here rest)) (covered an_arrow (λ k w e. not (looser 4 f.in_ (first_row ts) k w e)) (arrow_binds f.in_ (first_row ts) (row_claimed d)) (here rest).kind (here rest).newline (here rest).escaped (and_from _ _ q (ap not (read_plain (here rest) l (sym (kind_of_same Arrow (here rest).kind q)) refl)))) a.1
 
 -- where parentheses that are derived as arguments have `=>` behind them, no operand begins
 pub no_operand_before : {text : List ℕ} {f : Flags} {s : ℕ} → OnlyArrow text f s → ((y : Lexeme) → Lex text s y → y.kind ≡ LParen) → Underived text (at Short f) s

@@ -38,7 +38,6 @@ use Rattle.js_parsing.proofs.Here.{found, uncut}
 use Rattle.js_parsing.proofs.Moving.{same_itself, same_both}
 use Rattle.js_parsing.proofs.Paths.{read_of, not_here, settles}
 use Rattle.js_targets.proofs.Targets.{passes_itself, of_unary}
-use Rattle.js_parsing.proofs.Escapes.{no_name_where, read_unnamed}
 use Rattle.js_expressions.proofs.Updates.{of_update, update_plain, a_postfix, postfix_here, line_here}
 use Rattle.js_parsing.specs.Classes.{EndsParse}
 use Rattle.js_cursor.specs.Moves.{GivesUp}
@@ -85,7 +84,7 @@ module _ {text : List ℕ} {f : Flags} {p q : Parser} (a : At text f p) where
       let z = found x.at (uncut x.at c.1) c.2 in
       let r : one_of_kinds read_kinds q.token.kind ≡ true = of_update (λ o. one_of_kinds read_kinds o ≡ true) q.token.kind u refl refl in
       let n : z.0.escaped ≡ false = plain_of q.token.kind z.1.word z.0.escaped (subst (λ (v : Kind). z.0.escaped ≡ is_escaped v z.1.word) (sym z.2.kind) z.1.escaped) c.0 in
-      let y : Lex text q.prev_token_end z.0 = (z.1, read_of z.0 (sym z.2.kind) n r) in
+      let y : Lex text q.prev_token_end z.0 = (z.1, read_of z.0 (sym z.2.kind) r) in
       marked_there q p.prev_token_end a x.at (same_itself) refl (let i = x.further in omega arith)
       (λ s b g. (z.0, no_target_there passes_itself x a (none_kept x.verdict k) e z.0 y (λ l cs t h. covered a_postfix (looser 17 f.in_ after_expression) (a_postfix_follows f f.in_) z.0.kind z.0.newline z.0.escaped (postfix_here x.at u w z.0 y)) s b g, inr (subst (λ (v : Kind). one_of_kinds update_kinds v ≡ true) z.2.kind u))) start d
 
@@ -97,12 +96,12 @@ module _ {text : List ℕ} {f : Flags} {p q : Parser} (a : At text f p) where
       marked_there t q.prev_token_end m.at x.at o.same o.place (let i = x.further in omega arith)
       (λ s b g. (
         z.0,
-        no_target_there (of_unary f) x m.at (none_kept x.verdict (sym (ap length o.kept) ∙ k)) e z.0 y (λ l cs v h. subst (λ (w : Row). IsTrue (seen (looser 16 f.in_ w) z.0)) (sym (row_of_target l cs v h)) (covered (an_end f.in_) (looser 16 f.in_ after_expression) (an_end_follows f.in_) z.0.kind z.0.newline z.0.escaped (ending z.0 y z.2))) s b g,
+        no_target_there (of_unary f) x m.at (none_kept x.verdict (sym (ap length o.kept) ∙ k)) e z.0 y (λ l cs v h. subst (λ (w : Row). IsTrue (seen (looser 16 f.in_ w) z.0)) (sym (row_of_target l cs v h)) (covered (an_end f.in_) (looser 16 f.in_ after_expression) (an_end_follows f.in_) z.0.kind z.0.newline z.0.escaped (ending z.0 z.2 z.3))) s b g,
         inl (record { lexeme = m.lexeme; of_text = a_lexeme (subst (λ (v : List ℕ). Reached v p.prev_token_end) a.text_is a.at.reached) m.stood; ends = m.ends; is = subst (λ (v : Kind). one_of_kinds update_kinds v ≡ true) m.tells.kind u }),
       )) start d
     where
-      ending : (y : Lexeme) → Lex text r.prev_token_end y → IsTrue (one_of_kinds ending_kinds y.kind || nat_lt 0 (power_of f.in_ y.kind)) → an_end f.in_ y.kind y.newline y.escaped ≡ true
-      ending y l h = and_from _ _ h (ap not (read_unnamed y l.1 (no_name_where (λ (k : Kind). one_of_kinds ending_kinds k || nat_lt 0 (power_of f.in_ k)) y.kind h refl)))
+      ending : (y : Lexeme) → y.escaped ≡ false → IsTrue (one_of_kinds ending_kinds y.kind || nat_lt 0 (power_of f.in_ y.kind)) → an_end f.in_ y.kind y.newline y.escaped ≡ true
+      ending y e h = and_from _ _ h (ap not e)
 
 -- ---- what the tests of the code say
 

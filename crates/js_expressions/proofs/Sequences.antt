@@ -267,7 +267,7 @@ module _ {text : List ℕ} {f : Flags} where
 -- ---- what stands at a state
 
 commas_here : {text : List ℕ} {f : Flags} {q : Parser} → At text f q → q.token.kind ≡ Comma → (y : Lexeme) → Lex text q.prev_token_end y → IsTrue (seen (is Comma) y)
-commas_here a k y l = and_from _ _ (subst (λ (v : Kind). same_kind Comma v ≡ true) (sym (kind_here a k refl y l)) refl) (ap not (read_plain y l.1 (kind_here a k refl y l) refl))
+commas_here a k y l = and_from _ _ (subst (λ (v : Kind). same_kind Comma v ≡ true) (sym (kind_here a k refl y l)) refl) (ap not (read_plain y l (kind_here a k refl y l) refl))
 
 no_comma_here : {text : List ℕ} {f : Flags} {q : Parser} → At text f q → (q.token.kind ≡ Comma → ⊥) → (y : Lexeme) → Lex text q.prev_token_end y → IsTrue (seen (is Comma) y) → ⊥
 unfolding apart
@@ -287,7 +287,7 @@ alone_result {text} {f} {p} {q} x n =
     (λ y l. narrows 2 1 (Comma ∷ []) f.in_ r (narrow_assignment 2 1 (Comma ∷ []) (narrow_operand 2 1 (Comma ∷ []) refl refl refl refl) refl refl refl refl f.in_ r x.answer.row) y l.1 (no_kind y (plain_lex l)) (x.answer.stops y l))
   where
     no_kind : (y : Lexeme) → Lex text q.prev_token_end y → one_of_kinds (Comma ∷ []) y.kind ≡ false
-    no_kind y l = other_kind Comma y.kind (λ e. no_comma_here x.answer.at n y l (and_from _ _ (subst (λ (v : Kind). same_kind Comma v ≡ true) (sym e) refl) (ap not (read_plain y l.1 e refl))))
+    no_kind y l = other_kind Comma y.kind (λ e. no_comma_here x.answer.at n y l (and_from _ _ (subst (λ (v : Kind). same_kind Comma v ≡ true) (sym e) refl) (ap not (read_plain y l e refl))))
 
 pub alone_fails : {text : List ℕ} {f : Flags} (s : ℕ) → Underived text (at Assignment f) s → Underived text (at Expression f) s
 unfolding covers rule rule_of
@@ -411,7 +411,7 @@ module _ {text : List ℕ} {f : Flags} {p q r : Parser} {ids : List (Option Node
         by_path (path n) (same_both s.same (same_both m.same x.answer.same)) z.stays stops (subst (λ (r : Row). of_assignment r ≡ true) (sym row_last) x.answer.row) (node_held z held) (Keeps-trans kept (Keeps-made z.made)) refl (one_lies z)
       where
         no_kind : (y : Lexeme) → Lex text v.prev_token_end y → one_of_kinds (Comma ∷ []) y.kind ≡ false
-        no_kind y l = other_kind Comma y.kind (λ e. no_comma_here x.answer.at n y l (and_from _ _ (subst (λ (v : Kind). same_kind Comma v ≡ true) (sym e) refl) (ap not (read_plain y l.1 e refl))))
+        no_kind y l = other_kind Comma y.kind (λ e. no_comma_here x.answer.at n y l (and_from _ _ (subst (λ (v : Kind). same_kind Comma v ≡ true) (sym e) refl) (ap not (read_plain y l e refl))))
 
         stops : (y : Lexeme) → Plain text v.prev_token_end y → IsTrue (seen (looser 1 f.in_ (row_of (label_here sequence_expression no_op p v) (append s.prefix (tree x.answer.label x.answer.slots end)))) y || seen beside y)
         stops y l = subst (λ (r : Row). IsTrue (seen (looser 1 f.in_ r) y || seen beside y)) (sym row_last)

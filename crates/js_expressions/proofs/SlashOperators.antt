@@ -104,7 +104,7 @@ module _ (f : Flags) {text : List ℕ} where
         of_pattern : (y : Lexeme) → Lex text s' y → y.kind ≡ RegExp → Admits (after (level_at f m)) (tree l cs end) y → ⊥
         of_pattern y n is e =
             let slash : follow (level_at f m) (first_edge (tree l cs end)) Slash y.newline y.escaped ≡ true = sym (counts_as_slash (level_at f m) (first_edge (tree l cs end)) y.newline y.escaped) ∙ subst (λ (v : Kind). follow (level_at f m) (first_edge (tree l cs end)) v y.newline y.escaped ≡ true) is e.1 in
-            ends_not f l cs a d i o (record y { kind = Slash }) (sym (p y n is), read_plain y n.1 is refl) slash
+            ends_not f l cs a d i o (record y { kind = Slash }) (sym (p y n is), read_plain y n is refl) slash
 
         goes_on : (y : Lexeme) → Lex text s' y → Admits (after (level_at f m)) (tree l cs end) y → ⊥
         goes_on y n e = go (one_of_kinds other_goals y.kind) refl (same_kind RegExp y.kind) refl

@@ -48,7 +48,7 @@ use Rattle.js_operands.proofs.Operands.{by_path}
 use Rattle.js_parsing.proofs.Paths.{reads, Path, ◌⟼◌, ◌⟶◌, ◌⟶✗◌, at_kind, fails_at, token, last_token, last_called, noded, flagged_by, flagged_here, label_here}
 use Rattle.js_parsing.proofs.Phrases.{lift, plain_row, primary_operand}
 use Rattle.js_targets.proofs.Targets.{passes_itself, of_unary}
-use Rattle.js_parsing.proofs.Escapes.{no_name_where, read_plain}
+use Rattle.js_parsing.proofs.Escapes.{read_plain, no_word_among}
 use Rattle.js_parsing.proofs.Tight.{plain_is_read, plain_lex}
 use Rattle.js_parsing.proofs.Verdicts.{verdict_of}
 
@@ -163,7 +163,7 @@ module _ {text : List ℕ} {f : Flags} {q : Parser} (a : At text f q) (h : one_o
   line_here y l = newline_here a y l
 
   pub postfix_here : q.token.is_on_new_line ≡ false → (y : Lexeme) → Lex text q.prev_token_end y → IsTrue (seen a_postfix y)
-  postfix_here n y l = rw (line_here y l ∙ n, stands_here y l, read_plain y l.1 (stands_here y l) (no_name_where (one_of_kinds update_kinds) q.token.kind h refl), h) refl
+  postfix_here n y l = rw (line_here y l ∙ n, stands_here y l, read_plain y l (stands_here y l) (no_word_among update_kinds q.token.kind refl h), h) refl
 
   -- and no other is
   pub not_another : (o : Kind) → same_kind o q.token.kind ≡ false → (y : Lexeme) → Lex text q.prev_token_end y → IsTrue (seen (on_the_line o) y) → ⊥

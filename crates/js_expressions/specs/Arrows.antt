@@ -28,7 +28,7 @@ use Rattle.js_cursor.specs.declared.stop.Stop.TheVariants.{Fatal}
 use Rattle.js_parsing.specs.Answers.{Answers, Grown, Outcome, Stops, Stretch, Underived}
 use Rattle.js_parsing.specs.Contexts.{EntersAsyncHead, arrow_body, arrow_head, braced_body}
 use Rattle.js_parsing.specs.Heads.{NoHead, NotedHeads, OnlyArrow}
-use Rattle.js_parsing.specs.Lexemes.{Lex, Walked, escaped_word, name_kinds, spot}
+use Rattle.js_parsing.specs.Lexemes.{Lex, Walked, name_kinds, spot}
 use Rattle.js_parsing.specs.Moves.{Moved}
 use Rattle.js_parsing.specs.Stands.{StandsHere}
 use Rattle.js_parsing.specs.States.{At, Same, NodesLie, SpansLie}
@@ -247,7 +247,7 @@ NoHeadHere a p = (text : List ℕ) (f : Flags) → At text f p → NoHead text (
 -- Behind `async` parameters were read, and behind arguments `=>` stands; or a name was, with `=>` behind it.
 pub data AsyncHead (text : List ℕ) (f : Flags) (p q : Parser) (id : NodeId) : Type 0 where
   list_head : p.token.kind ≡ LParen → HeadRead text f (arrow_head true f) p q id → OnlyArrow text f p.prev_token_end → AsyncHead text f p q id
-  name_head : one_of_kinds name_kinds p.token.kind ≡ true → escaped_word p.token.kind p.token.escaped ≡ false → Head text f (arrow_head true f) p q id → ((y : Lexeme) → Lex text p.token.span.end y → y.kind ≡ Arrow) → AsyncHead text f p q id
+  name_head : one_of_kinds name_kinds p.token.kind ≡ true → Head text f (arrow_head true f) p q id → ((y : Lexeme) → Lex text p.token.span.end y → y.kind ≡ Arrow) → AsyncHead text f p q id
 
 -- Behind `async` a head was read; or none stands there, and the parser went on.
 abbrev pub HeadBehindAsync : Parser → Parser → Option NodeId → Type 0
@@ -310,7 +310,7 @@ EntersHead false old new = new ≡ old
 
 -- a name was read as a head
 abbrev pub Single : Parser → Parser → NodeId → Type 0
-Single p q id = (q.prev_token_end ≡ p.token.span.end) × ((text : List ℕ) (f : Flags) → At text f p → escaped_word p.token.kind p.token.escaped ≡ false → Head text f f p q id)
+Single p q id = (q.prev_token_end ≡ p.token.span.end) × ((text : List ℕ) (f : Flags) → At text f p → Head text f f p q id)
 
 -- of `=>` on a new line this is told
 abbrev pub late_arrow : Span → Diagnostic

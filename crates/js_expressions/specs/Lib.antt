@@ -1,4 +1,5 @@
 pub mod Arrows
+pub mod ClosedOperands
 pub mod Closings
 pub mod Coalescing
 pub mod Exponents

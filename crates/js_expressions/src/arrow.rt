@@ -25,7 +25,7 @@ use js_cursor::{ParserImpl, Stop};
 use js_lex::ParserConfig;
 use js_operands::arguments::parse_call_arguments;
 use js_operands::function::function_flags;
-use js_operands::primary::parse_leaf;
+use js_operands::primary::parse_name;
 use js_parsing::context::{
     assignment_in_arrow, body_in_arrow, context, in_async_head, set_context,
 };
@@ -267,7 +267,7 @@ fn parse_single_parameter<C: ParserConfig>(p: &mut ParserImpl<'_, C>) -> Result<
     ensures { MatchResult result (λ id. Single p.old p.new id) OnlyMemory }
 {
     let span = p.cur_token().span();
-    let name = parse_leaf(p, NodeKind::BindingIdentifier, Op::None)?;
+    let name = parse_name(p, NodeKind::BindingIdentifier)?;
     let parameter = make_with_optional(p, NodeKind::FormalParameter, span, name, None)?;
     let parameters = make_one(p, NodeKind::FormalParameters, Op::None, span, parameter)?;
     Ok(parameters)

@@ -17,6 +17,7 @@ ghost use Rattle.js_parsing.specs.Moves.{Passes};
 ghost use Rattle.js_parsing.specs.States.{Standing};
 
 use crate::arrow::{ArrowHead, parse_arrow_function_expression, parse_arrow_head};
+use crate::closed_operand::parse_closed_operand;
 use crate::operators::parse_binary_expression_or_higher;
 use crate::yield_expression::{begins_yield, parse_yield_expression};
 use js_base::{
@@ -35,6 +36,23 @@ use js_tree::{NodeId, NodeKind, Op};
 
 /// An AssignmentExpression (ECMA-262, section 13.15).
 pub fn parse_assignment_expression<C: ParserConfig, N: Nested<C>>(
+    p: &mut ParserImpl<'_, C>,
+    nested: &N,
+) -> Result<NodeId, Stop>
+    requires at { Standing p.old }
+    requires nests { CanNest (N.can nested.now) (room p.old) }
+    ensures answers { Answers (at Assignment) p.old p.new result }
+    ensures operand { TellsOperand p.old p.new result }
+{
+    if let Some(operand) = parse_closed_operand(p)? {
+        return Ok(operand);
+    }
+    parse_any_assignment(p, nested)
+}
+
+/// An AssignmentExpression, whatever stands here.
+#[inline(always)]
+fn parse_any_assignment<C: ParserConfig, N: Nested<C>>(
     p: &mut ParserImpl<'_, C>,
     nested: &N,
 ) -> Result<NodeId, Stop>

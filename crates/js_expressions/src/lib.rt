@@ -3,6 +3,7 @@
 
 pub mod arrow;
 pub mod assignment;
+pub mod closed_operand;
 pub mod closing;
 pub mod lookahead;
 pub mod operators;

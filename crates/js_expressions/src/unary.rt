@@ -29,7 +29,7 @@ pub fn parse_unary_expression_or_higher<C: ParserConfig, N: Nested<C>>(
     ensures { Answers (at Unary) p.old p.new result }
 {
     if escaped_word_stands(p) {
-        return Err(p.set_unexpected());
+        return parse_update_expression(p, nested);
     }
     if p.cur_kind().is_unary_operator() {
         return parse_unary_expression(p, nested);

@@ -46,7 +46,7 @@ slash_given old new t (inl e) g = was_given old new t (ap (same_kind Undetermine
 slash_given old new t (inr e) g = was_given old new t (ap (same_kind Undetermined) e) g
 
 -- a string token that was given is a string literal
-string_of_kind : (w rest : List ℕ) (k : Kind) → kind_in division w rest ≡ Some k → k ≡ Str → string_kind w ≡ Some Str
+pub string_of_kind : (w rest : List ℕ) (k : Kind) → kind_in division w rest ≡ Some k → k ≡ Str → string_kind w ≡ Some Str
 string_of_kind [] rest k h e = absurd (let z = (plain_end rest k h).0 in let y : same_kind Eof Str ≡ true = subst (λ (j : Kind). same_kind Eof j ≡ true) (sym z ∙ e) refl in cc)
 string_of_kind (c ∷ cs) rest k h e =
     let f : plain_kind (c ∷ cs) rest ≡ Some Str = h ∙ ap Some e in

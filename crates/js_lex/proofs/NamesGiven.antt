@@ -71,7 +71,7 @@ some_name (Some ps) k e = (ps, refl)
 
 -- ---- the token
 
-word_opened : (k : Kind) → one_of_kinds identifier_name_kinds k ≡ true → opened k ≡ Some a_name
+pub word_opened : (k : Kind) → one_of_kinds identifier_name_kinds k ≡ true → opened k ≡ Some a_name
 word_opened k h = opened_member a_name identifier_name_kinds k h refl
 
 no_angle : (k : Kind) → opened k ≡ Some a_name → is_right_angle k ≡ false
@@ -81,7 +81,7 @@ no_angle k h = go (is_right_angle k) refl
     go false e = e
     go true e = absurd (let n : opened k ≡ Some a_punctuator = opened_member a_punctuator (RAngle ∷ GtEq ∷ ShiftRight ∷ ShiftRightEq ∷ ShiftRight3 ∷ ShiftRight3Eq ∷ []) k e refl in cc)
 
-name_of_kind : (w rest : List ℕ) (k : Kind) → kind_in division w rest ≡ Some k → opened k ≡ Some a_name → IsSome (name_text w)
+pub name_of_kind : (w rest : List ℕ) (k : Kind) → kind_in division w rest ≡ Some k → opened k ≡ Some a_name → IsSome (name_text w)
 name_of_kind [] rest k h o = absurd (let z = (plain_end rest k h).0 in let n : opened Eof ≡ Some a_name = subst (λ (j : Kind). opened j ≡ Some a_name) z o in cc)
 name_of_kind (c ∷ cs) rest k h o =
     let q : opening c (begins is_decimal cs) ≡ a_name = some-opening _ _ (sym (opened_is c cs rest k h) ∙ o) in

@@ -83,6 +83,9 @@ impl<'a, C: LexerConfig> Lexer<'a, C> {
     /// begins with `>` this sign alone is given, and `/`, `/=` and `}` are punctuators. Where no lexeme stands, the kind
     /// is `Undetermined`, and the fault is kept. At the end of the text, and ever after, it is `Eof`. After want of
     /// memory the lexer is as it was.
+    ///
+    /// It is part of its caller's code, which then has the token at hand, and not in memory.
+    #[inline(always)]
     pub fn next_token(&mut self) -> Result<Token, NoMemory>
         ensures ok { IfOk result (λ t. GivesNext division self.old self.new t) }
         ensures err { OnErr result (self.new ≡ self.old) }
@@ -122,6 +125,7 @@ impl<'a, C: LexerConfig> Lexer<'a, C> {
     }
 
     /// What `next_token` would give, also where no lexeme stands; nothing moves and nothing is kept, a fault included.
+    #[inline(always)]
     pub fn peek_token(&mut self) -> Result<Token, NoMemory>
         ensures ok { IfOk result (λ t. (after : State) × GivesNext division self.old after t) }
         ensures only { IfOk result (λ t. (after : State) (u : Token) → GivesNext division self.old after u → u ≡ t) }

@@ -73,7 +73,10 @@ fn quick_behind(text: &str, at: usize, is_on_new_line: bool) -> Option<Token>
 }
 
 /// The token of the lexeme of the plain goal at a place; none where trivia may stand, or no lexeme does.
-#[inline(never)]
+///
+/// It is part of its caller's code, so that the token isn't read from memory in one piece right behind the call that wrote
+/// it in several.
+#[inline(always)]
 fn other_behind(text: &str, at: usize, is_on_new_line: bool) -> Option<Token>
     requires boundary { IsCharBoundary text.now at }
     requires short { length text.now ≤ MAX_LEN }

@@ -43,7 +43,7 @@ use Rattle.js_parsing.specs.Nesting.{room}
 use Rattle.js_parsing.specs.Moves.{Moved, Moves, unpassable}
 use Rattle.js_parsing.specs.Answers.{Verdict, clean, Stretch, Stops}
 use Rattle.js_parsing.specs.Arguments.{item_of, items, list_of, rest_of, due_of, behind_item, NoItem, ItemTaken, TakesItem, Partway, Due, FindsDue}
-use Rattle.js_parsing.proofs.Signs.{plain_sign, other_kind}
+use Rattle.js_parsing.proofs.Signs.{none_seen, plain_sign, other_kind}
 use Rattle.js_parsing.proofs.Stretches.{stretches}
 use Rattle.js_parsing.proofs.Here.{uncut}
 use Rattle.js_parsing.proofs.Signs.{AllAre, NoneIs}
@@ -56,14 +56,11 @@ use Rattle.js_parsing.proofs.Verdicts.{after as grown_behind}
 use Rattle.js_parsing.proofs.Classes.{here_ends}
 use Rattle.js_base.specs.declared.diagnostic.DiagnosticKind.TheVariants.{ExpectClosingOrSeparator}
 
-no_paren : {text : List ℕ} {s : ℕ} {k : Kind} → NoneIs text s k → (y : Lexeme) → Lex text s y → IsTrue (seen (is k) y) → ⊥
-no_paren {k = k} n y l h = n y l (sym (kind_of_same k y.kind (and_parts (same_kind k y.kind) _ h).0))
-
 pub is_that : (k : Kind) (y : Lexeme) → (y.kind ≡ k) × (y.escaped ≡ false) → IsTrue (seen (is k) y)
 is_that k y z = and_from (same_kind k y.kind) (not y.escaped) (subst (λ v. same_kind k v ≡ true) (sym z.0) (same_self k)) (ap not z.1)
 
 is_one : {text : List ℕ} {s : ℕ} {j k : Kind} → AllAre text s k → (k ≡ j → ⊥) → NoneIs text s j
-is_one a n y l e = n (sym (a y l).0 ∙ e)
+is_one a n y l e w = n (sym (a y l).0 ∙ e)
 
 -- ---- items
 
@@ -84,7 +81,7 @@ module _ {text : List ℕ} (f : Flags) where
     no_items a = fails_here firsts (λ y l h. not_both (first_of (item_of i f)) (is RParen) (item_begins i f) y.kind y.newline y.escaped h (is_that RParen y (a y l)))
 
     not_closed : NoneIs text s RParen → Fails rule (Lex text) (plain (is RParen)) end nothing s
-    not_closed n = fails_nothing (λ ts y l e. no_paren n y l e.0)
+    not_closed n = fails_nothing (λ ts y l e. none_seen n y l e.0)
 
     -- the first item
     first_due : NoneIs text s RParen → Stretch text (plain full) (rest_of true (item_of i f)) s (due_of true (item_of i f)) s (λ us. us) (λ ls. ls)
@@ -98,10 +95,10 @@ module _ {text : List ℕ} (f : Flags) where
     -- no comma stands behind an item
     later_closed : NoneIs text s Comma → Stretch text (plain full) (rest_of false (item_of i f)) s (due_of false (item_of i f)) s (λ us. us) (λ ls. ls)
     unfolding covers
-    later_closed n = record { reach = max 0 0; near = omega arith; goes = part firsts (is RParen) (no_comma true (such (item_of i f) always) (no_paren n)) refl ▹ done }
+    later_closed n = record { reach = max 0 0; near = omega arith; goes = part firsts (is RParen) (no_comma true (such (item_of i f) always) (none_seen n)) refl ▹ done }
 
     pub later_fails : NoneIs text s Comma → NoneIs text s RParen → Fails rule (Lex text) (plain full) end (rest_of false (item_of i f)) s
-    later_fails n m = (later_closed n).goes ▹✗ fails_lexeme (is RParen) (no_paren m)
+    later_fails n m = (later_closed n).goes ▹✗ fails_lexeme (is RParen) (none_seen m)
 
     comma_due : NoneIs text s RParen → Stretch text (plain full) (seq (after_comma true (such (item_of i f) always)) (tok RParen)) s (due_of true (item_of i f)) s (λ us. us) (λ ls. ls)
     unfolding covers
@@ -138,7 +135,7 @@ one_same : (k : Kind) → one_of_kinds (k ∷ []) k ≡ true
 one_same k = or_left (same_kind k k) false (same_self k)
 
 pub none_there : {text : List ℕ} {f : Flags} {p : Parser} (k : Kind) → At text f p → settles (k ∷ []) ≡ true → (p.token.kind ≡ k → ⊥) → NoneIs text p.prev_token_end k
-none_there {p = p} k a d n y l e = not_here a (k ∷ []) d (other_kind k p.token.kind n) y l (subst (λ v. one_of_kinds (k ∷ []) v ≡ true) (sym e) (one_same k))
+none_there {p = p} k a d n y l e w = not_here a (k ∷ []) d (other_kind k p.token.kind n) y l (subst (λ v. one_of_kinds (k ∷ []) v ≡ true) (sym e) (one_same k))
 
 no_right_paren : {text : List ℕ} {f : Flags} {p : Parser} → At text f p → (p.token.kind ≡ RParen → ⊥) → NoneIs text p.prev_token_end RParen
 unfolding apart
@@ -160,7 +157,7 @@ module _ {text : List ℕ} {f : Flags} {p q : Parser} (a : At text f p) (k : p.t
       let n = plain_sign Comma a k refl refl comma_plain in
       let kind : m.lexeme.kind ≡ Comma = sym m.tells.kind ∙ k in
       let bare : m.lexeme.escaped ≡ false = sym m.tells.escaped ∙ n in
-      let l : Lex text p.prev_token_end m.lexeme = (m.stood, read_of m.lexeme kind bare refl) in
+      let l : Lex text p.prev_token_end m.lexeme = (m.stood, read_of m.lexeme kind refl) in
       record {
         reach = 0;
         near = omega arith;

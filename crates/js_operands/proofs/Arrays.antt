@@ -45,7 +45,7 @@ use Rattle.js_parsing.specs.Moves.{Moved, Moves, MadeHere, LeafTaken, TakesLeaf,
 use Rattle.js_parsing.specs.Nesting.{room}
 use Rattle.js_operands.proofs.ArgumentLists.{none_there}
 use Rattle.js_parsing.proofs.Bracketed.{opened_here, opened_later}
-use Rattle.js_parsing.proofs.Signs.{plain_sign}
+use Rattle.js_parsing.proofs.Signs.{none_seen, plain_sign}
 use Rattle.js_parsing.proofs.Giving.{gives_up}
 use Rattle.js_parsing.proofs.Here.{uncut}
 use Rattle.js_parsing.proofs.Signs.{NoneIs}
@@ -145,13 +145,13 @@ module _ {text : List ℕ} (f : Flags) {s : ℕ} where
   element_due n m = unrolls ▹ (right (no_gap n) ▹ left (fails_alt no_never (no_closing m)))
     where
       no_gap : {X : Test} {b : G} → NoneIs text s Comma → Fails rule (Lex text) X end (seq gap b) s
-      no_gap n = fails_here firsts (λ y l h. n y l (sym (kind_of_same Comma y.kind (and_parts (same_kind Comma y.kind) _ h).0)))
+      no_gap n = fails_here firsts (none_seen n)
 
       no_closing : {X : Test} → NoneIs text s RBrack → Fails rule (Lex text) X end (tok RBrack) s
-      no_closing n = fails_here firsts (λ y l h. n y l (sym (kind_of_same RBrack y.kind (and_parts (same_kind RBrack y.kind) _ h).0)))
+      no_closing n = fails_here firsts (none_seen n)
 
   rest_fails : NoneIs text s Comma → NoneIs text s RBrack → Fails rule (Lex text) (plain full) end (rest f) s
-  rest_fails n m = fails_alt (fails_here firsts (λ y l h. n y l (sym (kind_of_same Comma y.kind (and_parts (same_kind Comma y.kind) _ h).0)))) (fails_here firsts (λ y l h. m y l (sym (kind_of_same RBrack y.kind (and_parts (same_kind RBrack y.kind) _ h).0))))
+  rest_fails n m = fails_alt (fails_here firsts (none_seen n)) (fails_here firsts (none_seen m))
 
   -- an element was read, or none can be
   element_read : {s' : ℕ} {l : Label} {cs : Slots} {pass : Lexemes → Lexemes} → Stretch text (plain next_kinds) (element f) s nothing s' (tree l cs) pass → Stretch text (plain full) (seq (element f) (rest f)) s (rest f) s' (tree l cs) pass

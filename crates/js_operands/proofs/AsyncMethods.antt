@@ -88,7 +88,7 @@ module _ {text : List ℕ} {f : Flags} {p q : Parser} (a : At text f p) (k : p.t
   plain_line : (c s : Bool) → Fails rule (Lex text) (plain full) end (nothing ▸ only s (tok Star) ▸ nothing ▸ name c false f ▸ method_left Method false s f) p.prev_token_end
   unfolding covers apart
   plain_line c true = done ▹✗ no_first (fails_at a (tok Star) (Star ∷ []) refl (ap (one_of_kinds (Star ∷ [])) k))
-  plain_line c false = done ▹✗ (done ▹✗ (done ▹✗ no_plain a (ap read_word k) (unescaped_word p.token.kind p.token.escaped e) m (no_kind_of Colon LParen q.token.kind behind_shorthand z).1 c))
+  plain_line c false = done ▹✗ (done ▹✗ (done ▹✗ no_plain a (ap read_word k) m (no_kind_of Colon LParen q.token.kind behind_shorthand z).1 c))
 
   only_line : (s : Bool) (r : Parser) → Eats Star q r s → (c : Bool) → Goes rule (Lex text) (plain full) end (plain_method nothing c false f) p.prev_token_end (async_line c s f) p.prev_token_end (λ us. us) (still 0)
   only_line true r h c = right (fails_alt (plain_line c false) (plain_line c true)) ▹ right (other_line true r h c)

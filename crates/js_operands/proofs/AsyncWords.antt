@@ -26,6 +26,7 @@ use Rattle.js_cursor.specs.Moves.{OnlyMemory, Peeks}
 use Rattle.js_cursor.specs.declared.stop.Stop.{Stop}
 use Rattle.js_cursor.specs.Parsers.{Parser}
 use Rattle.js_tree.specs.declared.id.NodeId.{NodeId}
+use Rattle.js_parsing.proofs.Giving.{fails_unescaped}
 use Rattle.js_parsing.specs.Arguments.{Partway}
 use Rattle.js_parsing.specs.Lexemes.{Lex, escaped_word, name_kinds, other_goals, signs}
 use Rattle.js_parsing.specs.Moves.{Moved}
@@ -65,27 +66,27 @@ module _ {text : List ℕ} {f : Flags} {p : Parser} {t : Token} (a : At text f p
       let i : is_right_angle x.lexeme.kind ≡ false = ap is_right_angle (ap (λ (z : Lexeme). z.kind) (sym e) ∙ k) in
       subst (λ (z : Lexeme). Tells z t) (cut_same x.lexeme i ∙ sym e) x.tells)
 
-  pub function_told : t.kind ≡ Function → t.escaped ≡ false → t.is_on_new_line ≡ false → (y : Lexeme) × Lex text p.token.span.end y × (y.kind ≡ Function) × (y.newline ≡ false)
+  pub function_told : t.kind ≡ Function → t.escaped ≡ false → t.is_on_new_line ≡ false → (y : Lexeme) × Lex text p.token.span.end y × (y.kind ≡ Function) × (y.escaped ≡ false) × (y.newline ≡ false)
   function_told k e w = given_behind (λ d u n. let w : Function ≡ Undetermined = sym k ∙ u in absurd (cc)) (λ x. by x (is_right_angle x.lexeme.kind) refl)
     where
-      by : (x : GivesLexeme division cut text p.token.span.end t) → (b : Bool) → is_right_angle x.lexeme.kind ≡ b → (y : Lexeme) × Lex text p.token.span.end y × (y.kind ≡ Function) × (y.newline ≡ false)
+      by : (x : GivesLexeme division cut text p.token.span.end t) → (b : Bool) → is_right_angle x.lexeme.kind ≡ b → (y : Lexeme) × Lex text p.token.span.end y × (y.kind ≡ Function) × (y.escaped ≡ false) × (y.newline ≡ false)
       by x true q = let w : RAngle ≡ Function = (let c : (cut x.lexeme).kind ≡ RAngle = rw (q, cut) refl in sym c ∙ (sym x.tells.kind ∙ k)) in absurd (cc)
       by x false q =
           let s : Tells x.lexeme t = subst (λ (z : Lexeme). Tells z t) (cut_same x.lexeme q) x.tells in
-          (x.lexeme, (x.stands.lex, read_of x.lexeme (sym s.kind ∙ k) (sym s.escaped ∙ e) refl), sym s.kind ∙ k, sym s.newline ∙ w)
+          (x.lexeme, (x.stands.lex, read_of x.lexeme (sym s.kind ∙ k) refl), sym s.kind ∙ k, sym s.escaped ∙ e, sym s.newline ∙ w)
 
 -- what is peeked tells whether it does
 pub next_told : {p : Parser} {t : Token} → Peeks p t → t.kind ≡ Function → t.escaped ≡ false → t.is_on_new_line ≡ false → FunctionNext p true
 next_told h k e w text f a = function_told a h k e w
 
 pub next_on_new_line : {p : Parser} {t : Token} → Peeks p t → t.is_on_new_line ≡ true → FunctionNext p false
-next_on_new_line h w text f a y l k n = false≢true (sym n ∙ (sym (function_peeked a h y l k).newline ∙ w))
+next_on_new_line h w text f a y l k u n = false≢true (sym n ∙ (sym (function_peeked a h y l k).newline ∙ w))
 
 pub next_escaped : {p : Parser} {t : Token} → Peeks p t → t.escaped ≡ true → FunctionNext p false
-next_escaped h e text f a y l k n = false≢true (sym (read_plain y l.1 k refl) ∙ (sym (function_peeked a h y l k).escaped ∙ e))
+next_escaped h e text f a y l k u n = false≢true (sym u ∙ (sym (function_peeked a h y l k).escaped ∙ e))
 
 pub next_other : {p : Parser} {t : Token} → Peeks p t → (t.kind ≡ Function → ⊥) → FunctionNext p false
-next_other h o text f a y l k n = o ((function_peeked a h y l k).kind ∙ k)
+next_other h o text f a y l k u n = o ((function_peeked a h y l k).kind ∙ k)
 
 -- ---- a line
 
@@ -127,6 +128,10 @@ part_within x = record {
 -- ---- what isn't derived
 
 -- where `function` stands, nothing else does
+is_not : (b : Bool) → not b ≡ true → b ≡ false
+is_not true h = absurd (false≢true h)
+is_not false h = refl
+
 pub one_function : {text : List ℕ} {s : ℕ} {y z : Lexeme} → Lex text s y → y.kind ≡ Function → Lex text s z → z ≡ y
 one_function {z = z} l k j =
     let w = plain_there j in
@@ -147,7 +152,7 @@ module _ {text : List ℕ} {f : Flags} {p : Parser} (a : At text f p) where
           let w = n text f a in
           let t = told a (uncut a (ap (same_kind RAngle) k.0)) (ap (one_of_kinds signs) k.0) y l in
           let i : z ≡ w.0 = one_function w.1 w.2 (subst (λ (u : ℕ). Lex text u z) (sym t.end) m) in
-          false≢true (sym (ap (λ (v : Lexeme). seen (widest Primary) v) i ∙ rw (w.2, w.3, read_plain w.0 w.1.1 w.2 refl) refl) ∙ e)
+          false≢true (sym (ap (λ (v : Lexeme). seen (widest Primary) v) i ∙ rw (w.2, w.3, w.4) refl) ∙ e)
 
       within : (cs vs : Slots) {i j : ℕ} {ls rest : Lexemes} → Lexes (Lex text) p.prev_token_end ls → Takes rule (rule (at IdentifierReference f)) end cs i ls vs j rest → IsTrue (seen (widest Primary) (here rest)) → ⊥
       within cs vs l (is_node (is_lexeme {x = x} {ls = more} q)) e = there x (here more) l.0 (here_at (Lex text) more l.1) e
@@ -156,25 +161,33 @@ module _ {text : List ℕ} {f : Flags} {p : Parser} (a : At text f p) where
       by ts vs l (is_such d c) e = within _ _ l d e.0
 
   -- no asynchronous function begins here
-  module _ {q : Parser} (s : StandsHere p Async false ⊎ FunctionNext p false) (u : escaped_word p.token.kind p.token.escaped ≡ false) (m : Moved text f p q) where
+  module _ {q : Parser} (s : StandsHere p Async false ⊎ FunctionNext p false) (m : Moved text f p q) where
     pub no_async : (g : G) → Fails rule (Lex text) (plain full) end ((tok Async ▸ no_newline) ▸ tok Function ▸ g) p.prev_token_end
     unfolding covers apart
     no_async g = by s
       where
         behind : FunctionNext p false → (w : Bool) → q.token.is_on_new_line ≡ w → Fails rule (Lex text) (plain full) end (no_newline ▸ tok Function ▸ g) q.prev_token_end
         behind n true w = no_same_line m.at w
-        behind n false w = same_line m.at w ▹✗ part_fails {X' = plain full} (fails_lexeme (is Function) (λ y l h. n text f a y (subst (λ (v : ℕ). Lex text v y) (sym (m.tells.end ∙ m.ends)) l) (sym (kind_of_same Function y.kind (and_parts (same_kind Function y.kind) (not y.escaped) h).0)) (newline_here m.at y l ∙ w))) any_between
+        behind n false w = same_line m.at w ▹✗ part_fails {X' = plain full} (fails_lexeme (is Function) (λ y l h. let z = and_parts (same_kind Function y.kind) (not y.escaped) h in n text f a y (subst (λ (v : ℕ). Lex text v y) (sym (m.tells.end ∙ m.ends)) l) (sym (kind_of_same Function y.kind z.0)) (is_not y.escaped z.1) (newline_here m.at y l ∙ w))) any_between
 
         elsewhere : one_of_kinds (Async ∷ []) p.token.kind ≡ false → Fails rule (Lex text) (plain full) end ((tok Async ▸ no_newline) ▸ tok Function ▸ g) p.prev_token_end
         elsewhere k = part_fails {X' = plain full} (part_fails {X' = plain full} (fails_at a (tok Async) (Async ∷ []) refl k) any_between) any_between
 
-        at_async : FunctionNext p false → (b : Bool) → same_kind Async p.token.kind ≡ b → Fails rule (Lex text) (plain full) end ((tok Async ▸ no_newline) ▸ tok Function ▸ g) p.prev_token_end
-        at_async n true k = part_path_fails {ids = []} {js = []} (part_within (part_sign Async a (sym (kind_of_same Async p.token.kind k)) (plain_word p.token (sym (kind_of_same Async p.token.kind k)) refl u) refl m)) (behind n q.token.is_on_new_line refl)
-        at_async n false k = elsewhere (ap (λ (b : Bool). b || false) k)
+        escaped : p.token.escaped ≡ true → Fails rule (Lex text) (plain full) end ((tok Async ▸ no_newline) ▸ tok Function ▸ g) p.prev_token_end
+        escaped e = part_fails {X' = plain full} (part_fails {X' = plain full} (fails_unescaped (tok Async) a refl e) any_between) any_between
+
+        at_async : FunctionNext p false → (b d : Bool) → p.token.escaped ≡ d → same_kind Async p.token.kind ≡ b → Fails rule (Lex text) (plain full) end ((tok Async ▸ no_newline) ▸ tok Function ▸ g) p.prev_token_end
+        at_async n b true e k = escaped e
+        at_async n true false e k = part_path_fails {ids = []} {js = []} (part_within (part_sign Async a (sym (kind_of_same Async p.token.kind k)) e refl m)) (behind n q.token.is_on_new_line refl)
+        at_async n false false e k = elsewhere (ap (λ (b : Bool). b || false) k)
+
+        unless_here : StandsHere p Async false → (d : Bool) → p.token.escaped ≡ d → Fails rule (Lex text) (plain full) end ((tok Async ▸ no_newline) ▸ tok Function ▸ g) p.prev_token_end
+        unless_here n true e = escaped e
+        unless_here n false e = elsewhere (other_kind Async p.token.kind (λ k. n k e))
 
         by : StandsHere p Async false ⊎ FunctionNext p false → Fails rule (Lex text) (plain full) end ((tok Async ▸ no_newline) ▸ tok Function ▸ g) p.prev_token_end
-        by (inl n) = elsewhere (other_kind Async p.token.kind (λ k. n k (plain_word p.token k refl u)))
-        by (inr n) = at_async n (same_kind Async p.token.kind) refl
+        by (inl n) = unless_here n p.token.escaped refl
+        by (inr n) = at_async n (same_kind Async p.token.kind) p.token.escaped refl refl
 
     -- nor is a function expression derived at a name
     pub no_expression : one_of_kinds name_kinds p.token.kind ≡ true → Fails rule (Lex text) (after (at Primary f)) end (symbol FuncExpr f) p.prev_token_end

@@ -36,7 +36,7 @@ use Rattle.js_cursor.specs.declared.stop.Stop.{Stop}
 use Rattle.js_cursor.specs.declared.stop.Stop.TheVariants.{Fatal, NoMemory}
 use Rattle.js_parsing.specs.Answers.{Numbered, Stops, Stretch, Underived, Verdict, unclean}
 use Rattle.js_parsing.specs.Arguments.{Partway}
-use Rattle.js_parsing.specs.Lexemes.{Lex, escaped_word, may_name, name_kinds, spot}
+use Rattle.js_parsing.specs.Lexemes.{Lex, escaped_word, may_name, name_kinds, read_word, spot}
 use Rattle.js_parsing.specs.Moves.{LeafTaken, Moved, MadeHere, plain_label}
 use Rattle.js_parsing.specs.Nesting.{room}
 use Rattle.js_parsing.specs.Stands.{NameUnder, StandsHere}
@@ -45,11 +45,12 @@ use Rattle.js_operands.specs.declared.function.FunctionForm.{FunctionForm}
 use Rattle.js_operands.specs.declared.function.FunctionForm.TheVariants.{Declaration, Expression}
 use Rattle.js_operands.specs.declared.function.FunctionParts.{FunctionParts}
 use Rattle.js_operands.specs.Functions.{NamesFunction, NoFunction, PartsTaken, TakesName, behind_star, function_line, function_slots, nameless, BeginsFunction}
-use Rattle.js_parsing.proofs.Giving.{fails_escaped, gives_up_here, kept_one}
+use Rattle.js_parsing.proofs.Giving.{gives_up_here, kept_one}
 use Rattle.js_parsing.proofs.Here.{found, uncut}
 use Rattle.js_parsing.proofs.MadeNodes.{leaf_held, node_held, one_lies}
 use Rattle.js_parsing.proofs.Moving.{moves, same_both, same_itself, stops_behind}
-use Rattle.js_parsing.proofs.NameKinds.{listed_name, name_apart, name_at, name_passes, name_read, name_test, no_name_here}
+use Rattle.js_parsing.proofs.NodeTexts.{name_word}
+use Rattle.js_parsing.proofs.NameKinds.{listed_here, listed_name, name_apart, name_at, name_passes, name_read, name_test}
 use Rattle.js_parsing.proofs.NamedFirsts.{fails_unnamed}
 use Rattle.js_parsing.proofs.Parts.{part_called, part_from, part_goes, part_path, part_path_fails, part_sign, parts}
 use Rattle.js_parsing.proofs.Paths.{Path, ◌⟼◌, at_kind, fails_at, flagged_by, flagged_here, last_called, by_symbol_as, label_here, noded, not_here, walked_to}
@@ -110,7 +111,7 @@ unfolding rule rule_of
 name_numbered {text} {f} {g} {p} {q} {id} a h t =
     let l : plain_label node.BindingIdentifier op.None p.token.span ≡ label_here binding_identifier no_op p t.mid = ap (λ (v : ℕ). record { kind = binding_identifier; op = no_op; flags = 0; span = record { from = p.token.span.start; to = v } }) (t.moved.tells.end ∙ t.moved.ends) in
     let ks : Keeps p.nodes t.mid.nodes = subst (λ (ns : List Node). Keeps p.nodes ns) (sym t.moved.nodes) (Keeps-refl p.nodes) in
-    let y : Path text f (after (at BindingIdentifier g)) (rule (at BindingIdentifier g)) p nothing t.mid (tree (label_here binding_identifier no_op p t.mid) end) = noded a (one_path (name_test g) a (name_signless p.token.kind (listed_name g.yield_ g.await_ p.token.kind h.0)) t.moved (read_as t.moved.lexeme t.moved.tells h.1 (name_read p.token.kind (listed_name g.yield_ g.await_ p.token.kind h.0))) (name_passes g t.moved.lexeme (subst (λ (k : Kind). may_name g.yield_ g.await_ k ≡ true) t.moved.tells.kind h.0))) in
+    let y : Path text f (after (at BindingIdentifier g)) (rule (at BindingIdentifier g)) p nothing t.mid (tree (label_here binding_identifier no_op p t.mid) end) = noded a (one_path (name_test g) a (name_signless p.token.kind (listed_name g.yield_ g.await_ p.token.kind h)) t.moved (read_as t.moved.lexeme t.moved.tells (name_read p.token.kind (listed_name g.yield_ g.await_ p.token.kind h))) (name_passes g t.moved.lexeme (subst (λ (k : Kind). may_name g.yield_ g.await_ k ≡ true) t.moved.tells.kind h))) in
     by_path (subst (λ (v : Label). Path text f (after (at BindingIdentifier g)) (rule (at BindingIdentifier g)) p nothing t.mid (tree v end)) (sym l) y) t.moved.same t.made.stays (λ y i. refl) refl (leaf_held t.made ks) (Keeps-trans ks (Keeps-made t.made.made)) (ap (λ (v : Label). v.span) l) (one_lies t.made)
 
 abbrev rest_of : Bool → Bool → Flags → G
@@ -126,15 +127,11 @@ module _ {text : List ℕ} {f : Flags} {r : Parser} (b : At text f r) where
   -- where no name stands
   no_name_part : {X : Test} (g : Flags) → NameUnder g.yield_ g.await_ r false → Fails rule (Lex text) X end (symbol BindingIdentifier g) r.prev_token_end
   unfolding covers apart
-  no_name_part {X} g n = by (escaped_word r.token.kind r.token.escaped) refl
-    where
-      by : (c : Bool) → escaped_word r.token.kind r.token.escaped ≡ c → Fails rule (Lex text) X end (symbol BindingIdentifier g) r.prev_token_end
-      by true e = fails_escaped b e
-      by false e = fails_unnamed b g (λ g. symbol BindingIdentifier g) [] refl refl refl refl refl (no_name_here g r n e) refl
+  no_name_part {X} g n = fails_unnamed b g (λ g. symbol BindingIdentifier g) [] refl refl refl refl refl n refl
 
   no_parenthesis : (y t : Bool) → NameUnder y t r true → one_of_kinds (LParen ∷ []) r.token.kind ≡ false
   unfolding apart
-  no_parenthesis y t h = name_apart (LParen ∷ []) refl r.token.kind (listed_name y t r.token.kind h.0)
+  no_parenthesis y t h = name_apart (LParen ∷ []) refl r.token.kind (listed_name y t r.token.kind h)
 
   -- a slot with a name, and an empty one
   choose_name : (n s : Bool) → NameUnder s n r true → Goes rule (Lex text) (plain full) end (slot (symbol BindingIdentifier (params_of n s f)) ▸ rest_of n s f) r.prev_token_end (symbol BindingIdentifier (params_of n s f) ▸ rest_of n s f) r.prev_token_end (λ us. us) (still 0)
@@ -161,7 +158,7 @@ module _ {text : List ℕ} {f : Flags} {p : Parser} (o : Parser) (a : At text f 
           let m = async_moved (k, v) in
           let y = w.1 text f a in
           let t = function_here m.at y.0 (subst (λ (u : ℕ). Lex text u y.0) (m.tells.end ∙ m.ends) y.1) y.2 in
-          ((t.kind ∙ y.2, t.escaped ∙ read_plain y.0 y.1.1 y.2 refl), t.newline ∙ y.3)
+          ((t.kind ∙ y.2, t.escaped ∙ y.3), t.newline ∙ y.4)
 
   pub word_at : (b : Bool) → Eats Async p o b → At text f o
   word_at true e = (async_moved e).at
@@ -377,6 +374,11 @@ name_refused Expression n s p q e i h g = absurd (i refl)
 -- whether a name stands here, by what a test says
 pub names_so : (form : FunctionForm) (n s : Bool) (p : Parser) {b r : Bool} → r ≡ b → NamesFunction form n s p r → NamesFunction form n s p b
 names_so form n s p e h = subst (λ (c : Bool). NamesFunction form n s p c) e h
+
+-- a name of a function is a word
+pub names_word : (form : FunctionForm) (n s : Bool) (p : Parser) → NamesFunction form n s p true → read_word p.token.kind ≡ true
+names_word Declaration n s p h = name_word p.token.kind (listed_here p h)
+names_word Expression n s p h = name_word p.token.kind (listed_name s n p.token.kind h)
 
 -- less of the text is left behind what was read
 pub room_less : {text : List ℕ} {f : Flags} {p q : Parser} → At text f p → p.token.span.start < q.prev_token_end → Same p q → room q < room p

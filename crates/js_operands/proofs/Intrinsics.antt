@@ -17,7 +17,7 @@ use Rattle.js_grammar.proofs.FirstClaims.{firsts}
 use Rattle.js_grammar.proofs.FirstRules.{fails_here, fails_part}
 use Rattle.js_base.proofs.KindLemmas.{kind_of_same}
 use Rattle.std.proofs.lemmas.Bool.{and_parts}
-use Rattle.js_parsing.proofs.Signs.{NoneIs}
+use Rattle.js_parsing.proofs.Signs.{none_seen, NoneIs}
 use Rattle.js_grammar.proofs.FollowLaws.{fails_by}
 use Rattle.js_tree.specs.declared.id.NodeId.{NodeId}
 use Rattle.js_tree.specs.declared.kind.NodeKind.TheVariants as node
@@ -102,7 +102,7 @@ module _ {text : List ℕ} {f : Flags} {p : Parser} (a : At text f p) (k : p.tok
       v8_unopened s = v8_list_fails (no_list (stands_not x.answer.at refl s))
         where
           no_list : NoneIs text r.prev_token_end LParen → Fails rule (Lex text) (plain full) end (list_of (item_of false f)) r.prev_token_end
-          no_list n = fails_here firsts (λ y l h. n y l (sym (kind_of_same LParen y.kind (and_parts _ _ h).0)))
+          no_list n = fails_here firsts (none_seen n)
 
       pub v8_room : room r ≤ room p
       v8_room = let i = later_room (let j = x.answer.further in let d = m.at.behind in omega arith) x.answer.same in let e = nested_room a m in omega arith

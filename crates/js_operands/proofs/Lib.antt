@@ -6,6 +6,7 @@ mod FlagFaults
 pub mod Functions
 pub mod Intrinsics
 pub mod Links
+pub mod MadeAs
 pub mod Marking
 pub mod Members
 pub mod NewTargets

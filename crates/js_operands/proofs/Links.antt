@@ -1,18 +1,19 @@
 -- The loops over links behind members and in optional chains: their starts, steps, ends and failures, over the lexemes that are read.
-use Rattle.js_parsing.proofs.Signs.{AllAre, NoneIs}
-use Rattle.std.proofs.Common.{ℕ, ◌≡◌, ◌≤◌, ◌⊎◌, inl, inr, max, Bool, true, false, not, ◌&&◌, IsTrue, List, [], ◌∷◌, refl, sym, ap, subst, arith, ◌∙◌}
+use Rattle.js_parsing.proofs.Signs.{none_seen, AllAre, NoneIs}
+use Rattle.std.proofs.Common.{ℕ, ◌≡◌, ◌≤◌, ◌⊎◌, inl, inr, max, Bool, true, false, not, ◌&&◌, IsTrue, List, [], ◌∷◌, refl, sym, ap, subst, arith, ◌∙◌, ◌||◌}
 use Rattle.std.proofs.lemmas.Bool.{false≢true, and_parts, and_from}
 use Rattle.js_base.specs.declared.kind.Kind.{Kind}
-use Rattle.js_base.specs.declared.kind.Kind.TheVariants.{Dot, QuestionDot, New, LParen, LBrack, NoSubstitutionTemplate, TemplateHead, Function, Super as super_kind}
+use Rattle.js_base.specs.declared.kind.Kind.TheVariants.{Dot, QuestionDot, New, LParen, LBrack, NoSubstitutionTemplate, TemplateHead, Function, Super as super_kind, PrivateIdentifier}
 use Rattle.js_base.specs.Kinds.{same_kind, one_of_kinds}
 use Rattle.js_base.proofs.KindLemmas.{kind_of_same}
+use Rattle.js_grammar.specs.FirstSets.{any_word}
 use Rattle.js_grammar.specs.Trees.{Slots, end, tree, Label, no_op, call_expression, new_expression, new_target_expression, tagged_template_expression}
 use Rattle.js_grammar.specs.Grammar.{Lexeme, Lexemes, Look, here, is, seen, such, alt, never, node, seq, nothing, when}
 use Rattle.js_grammar.specs.Parsing.{Test, plain, full, always, still, joined, Goes, Reads, Fails, Admits}
 use Rattle.js_grammar.specs.Productions.{G, Flags, Symbol, at, tok, optional_flag, Primary, Member, Call, Chain, Links, Super, LeftHandSide, Template}
 use Rattle.js_grammar.specs.Productions.{New as new_symbol}
 use Rattle.js_grammar.specs.Table.{rule, rule_of, args}
-use Rattle.js_grammar.specs.Insertion.{after_expression}
+use Rattle.js_grammar.specs.Insertion.{after_expression, may_bind}
 use Rattle.js_grammar.specs.Follow.{Edge, edge_of, follow_of, after}
 use Rattle.js_grammar.proofs.Looks.{covers, covered, apart}
 use Rattle.js_grammar.proofs.Calculus.{Heads, on_itself, here_at, ◌▹◌, ◌▹✗◌, left, right, then_by, makes_by, inside_full, by_plain, by_rule, fails_node, fails_alt, fails_never, fails_under, where_true, part_fails, weaken, weaken_fails, weaken_on, weaken_fails_on}
@@ -133,14 +134,11 @@ module _ (f : Flags) where
 abbrev pub NotCall : List ℕ → Flags → ℕ → Type 0
 NotCall text f s = Fails rule (Lex text) (after (at LeftHandSide f)) end (such (at Call f) always) s
 
-no_kind : {text : List ℕ} {s : ℕ} {k : Kind} → NoneIs text s k → (y : Lexeme) → Lex text s y → IsTrue (seen (is k) y) → ⊥
-no_kind {k = k} n y l h = n y l (sym (kind_of_same k y.kind (and_parts (same_kind k y.kind) _ h).0))
-
 parens_differ : LParen ≡ QuestionDot → ⊥
 parens_differ e = cc
 
 another : {text : List ℕ} {s : ℕ} {j k : Kind} → AllAre text s k → (k ≡ j → ⊥) → NoneIs text s j
-another a n y l e = n (sym (a y l).0 ∙ e)
+another a n y l e w = n (sym (a y l).0 ∙ e)
 
 -- a tagged template
 abbrev pub tagged : Flags → Link Symbol
@@ -161,16 +159,23 @@ module _ {text : List ℕ} (f : Flags) where
 
   -- the word `super`
   pub no_super_word : {X : Test} {s : ℕ} → NoneIs text s super_kind → Fails rule (Lex text) X end (such (at Super f) always) s
-  no_super_word n = fails_here firsts (λ y l h. n y l (sym (kind_of_same super_kind y.kind (and_parts _ _ h).0)))
+  no_super_word n = fails_here firsts (λ y l h. let z = and_parts (same_kind super_kind y.kind) (not y.escaped || (may_bind y.kind || (same_kind PrivateIdentifier y.kind || any_word Super))) h in n y l (sym (kind_of_same super_kind y.kind z.0)) (plain y (sym (kind_of_same super_kind y.kind z.0)) z.1))
+    where
+      by : (e b : Bool) → (not e || b) ≡ true → b ≡ false → e ≡ false
+      by true b h n = absurd (false≢true (sym n ∙ h))
+      by false b h n = refl
+
+      plain : (y : Lexeme) → y.kind ≡ super_kind → (not y.escaped || (may_bind y.kind || (same_kind PrivateIdentifier y.kind || false))) ≡ true → y.escaped ≡ false
+      plain y k h = by y.escaped _ h (ap (λ (v : Kind). may_bind v || (same_kind PrivateIdentifier v || false)) k)
 
   member_foot : {X : Test} {s : ℕ} → Goes rule (Lex text) X end (base_of is_member Member f) s (member_feet f) s (λ us. us) (still 0)
   member_foot {X} {s} = subst (λ (g : G). Goes rule (Lex text) X end (base_of is_member Member f) s g s (λ us. us) (still 0)) (member_left f) (lives (base_of is_member Member f))
 
   no_with : {X : Test} {s : ℕ} → NoneIs text s New → Fails rule (Lex text) X end (new_with f) s
-  no_with n = fails_here firsts (λ y l h. no_kind n y l h)
+  no_with n = fails_here firsts (none_seen n)
 
   no_target : {X : Test} {s : ℕ} → NoneIs text s New → Fails rule (Lex text) X end (new_target f) s
-  no_target n = fails_under (fails_here firsts (λ y l h. no_kind n y l h))
+  no_target n = fails_under (fails_here firsts (λ y l h. none_seen n y l h))
 
   -- where another word stands
   pub no_behind_super : (c : LinkForm) {s : ℕ} → NoneIs text s super_kind → Fails rule (Lex text) (plain full) end (behind_super f c) s
@@ -329,7 +334,7 @@ module _ {text : List ℕ} (f : Flags) where
   -- the member alone is no callee before `?.`
   pub member_before_chain : {s s' : ℕ} {l : Label} {cs : Slots} {pass : Lexemes → Lexemes} → Stretch text (after (at Member f)) (such (at Member f) always) s nothing s' (tree l cs) pass → AllAre text s' LParen → Fails rule (Lex text) before_chain end (such (at Member f) always) s
   unfolding covers
-  member_before_chain x z = unfollowed x.goes (record { admits = λ ts vs k ls rest d e. admits (at Member f) ts (here rest) (covered (is QuestionDot) behind_member refl (here rest).kind (here rest).newline (here rest).escaped e.0) }) (λ us y i e. no_kind (another z parens_differ) y i e.0)
+  member_before_chain x z = unfollowed x.goes (record { admits = λ ts vs k ls rest d e. admits (at Member f) ts (here rest) (covered (is QuestionDot) behind_member refl (here rest).kind (here rest).newline (here rest).escaped e.0) }) (λ us y i e. none_seen (another z parens_differ) y i e.0)
 
   call_foot : {X : Test} {s : ℕ} → Goes rule (Lex text) X end (base_of is_call Call f) s (first_call f) s (λ us. us) (still 0)
   call_foot {X} {s} = subst (λ (g : G). Goes rule (Lex text) X end (base_of is_call Call f) s g s (λ us. us) (still 0)) (call_left f) (lives (base_of is_call Call f))
@@ -447,7 +452,7 @@ module _ {text : List ℕ} (f : Flags) where
   chain_foot {X} {s} = subst (λ (g : G). Goes rule (Lex text) X end (base_of is_links Links f) s g s (λ us. us) (still 0)) (chain_left f) (lives (base_of is_links Links f))
 
   no_arguments_part : {s : ℕ} → NoneIs text s LParen → Fails rule (Lex text) (plain full) end (args f) s
-  no_arguments_part n = fails_here firsts (λ y l h. no_kind n y l h)
+  no_arguments_part n = fails_here firsts (λ y l h. none_seen n y l h)
 
   -- what stands before the first `?.`: a member, or a call
   pub base_member : {s s' : ℕ} {l : Label} {cs : Slots} {pass : Lexemes → Lexemes} → Stretch text (after (at Member f)) (such (at Member f) always) s nothing s' (tree l cs) pass → NoSuperCall text f s → AllAre text s' QuestionDot → Stretch text before_chain (bases f) s nothing s' (tree l cs) pass
@@ -626,11 +631,11 @@ module _ {text : List ℕ} (f : Flags) where
 
   pub member_alone : {s s' : ℕ} {l : Label} {cs : Slots} {pass : Lexemes → Lexemes} → Stretch text (after (at Member f)) (such (at Member f) always) s nothing s' (tree l cs) pass → NoneIs text s' QuestionDot → Fails rule (Lex text) before_chain end (such (at Member f) always) s
   unfolding covers
-  member_alone x n = unfollowed x.goes (record { admits = λ ts vs k ls rest d e. admits (at Member f) ts (here rest) (covered (is QuestionDot) behind_member refl (here rest).kind (here rest).newline (here rest).escaped e.0) }) (λ us y i e. no_kind n y i e.0)
+  member_alone x n = unfollowed x.goes (record { admits = λ ts vs k ls rest d e. admits (at Member f) ts (here rest) (covered (is QuestionDot) behind_member refl (here rest).kind (here rest).newline (here rest).escaped e.0) }) (λ us y i e. none_seen n y i e.0)
 
   pub call_alone : {s s' : ℕ} {l : Label} {cs : Slots} {pass : Lexemes → Lexemes} → Stretch text (after (at Call f)) (such (at Call f) always) s nothing s' (tree l cs) pass → NoneIs text s' QuestionDot → Fails rule (Lex text) before_chain end (such (at Call f) always) s
   unfolding covers
-  call_alone x n = unfollowed x.goes (record { admits = λ ts vs k ls rest d e. admits (at Call f) ts (here rest) (covered (is QuestionDot) behind_call refl (here rest).kind (here rest).newline (here rest).escaped e.0) }) (λ us y i e. no_kind n y i e.0)
+  call_alone x n = unfollowed x.goes (record { admits = λ ts vs k ls rest d e. admits (at Call f) ts (here rest) (covered (is QuestionDot) behind_call refl (here rest).kind (here rest).newline (here rest).escaped e.0) }) (λ us y i e. none_seen n y i e.0)
 
   -- where no member is, no LeftHandSideExpression is
   pub no_lhs_here : {s : ℕ} → NoMember text f s → Underived text (at LeftHandSide f) s

@@ -12,7 +12,7 @@ use Rattle.std.proofs.lemmas.List.{length-set, set_past}
 use Rattle.js_operands.specs.Marked.{is_function, MarksNode}
 use Rattle.js_parsing.proofs.MadeNodes.{held_label}
 use Rattle.std.proofs.lemmas.List.Elements.{All-set, All-get_or, All-same}
-use Rattle.js_base.specs.Spans.{LiesIn}
+use Rattle.js_parsing.specs.NodeTexts.{NodeFits}
 use Rattle.js_parsing.specs.States.{NodesLie}
 
 more_bit : (b : Bool) (n k : ℕ) → with_bit b (n + k) ≡ with_bit b n + 2 * k
@@ -87,8 +87,8 @@ flagged_lie : {text : List ℕ} (ns : List Node) (id : NodeId) (f : NodeFlags) �
 flagged_lie {text} ns id f k = by (nat_lt id.0 (length ns)) refl
   where
     by : (b : Bool) → nat_lt id.0 (length ns) ≡ b → NodesLie text (flags_set ns id f)
-    by true e = All-set (λ (n : Node). LiesIn n.span text) ns id.0 (with_flags f (node_at ns id)) (All-get_or (λ (n : Node). LiesIn n.span text) ns id.0 empty_program (ltb-true id.0 (length ns) e) k) k
-    by false e = All-same (λ (n : Node). LiesIn n.span text) (flags_set ns id f) ns (set_past ns id.0 (with_flags f (node_at ns id)) (ltb-false id.0 (length ns) e)) k
+    by true e = let z = All-get_or (NodeFits text) ns id.0 empty_program (ltb-true id.0 (length ns) e) k in All-set (NodeFits text) ns id.0 (with_flags f (node_at ns id)) (record { lies = z.lies; texted = z.texted }) k
+    by false e = All-same (NodeFits text) (flags_set ns id f) ns (set_past ns id.0 (with_flags f (node_at ns id)) (ltb-false id.0 (length ns) e)) k
 
 -- a function
 pub marks : {ns ms : List Node} {id : NodeId} {b : Bool} → b ≡ is_function (kind_of (node_at ns id).kind) → b ≡ true → ms ≡ flags_set ns id (record (node_at ns id).flags { pife = true }) → MarksNode id ns ms

@@ -1,5 +1,6 @@
 -- Members, `new` and optional chains, from what the calls that read them answer.
-use Rattle.js_parsing.proofs.Signs.{stands_there, stands_not}
+use Rattle.js_grammar.specs.Pruning.{every_kind}
+use Rattle.js_parsing.proofs.Signs.{none_seen, stands_there, stands_not}
 use Rattle.std.proofs.Common.{ℕ, ◌≡◌, ◌≤◌, ◌<◌, ◌+◌, ◌⊎◌, inl, inr, max, List, [], ◌∷◌, length, Option, Some, None, Bool, true, false, not, ◌&&◌, ◌||◌, IsTrue, refl, sym, ap, subst, arith, ◌∙◌, nat_lt, ◌++◌}
 use Rattle.std.specs.Prelude.{Result, Ok, Err, MatchResult}
 use Rattle.std.proofs.lemmas.Bool.{false≢true, and_parts, and_from}
@@ -63,7 +64,7 @@ use Rattle.js_parsing.proofs.Verdicts.{verdict_of, either_way, and_then, behind_
 use Rattle.js_parsing.proofs.Verdicts.{after as grown_behind}
 use Rattle.js_parsing.proofs.Moving.{moves, same_both, beside_nodes, elsewhere, at_depth, stops_behind, stops_in, stops_so, standing, same_with}
 use Rattle.js_parsing.proofs.MadeNodes.{leaf_held, node_held, one_lies, made_lies}
-use Rattle.js_parsing.proofs.Escapes.{read_as}
+use Rattle.js_parsing.proofs.Escapes.{read_as, read_listed, read_plain}
 use Rattle.js_parsing.proofs.Paths.{reads, Path, ◌⟶✗◌, skips, token, passes_test, read_of, walked_both, walked_one, noded, noding, label_here, fails_at}
 use Rattle.js_operands.proofs.Operands.{by_path, primary_fails, primary_kinds}
 use Rattle.js_parsing.proofs.NameKinds.{no_listed_name}
@@ -86,28 +87,28 @@ use Rattle.js_parsing.proofs.Tight.{plain_is_read, plain_lex}
 -- ---- which lexeme stands here
 
 -- of these kinds none stands here
-none_of : {text : List ℕ} {s : ℕ} (ks : List Kind) → ((k : Kind) → one_of_kinds ks k ≡ true → NoneIs text s k) → (y : Lexeme) → Lex text s y → one_of_kinds ks y.kind ≡ false
-none_of ks n y l = go (one_of_kinds ks y.kind) refl
+none_of : {text : List ℕ} {s : ℕ} (ks : List Kind) → every_kind (λ k. not (read_word k)) ks ≡ true → ((k : Kind) → one_of_kinds ks k ≡ true → NoneIs text s k) → (y : Lexeme) → Lex text s y → one_of_kinds ks y.kind ≡ false
+none_of ks c n y l = go (one_of_kinds ks y.kind) refl
   where
     go : (b : Bool) → one_of_kinds ks y.kind ≡ b → b ≡ false
-    go true e = absurd (n y.kind e y l refl)
+    go true e = absurd (n y.kind e y l refl (read_listed ks y l e c))
     go false e = refl
 
 -- of these none is another kind that is among them
 none_among : {text : List ℕ} {s : ℕ} (ks : List Kind) → ((y : Lexeme) → Lex text s y → one_of_kinds ks y.kind ≡ false) → (k : Kind) → one_of_kinds ks k ≡ true → NoneIs text s k
-none_among ks n k h y l e = false≢true (sym (n y l) ∙ subst (λ (v : Kind). one_of_kinds ks v ≡ true) (sym e) h)
+none_among ks n k h y l e w = false≢true (sym (n y l) ∙ subst (λ (v : Kind). one_of_kinds ks v ≡ true) (sym e) h)
 
 abbrev pub NoneOf : List ℕ → ℕ → List Kind → Type 0
 NoneOf text s ks = (y : Lexeme) → Lex text s y → one_of_kinds ks y.kind ≡ false
 
 pub no_access_kind : {text : List ℕ} {s : ℕ} → NoneIs text s Dot → NoneIs text s LBrack → NoneIs text s NoSubstitutionTemplate → NoneIs text s TemplateHead → NoneOf text s access_kinds
-no_access_kind {text} {s} a b c d = none_of access_kinds (λ k h. first_or (λ k. NoneIs text s k) Dot k _ _ refl h a (λ h. first_or (λ k. NoneIs text s k) LBrack k _ _ refl h b (λ h. first_or (λ k. NoneIs text s k) NoSubstitutionTemplate k _ _ refl h c (λ h. first_or (λ k. NoneIs text s k) TemplateHead k _ _ refl h d (λ h. absurd (false≢true h))))))
+no_access_kind {text} {s} a b c d = none_of access_kinds refl (λ k h. first_or (λ k. NoneIs text s k) Dot k _ _ refl h a (λ h. first_or (λ k. NoneIs text s k) LBrack k _ _ refl h b (λ h. first_or (λ k. NoneIs text s k) NoSubstitutionTemplate k _ _ refl h c (λ h. first_or (λ k. NoneIs text s k) TemplateHead k _ _ refl h d (λ h. absurd (false≢true h))))))
 
 no_call_kind : {text : List ℕ} {s : ℕ} → NoneOf text s access_kinds → NoneIs text s LParen → NoneOf text s call_kinds
-no_call_kind {text} {s} n m = none_of call_kinds (λ k h. first_or (λ k. NoneIs text s k) Dot k _ _ refl h (none_among access_kinds n Dot refl) (λ h. first_or (λ k. NoneIs text s k) LBrack k _ _ refl h (none_among access_kinds n LBrack refl) (λ h. first_or (λ k. NoneIs text s k) LParen k _ _ refl h m (λ h. first_or (λ k. NoneIs text s k) NoSubstitutionTemplate k _ _ refl h (none_among access_kinds n NoSubstitutionTemplate refl) (λ h. first_or (λ k. NoneIs text s k) TemplateHead k _ _ refl h (none_among access_kinds n TemplateHead refl) (λ h. absurd (false≢true h)))))))
+no_call_kind {text} {s} n m = none_of call_kinds refl (λ k h. first_or (λ k. NoneIs text s k) Dot k _ _ refl h (none_among access_kinds n Dot refl) (λ h. first_or (λ k. NoneIs text s k) LBrack k _ _ refl h (none_among access_kinds n LBrack refl) (λ h. first_or (λ k. NoneIs text s k) LParen k _ _ refl h m (λ h. first_or (λ k. NoneIs text s k) NoSubstitutionTemplate k _ _ refl h (none_among access_kinds n NoSubstitutionTemplate refl) (λ h. first_or (λ k. NoneIs text s k) TemplateHead k _ _ refl h (none_among access_kinds n TemplateHead refl) (λ h. absurd (false≢true h)))))))
 
 no_link_kind : {text : List ℕ} {s : ℕ} → NoneOf text s access_kinds → NoneIs text s QuestionDot → NoneIs text s LParen → NoneOf text s link_kinds
-no_link_kind {text} {s} n m o = none_of link_kinds (λ k h. first_or (λ k. NoneIs text s k) Dot k _ _ refl h (none_among access_kinds n Dot refl) (λ h. first_or (λ k. NoneIs text s k) LBrack k _ _ refl h (none_among access_kinds n LBrack refl) (λ h. first_or (λ k. NoneIs text s k) NoSubstitutionTemplate k _ _ refl h (none_among access_kinds n NoSubstitutionTemplate refl) (λ h. first_or (λ k. NoneIs text s k) TemplateHead k _ _ refl h (none_among access_kinds n TemplateHead refl) (λ h. first_or (λ k. NoneIs text s k) QuestionDot k _ _ refl h m (λ h. first_or (λ k. NoneIs text s k) LParen k _ _ refl h o (λ h. absurd (false≢true h))))))))
+no_link_kind {text} {s} n m o = none_of link_kinds refl (λ k h. first_or (λ k. NoneIs text s k) Dot k _ _ refl h (none_among access_kinds n Dot refl) (λ h. first_or (λ k. NoneIs text s k) LBrack k _ _ refl h (none_among access_kinds n LBrack refl) (λ h. first_or (λ k. NoneIs text s k) NoSubstitutionTemplate k _ _ refl h (none_among access_kinds n NoSubstitutionTemplate refl) (λ h. first_or (λ k. NoneIs text s k) TemplateHead k _ _ refl h (none_among access_kinds n TemplateHead refl) (λ h. first_or (λ k. NoneIs text s k) QuestionDot k _ _ refl h m (λ h. first_or (λ k. NoneIs text s k) LParen k _ _ refl h o (λ h. absurd (false≢true h))))))))
 
 -- no template begins here
 no_head_here : {text : List ℕ} {f : Flags} {p : Parser} → At text f p → one_of_kinds heads p.token.kind ≡ false → NoneIs text p.prev_token_end NoSubstitutionTemplate × NoneIs text p.prev_token_end TemplateHead
@@ -165,23 +166,23 @@ no_others : apart any_word (λ k w e. one_of_kinds other_goals k) ≡ true
 unfolding apart
 no_others = refl
 
-pub name_of : (text : List ℕ) (f : Flags) (p q : Parser) → At text f p → read_word p.token.kind ≡ true → escaped_word p.token.kind p.token.escaped ≡ false → (s : Moved text f p q) → Path text f (after (at IdentifierName f)) (rule (at IdentifierName f)) p nothing q (tree (label_here identifier_name no_op p q) end)
+pub name_of : (text : List ℕ) (f : Flags) (p q : Parser) → At text f p → read_word p.token.kind ≡ true → (s : Moved text f p q) → Path text f (after (at IdentifierName f)) (rule (at IdentifierName f)) p nothing q (tree (label_here identifier_name no_op p q) end)
 unfolding rule rule_of
-name_of text f p q a r n s =
+name_of text f p q a r s =
     let z = covered read_words (λ k w e. one_of_kinds read_kinds k && (is_word k && (not (unpassable k) && not (same_kind RAngle k)))) read_are p.token.kind false false r in
     let x = and_parts (one_of_kinds read_kinds p.token.kind) (is_word p.token.kind && (not (unpassable p.token.kind) && not (same_kind RAngle p.token.kind))) z in
     let w = (and_parts (is_word p.token.kind) (not (unpassable p.token.kind) && not (same_kind RAngle p.token.kind)) x.1).0 in
-    let l : IsTrue (is_read s.lexeme) = read_as s.lexeme s.tells n x.0 in
+    let l : IsTrue (is_read s.lexeme) = read_as s.lexeme s.tells x.0 in
     noded a (record { at = s.at; further = s.further; pass = _; walked = walked_one s; verdict = clean s.kept (record { reach = 0; near = omega arith; goes = passes_test a any_word (word_signless p.token.kind r) s l (subst (λ k. is_word k ≡ true) s.tells.kind w) }) })
 
-pub name_taken : (text : List ℕ) (f : Flags) (p q : Parser) (r : Result NodeId Stop) → At text f p → read_word p.token.kind ≡ true → escaped_word p.token.kind p.token.escaped ≡ false → MatchResult r (λ id. TakesLeaf node.IdentifierName op.None p q id) OnlyMemory → Outcome text f (at IdentifierName f) p q r
-name_taken text f p q (Ok id) a r n m =
+pub name_taken : (text : List ℕ) (f : Flags) (p q : Parser) (r : Result NodeId Stop) → At text f p → read_word p.token.kind ≡ true → MatchResult r (λ id. TakesLeaf node.IdentifierName op.None p q id) OnlyMemory → Outcome text f (at IdentifierName f) p q r
+name_taken text f p q (Ok id) a r m =
     let t = m text f a in
     let l : plain_label node.IdentifierName op.None p.token.span ≡ label_here identifier_name no_op p t.mid = ap (λ (v : ℕ). record { kind = identifier_name; op = no_op; flags = 0; span = record { from = p.token.span.start; to = v } }) (t.moved.tells.end ∙ t.moved.ends) in
     let ks : Keeps p.nodes t.mid.nodes = subst (λ (ns : List Node). Keeps p.nodes ns) (sym t.moved.nodes) (Keeps-refl p.nodes) in
-    by_path (subst (λ (v : Label). Path text f (after (at IdentifierName f)) (rule (at IdentifierName f)) p nothing t.mid (tree v end)) (sym l) (name_of text f p t.mid a r n t.moved)) t.moved.same t.made.stays (λ y i. refl) refl (leaf_held t.made ks) (Keeps-trans ks (Keeps-made t.made.made)) (ap (λ (v : Label). v.span) l) (one_lies t.made)
-name_taken text f p q (Err Fatal) a r n m = absurd m
-name_taken text f p q (Err NoMemory) a r n m = tt
+    by_path (subst (λ (v : Label). Path text f (after (at IdentifierName f)) (rule (at IdentifierName f)) p nothing t.mid (tree v end)) (sym l) (name_of text f p t.mid a r t.moved)) t.moved.same t.made.stays (λ y i. refl) refl (leaf_held t.made ks) (Keeps-trans ks (Keeps-made t.made.made)) (ap (λ (v : Label). v.span) l) (one_lies t.made)
+name_taken text f p q (Err Fatal) a r m = absurd m
+name_taken text f p q (Err NoMemory) a r m = tt
 
 -- no template begins with a word
 heads_no_words : apart (λ k w e. one_of_kinds heads k) read_words ≡ true
@@ -365,7 +366,7 @@ abbrev pub HeadTaken : List ℕ → Flags → Parser → Parser → NodeId → T
 HeadTaken text f o p id = Taken text f o p id (λ l cs pass s'. Headed text f o.prev_token_end l cs pass s') (NoMember text f o.prev_token_end)
 
 pub no_bare_new : {text : List ℕ} {f : Flags} {p : Parser} → At text f p → StandsHere p New false → NoBareNew text f p.prev_token_end
-no_bare_new a s = fails_here firsts (λ y l h. stands_not a refl s y l (sym (kind_of_same New y.kind (and_parts _ _ h).0)))
+no_bare_new a s = fails_here firsts (none_seen (stands_not a refl s))
 
 -- neither `new` nor `super` stands here
 none_other : {text : List ℕ} {f : Flags} {p : Parser} → At text f p → StandsHere p New false → StandsHere p super_kind false → NoOther text f p.prev_token_end
@@ -404,7 +405,7 @@ member_closed {text} {f} {o} {p} x (no_link g, n) =
 pub lexeme_there : {text : List ℕ} {f : Flags} {p : Parser} {k : Kind} → At text f p → StandsHere p k true → same_kind RAngle k ≡ false → is_last k ≡ false → one_of_kinds read_kinds k ≡ true → (y : Lexeme) × Lex text p.prev_token_end y × (y.kind ≡ k)
 lexeme_there {k = k} a s n l r =
     let z = found a (uncut a (ap (same_kind RAngle) s.0 ∙ n)) (ap is_last s.0 ∙ l) in
-    (z.0, (z.1, read_of z.0 (sym z.2.kind ∙ s.0) (sym z.2.escaped ∙ s.1) r), sym z.2.kind ∙ s.0)
+    (z.0, (z.1, read_of z.0 (sym z.2.kind ∙ s.0) r), sym z.2.kind ∙ s.0)
 
 -- ---- `new`
 
@@ -414,7 +415,7 @@ new_edge f s = record { ends = λ p cs vs j ls mid d e. e }
 headed_new : {text : List ℕ} (f : Flags) {s s' : ℕ} {l : Label} {cs : Slots} {pass : Lexemes → Lexemes} → NoneIs text s' LParen → Headed text f s l cs pass s' → Stretch text (after (at new_symbol f)) (such (at new_symbol f) always) s nothing s' (tree l cs) pass
 headed_new f o (a_member m b) = new_member f m b.bare
 headed_new f o (a_new n s u z) = s
-headed_new f o (a_super n b w y) = absurd (o y.0 y.1 y.2)
+headed_new f o (a_super n b w y) = absurd (o y.0 y.1 y.2 (read_plain y.0 y.1 y.2 refl))
 
 taken_path : {text : List ℕ} {f : Flags} {n : Symbol} {p q : Parser} {id : NodeId} (x : Taken text f p q id (λ l cs pass s'. Stretch text (after n) (such n always) p.prev_token_end nothing s' (tree l cs) pass) (Underived text n p.prev_token_end)) → Path text f (after n) (such n always) p nothing q (tree x.label x.slots)
 taken_path x = record { at = x.at; further = x.further; pass = x.pass; walked = x.walked; verdict = x.verdict }
@@ -438,7 +439,7 @@ no_called f (a_new z s u k) n = member_lacks f z
 no_called f (a_super z b w y) n = member_lacks f z
 
 pub no_arguments_here : {text : List ℕ} (f : Flags) {s : ℕ} → NoneIs text s LParen → Fails rule (Lex text) (plain full) end (args f) s
-no_arguments_here f n = fails_here firsts (λ y l h. n y l (sym (kind_of_same LParen y.kind (and_parts _ _ h).0)))
+no_arguments_here f n = fails_here firsts (none_seen n)
 
 module _ {text : List ℕ} {f : Flags} {p q : Parser} (a : At text f p) (k : p.token.kind ≡ New) (n : p.token.escaped ≡ false) (m : Moved text f p q) where
   pub no_primary : Underived text (at Primary f) p.prev_token_end
@@ -460,7 +461,7 @@ module _ {text : List ℕ} {f : Flags} {p q : Parser} (a : At text f p) (k : p.t
 -- another lexeme than a dot stands behind `new`
 module _ {text : List ℕ} {f : Flags} {p q : Parser} (a : At text f p) (k : p.token.kind ≡ New) (n : p.token.escaped ≡ false) (m : Moved text f p q) (t : StandsHere q Dot false) where
   no_target_here : Fails rule (Lex text) (plain full) end target_slots p.prev_token_end
-  no_target_here = skips a New k n refl m ▹✗ fails_here firsts (λ y l h. stands_not m.at refl t y l (sym (kind_of_same Dot y.kind (and_parts _ _ h).0)))
+  no_target_here = skips a New k n refl m ▹✗ fails_here firsts (none_seen (stands_not m.at refl t))
 
   none_called : Fails rule (Lex text) (plain full) end (called_member f) q.prev_token_end → Underived text (at Member f) p.prev_token_end
   none_called z = no_member_new f (no_super_at_new a k n m) (no_primary a k n m) ((new_skips a k n m).goes ▹✗ z) (λ X. fails_under (fails_node inside_full no_target_here))
@@ -498,7 +499,7 @@ module _ {text : List ℕ} {f : Flags} {p q : Parser} (a : At text f p) (k : p.t
 
     -- `?.` stands behind the callee
     pub new_refused : StandsHere w QuestionDot true → NoMember text f p.prev_token_end
-    new_refused s = either_way callee_taken.verdict (λ c. (none_called (no_called f c (no_arguments_here f (λ y l e. let z = (stands_there callee_taken.at s.0 refl) y l in (let u : QuestionDot ≡ LParen = sym z.0 ∙ e in cc)))), new_other a k n m (refused c))) (λ z. new_fails z)
+    new_refused s = either_way callee_taken.verdict (λ c. (none_called (no_called f c (no_arguments_here f (λ y l e w. let z = (stands_there callee_taken.at s.0 refl) y l in (let u : QuestionDot ≡ LParen = sym z.0 ∙ e in cc)))), new_other a k n m (refused c))) (λ z. new_fails z)
       where
         refused : {l : Label} {cs : Slots} {pass : Lexemes → Lexemes} → Headed text f q.prev_token_end l cs pass w.prev_token_end → Underived text (at new_symbol f) q.prev_token_end
         refused (a_member c b) = no_new_before f QuestionDot (λ d v. refl) c b.bare (stands_there callee_taken.at s.0 refl)
@@ -632,7 +633,7 @@ none_of_links {text} {f} {s} c o u n c' o' = go (u c' o')
     go (inr z) = z
 
 pub head_closed : {text : List ℕ} {f : Flags} {o p : Parser} {id : NodeId} → HeadTaken text f o p id → NoAccess text p → StandsHere p LParen false → CalleeOutcome text f o p (Ok id)
-head_closed {f = f} x n s = (retake x (λ l cs pass c. a_head c) (λ z. no_lhs_here f z), n, stands_not x.at refl s)
+head_closed {f = f} x n s = (retake x (λ l cs pass c. a_head c) (λ z. no_lhs_here f z), n, (λ y l e. stands_not x.at refl s y l e (read_plain y l e refl)))
 
 module _ {text : List ℕ} {f : Flags} {o p : Parser} {left : NodeId} (a : At text f o) (x : HeadTaken text f o p left) (s : StandsHere p LParen true) where
   parens : AllAre text p.prev_token_end LParen
@@ -701,8 +702,8 @@ pub call_closed : {text : List ℕ} {f : Flags} {o p : Parser} {id : NodeId} →
 call_closed {text} {f} {o} {p} x (no_link g, n) =
     let h = no_head_here x.at n in
     let none : NoAccess text p = no_access_kind (stands_not x.at refl (g by_name false refl)) (stands_not x.at refl (g by_index false refl)) h.0 h.1 in
-    let parens : NoParen text p = stands_not x.at refl (g by_call false refl) in
-    (retake x (λ l cs pass c. a_call (call_ends f c.0 (no_call_kind none parens)) c.1) (λ n. n), none, parens)
+    let parens = stands_not x.at refl (g by_call false refl) in
+    (retake x (λ l cs pass c. a_call (call_ends f c.0 (no_call_kind none parens)) c.1) (λ n. n), none, (λ y l e. parens y l e (read_plain y l e refl)))
 
 -- ---- LeftHandSideExpressions
 
@@ -727,13 +728,13 @@ lhs_stops b n d y l = go (one_of_kinds link_kinds y.kind) refl (covered reads (n
 pub lhs_callee : {text : List ℕ} {f : Flags} {o p : Parser} {id : NodeId} → (x : CalleeTaken text f o p id) → NoAccess text p → NoParen text p → StandsHere p QuestionDot false → Numbered text f (at LeftHandSide f) o p id
 lhs_callee {text} {f} {o} {p} x n m s =
     let y = retake x (λ l cs pass c. whole c) (λ z. z) in
-    numbered y y.row (lhs_stops f.in_ (no_link_kind n none m) (edge_of y.label y.slots))
+    numbered y y.row (lhs_stops f.in_ (no_link_kind n none (λ y l e w. m y l e)) (edge_of y.label y.slots))
   where
     none : NoneIs text p.prev_token_end QuestionDot
     none = stands_not x.at refl s
 
     whole : {l : Label} {cs : Slots} {pass : Lexemes → Lexemes} → Callee text f o.prev_token_end l cs pass p.prev_token_end → Stretch text (after (at LeftHandSide f)) (such (at LeftHandSide f) always) o.prev_token_end nothing p.prev_token_end (tree l cs) pass
-    whole (a_head (a_member c b)) = lhs_new f (new_member f c b.bare) (no_call_behind f c b.uncalled (no_arguments_here f m)) (no_first f (base_none f (member_alone f c none) (no_call_behind f c b.uncalled (no_arguments_here f m))))
+    whole (a_head (a_member c b)) = lhs_new f (new_member f c b.bare) (no_call_behind f c b.uncalled (no_arguments_here f (λ y l e w. m y l e))) (no_first f (base_none f (member_alone f c none) (no_call_behind f c b.uncalled (no_arguments_here f (λ y l e w. m y l e)))))
     whole (a_head (a_new z c u b)) = lhs_new f c (no_call_at_all f z u) (no_first f (base_none f (member_before f z) (no_call_at_all f z u)))
     whole (a_head (a_super z b w y)) = absurd (m y.0 y.1 y.2)
     whole (a_call c b) = lhs_call f b.no_new c (no_first f (base_none f b.no_member (call_alone f c none)))
@@ -743,7 +744,7 @@ module _ {text : List ℕ} {f : Flags} {o p : Parser} {left : NodeId} (a : At te
   chains_here = stands_there x.at s.0 refl
 
   no_parens : NoneIs text p.prev_token_end LParen
-  no_parens y l e = let u : QuestionDot ≡ LParen = sym (chains_here y l).0 ∙ e in cc
+  no_parens y l e w = let u : QuestionDot ≡ LParen = sym (chains_here y l).0 ∙ e in cc
 
   -- what a chain hangs on, and that it is nothing else
   record Base (l : Label) (cs : Slots) (pass : Lexemes → Lexemes) : Type 0 where
@@ -753,7 +754,7 @@ module _ {text : List ℕ} {f : Flags} {o p : Parser} {left : NodeId} (a : At te
 
   based : {l : Label} {cs : Slots} {pass : Lexemes → Lexemes} → Callee text f o.prev_token_end l cs pass p.prev_token_end → Base l cs pass
   based (a_head (a_member c b)) = record { base = base_member f c b.uncalled chains_here; no_bare = no_new_before f QuestionDot (λ d v. refl) c b.bare chains_here; no_call = no_call_behind f c b.uncalled (no_arguments_here f no_parens) }
-  based (a_head (a_super z b w y)) = absurd (no_parens y.0 y.1 y.2)
+  based (a_head (a_super z b w y)) = absurd (no_parens y.0 y.1 y.2 (read_plain y.0 y.1 y.2 refl))
   based (a_head (a_new z c u b)) = let y = lexeme_there x.at s refl refl refl in absurd (false≢true (sym (b y.0 y.1) ∙ subst (λ (v : Kind). one_of_kinds link_kinds v ≡ true) (sym y.2) refl))
   based (a_call c b) = record { base = base_call f c b.no_member; no_bare = b.no_new; no_call = call_unfollowed f c chains_here }
 
@@ -931,7 +932,7 @@ module _ {text : List ℕ} {f : Flags} {p : Parser} (a : At text f p) where
   no_index_link q e s z = stops_so p q e (λ n. none_of_links by_index false (bracket_only f (stands_there a s.0 refl)) n) z
 
   no_index_here : {s : ℕ} → NoneIs text s LBrack → Fails rule (Lex text) (plain full) end (indexed f) s
-  no_index_here n = fails_here firsts (λ y l h. n y l (sym (kind_of_same LBrack y.kind (and_parts _ _ h).0)))
+  no_index_here n = fails_here firsts (none_seen n)
 
   -- behind `?.`
   module _ (s : StandsHere p QuestionDot true) {mid : Parser} (m : Moved text f p mid) where
@@ -959,7 +960,7 @@ module _ {text : List ℕ} {f : Flags} {p : Parser} (a : At text f p) where
     -- a template stands there: no link does
     module _ (h : one_of_kinds heads mid.token.kind ≡ true) where
       no_sign : (k : Kind) → one_of_kinds heads k ≡ false → NoneIs text mid.prev_token_end k
-      no_sign k n y l e = false≢true (sym n ∙ subst (λ (v : Kind). one_of_kinds heads v ≡ true) (sym (heads_there m.at h y l).0 ∙ e) h)
+      no_sign k n y l e w = false≢true (sym n ∙ subst (λ (v : Kind). one_of_kinds heads v ≡ true) (sym (heads_there m.at h y l).0 ∙ e) h)
 
       none_behind : (d : LinkForm) → NotBehind d
       none_behind by_call = no_arguments_here f (λ y l e. no_sign LParen refl y l e)
@@ -993,7 +994,7 @@ module _ {text : List ℕ} {f : Flags} {p : Parser} (a : At text f p) where
       parens_alone : (d : LinkForm) → (d ≡ by_call → ⊥) → NotBehind d
       parens_alone by_call n = absurd (n refl)
       parens_alone by_name n = no_word {k = LParen} refl m.at t
-      parens_alone by_index n = no_index_here (λ y l e. let z : LParen ≡ LBrack = sym (stands_there m.at t.0 refl y l).0 ∙ e in cc)
+      parens_alone by_index n = no_index_here (λ y l e w. let z : LParen ≡ LBrack = sym (stands_there m.at t.0 refl y l).0 ∙ e in cc)
 
       pub optional_call : {q : Parser} {id left : NodeId} {start : ℕ} → WithArguments node.CallExpression true start left mid q id → Linked text f start left p q id
       optional_call y = record { form = by_call; optional = true; sign = s; only = one_link by_call parens_alone; behind = y.behind; children = y.children; part = behind_sign (y.arguments text f m.at); made = y.made }
@@ -1005,7 +1006,7 @@ module _ {text : List ℕ} {f : Flags} {p : Parser} (a : At text f p) where
       brackets_alone : (d : LinkForm) → (d ≡ by_index → ⊥) → NotBehind d
       brackets_alone by_index n = absurd (n refl)
       brackets_alone by_name n = no_word {k = LBrack} refl m.at t
-      brackets_alone by_call n = no_arguments_here f (λ y l e. let z : LBrack ≡ LParen = sym (stands_there m.at t.0 refl y l).0 ∙ e in cc)
+      brackets_alone by_call n = no_arguments_here f (λ y l e w. let z : LBrack ≡ LParen = sym (stands_there m.at t.0 refl y l).0 ∙ e in cc)
 
       pub optional_index : {q : Parser} {id left : NodeId} {start : ℕ} → WithIndex true start left mid q id → Linked text f start left p q id
       optional_index y = record { form = by_index; optional = true; sign = s; only = one_link by_index brackets_alone; behind = y.behind; children = y.children; part = behind_sign (y.part text f m.at); made = y.made }

@@ -53,7 +53,7 @@ use Rattle.js_parsing.proofs.Here.{begins_here, found, uncut}
 use Rattle.js_parsing.proofs.MadeNodes.{leaf_held, made_lies}
 use Rattle.js_parsing.proofs.Moving.{beside_nodes, same_both, same_itself, same_with, stops_behind}
 use Rattle.js_parsing.proofs.Paths.{Path, ◌⟶◌, label_here, last_token, skips, token, walked_to}
-use Rattle.js_parsing.proofs.Signs.{stands_not, stands_there}
+use Rattle.js_parsing.proofs.Signs.{none_seen, stands_not, stands_there}
 use Rattle.js_parsing.proofs.Told.{told_at, told_same}
 use Rattle.js_parsing.proofs.Verdicts.{grown_then, told_wider, verdict_of}
 use Rattle.js_parsing.proofs.Verdicts.{after as grown_behind}
@@ -210,7 +210,7 @@ module _ {text : List ℕ} {f : Flags} {o p : Parser} (a : At text f o) (s : Sta
   target_stops {q} n t w e g = stops_behind w e (same_both m.same n.same) (λ h. grown_then m.kept (grown_then n.kept h)) (λ z. z) (gives_up EndsParse q w e n.at g (λ d i. i) (none_there (λ X. fails_under (fails_node inside_full no_word))))
     where
       no_word : Fails rule (Lex text) (plain full) end target_slots o.prev_token_end
-      no_word = skips a New s.0 s.1 refl m ▹✗ (skips m.at Dot d.0 d.1 refl n ▹✗ fails_here firsts (λ y l h. stands_not n.at refl t y l (sym (kind_of_same Target y.kind (and_parts _ _ h).0))))
+      no_word = skips a New s.0 s.1 refl m ▹✗ (skips m.at Dot d.0 d.1 refl n ▹✗ fails_here firsts (none_seen (stands_not n.at refl t)))
 
   module _ {q r : Parser} (n : Moved text f p q) (t : StandsHere q Target true) (e : Moved text f q r) where
     target_path : Path text f (plain full) target_slots o nothing r (λ us. us)

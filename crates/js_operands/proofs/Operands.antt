@@ -47,7 +47,7 @@ use Rattle.js_parsing.specs.Operators.{unary_kinds}
 use Rattle.js_parsing.proofs.Moving.{same_both, same_with, beside_nodes}
 use Rattle.js_parsing.proofs.Dead.{live, lives}
 use Rattle.js_parsing.proofs.NameKinds.{at_name, listed_name, name_apart, name_passes, name_read, name_test}
-use Rattle.js_parsing.proofs.NamedFirsts.{fails_unnamed}
+use Rattle.js_parsing.proofs.NamedFirsts.{fails_unnamed, fails_escaped}
 use Rattle.js_parsing.proofs.MadeNodes.{leaf_held, one_held, LabelLies, from_start, one_lies}
 use Rattle.js_parsing.proofs.Tight.{plain_reads}
 use Rattle.js_parsing.proofs.Escapes.{read_as}
@@ -122,7 +122,7 @@ pub one_path : {text : List ℕ} {f : Flags} {X : Test} {p q : Parser} (test : L
 one_path test a u s r h = record { at = s.at; further = s.further; pass = _; walked = walked_one s; verdict = clean s.kept (record { reach = 0; near = omega arith; goes = passes_test a test u s r h }) }
 
 pub plain_leaf : {text : List ℕ} {f : Flags} {p q : Parser} (k : Kind) → p.token.kind ≡ k → p.token.escaped ≡ false → one_of_kinds read_kinds k ≡ true → (s : Moved text f p q) → IsTrue (is_read s.lexeme)
-plain_leaf k e n r s = read_of s.lexeme (sym s.tells.kind ∙ e) (sym s.tells.escaped ∙ n) r
+plain_leaf k e n r s = read_of s.lexeme (sym s.tells.kind ∙ e) r
 
 abbrev pub LeafUnder : List ℕ → Flags → NodeKind → Op → Kind → Type 0
 LeafUnder text f l o k = (p q : Parser) → At text f p → p.token.kind ≡ k → p.token.escaped ≡ false → Moved text f p q → Path text f (after (at Primary f)) (rule (at Primary f)) p nothing q (tree (label_here l o p q) end)
@@ -190,14 +190,14 @@ unfolding apart
 name_signless k h = name_apart signs refl k h
 
 -- a name
-pub name_leaf : {text : List ℕ} {f : Flags} {X : Test} {p q : Parser} → At text f p → may_name f.yield_ f.await_ p.token.kind ≡ true → escaped_word p.token.kind p.token.escaped ≡ false → Moved text f p q → Path text f X (lexeme (name_test f)) p nothing q (λ us. us)
-name_leaf {f = f} {p = p} a h n s = one_path (name_test f) a (name_signless p.token.kind (listed_name f.yield_ f.await_ p.token.kind h)) s (read_as s.lexeme s.tells n (name_read p.token.kind (listed_name f.yield_ f.await_ p.token.kind h))) (name_passes f s.lexeme (subst (λ (k : Kind). may_name f.yield_ f.await_ k ≡ true) s.tells.kind h))
+pub name_leaf : {text : List ℕ} {f : Flags} {X : Test} {p q : Parser} → At text f p → may_name f.yield_ f.await_ p.token.kind ≡ true → Moved text f p q → Path text f X (lexeme (name_test f)) p nothing q (λ us. us)
+name_leaf {f = f} {p = p} a h s = one_path (name_test f) a (name_signless p.token.kind (listed_name f.yield_ f.await_ p.token.kind h)) s (read_as s.lexeme s.tells (name_read p.token.kind (listed_name f.yield_ f.await_ p.token.kind h))) (name_passes f s.lexeme (subst (λ (k : Kind). may_name f.yield_ f.await_ k ≡ true) s.tells.kind h))
 
-pub name_path : {text : List ℕ} {f : Flags} {p q : Parser} → At text f p → may_name f.yield_ f.await_ p.token.kind ≡ true → escaped_word p.token.kind p.token.escaped ≡ false → NoFunctionHere p → Moved text f p q → Path text f (after (at Primary f)) (rule (at Primary f)) p nothing q (tree (label_here identifier_reference no_op p q) end)
+pub name_path : {text : List ℕ} {f : Flags} {p q : Parser} → At text f p → may_name f.yield_ f.await_ p.token.kind ≡ true → NoFunctionHere p → Moved text f p q → Path text f (after (at Primary f)) (rule (at Primary f)) p nothing q (tree (label_here identifier_reference no_op p q) end)
 unfolding rule rule_of covers
-name_path {f = f} {p = p} a i n z s =
+name_path {f = f} {p = p} a i z s =
     let k = listed_name f.yield_ f.await_ p.token.kind i in
-    at_name a k ⟼ (left (no_expression a z.1 n s k) ⟼ by_symbol_as {X' = plain full} (λ l cs vs y d. (refl, refl)) (noded a (name_leaf a i n s)))
+    at_name a k ⟼ (left (no_expression a z.1 s k) ⟼ by_symbol_as {X' = plain full} (λ l cs vs y d. (refl, refl)) (noded a (name_leaf a i s)))
 
 -- behind a primary expression whatever may stand that is read
 abbrev no_function : Look
@@ -233,16 +233,21 @@ pub primary_fails : {text : List ℕ} {f : Flags} {p : Parser} → At text f p �
 unfolding rule rule_of covers apart
 primary_fails {f = f} a m n = fails_by (lives (rule (at Primary f)) ▹✗ fails_unnamed a f {X = after (at Primary f)} (λ g. live (rule (at Primary g))) primary_kinds refl refl refl refl refl m n)
 
+-- a word with an escape is no keyword
+pub escaped_fails : {text : List ℕ} {f : Flags} {p : Parser} → At text f p → may_name f.yield_ f.await_ p.token.kind ≡ false → escaped_word p.token.kind p.token.escaped ≡ true → Underived text (at Primary f) p.prev_token_end
+unfolding rule rule_of covers apart
+escaped_fails {f = f} a m e = fails_by (lives (rule (at Primary f)) ▹✗ fails_escaped a f {X = after (at Primary f)} (λ g. live (rule (at Primary g))) refl refl refl refl e m)
+
 pub leaf_under : (text : List ℕ) (f : Flags) (p q : Parser) (nk : NodeKindMade) (o : OpMade) (k : Kind) (r : Result NodeId Stop) → same_row after_expression (row_of (plain_label nk o p.token.span) end) ≡ true → LeafUnder text f (kind_of nk) (op_of o) k → At text f p → p.token.kind ≡ k → p.token.escaped ≡ false → MatchResult r (λ id. TakesLeaf nk o p q id) OnlyMemory → Outcome text f (at Primary f) p q r
 leaf_under text f p q nk o k (Ok id) r path a e n m = leaf_answers k r path a e n (m text f a)
 leaf_under text f p q nk o k (Err Fatal) r path a e n m = absurd m
 leaf_under text f p q nk o k (Err NoMemory) r path a e n m = tt
 
 -- a name
-pub name_outcome : {text : List ℕ} {f : Flags} {p : Parser} (q : Parser) (r : Result NodeId Stop) → At text f p → may_name f.yield_ f.await_ p.token.kind ≡ true → escaped_word p.token.kind p.token.escaped ≡ false → NoFunctionHere p → MatchResult r (λ id. TakesLeaf node.IdentifierReference op.None p q id) OnlyMemory → Outcome text f (at Primary f) p q r
-name_outcome {text} {f} q (Ok id) a h n z m = leaf_made refl (λ q s. name_path a h n z s) (m text f a)
-name_outcome q (Err Fatal) a h n z m = absurd m
-name_outcome q (Err NoMemory) a h n z m = tt
+pub name_outcome : {text : List ℕ} {f : Flags} {p : Parser} (q : Parser) (r : Result NodeId Stop) → At text f p → may_name f.yield_ f.await_ p.token.kind ≡ true → NoFunctionHere p → MatchResult r (λ id. TakesLeaf node.IdentifierReference op.None p q id) OnlyMemory → Outcome text f (at Primary f) p q r
+name_outcome {text} {f} q (Ok id) a h z m = leaf_made refl (λ q s. name_path a h z s) (m text f a)
+name_outcome q (Err Fatal) a h z m = absurd m
+name_outcome q (Err NoMemory) a h z m = tt
 
 pub leaf_outcome : (text : List ℕ) (f : Flags) (p q : Parser) (nk : NodeKindMade) (o : OpMade) (k : Kind) (r : Result NodeId Stop) → same_row after_expression (row_of (plain_label nk o p.token.span) end) ≡ true → Leaf (kind_of nk) (op_of o) k → At text f p → p.token.kind ≡ k → p.token.escaped ≡ false → MatchResult r (λ id. TakesLeaf nk o p q id) OnlyMemory → Outcome text f (at Primary f) p q r
 leaf_outcome text f p q nk o k r e path = leaf_under text f p q nk o k r e (path text f)

@@ -38,7 +38,7 @@ use Rattle.js_parsing.proofs.Signs.{plain_sign, other_kind}
 use Rattle.js_parsing.proofs.Dead.{all_read}
 use Rattle.js_parsing.proofs.Giving.{gives_up}
 use Rattle.js_parsing.proofs.Here.{found, uncut}
-use Rattle.js_parsing.proofs.MadeNodes.{one_held, one_lies}
+use Rattle.js_parsing.proofs.MadeNodes.{one_held, one_lies_in}
 use Rattle.js_parsing.proofs.Moving.{same_both, moves}
 use Rattle.js_operands.proofs.Operands.{by_path, behind_primary}
 use Rattle.js_parsing.proofs.Paths.{Path, ◌⟼◌, ◌⟶◌, ◌⟶✗◌, at_kind, fails_at, token, last_token, noded, label_here, read_of}
@@ -119,7 +119,7 @@ module _ {text : List ℕ} {f : Flags} {p q : Parser} (a : At text f p) (k : p.t
       no_mark : Stretch text (after (at Expression (plus_in f))) (such (at Expression (plus_in f)) always) q.prev_token_end nothing r.prev_token_end (tree x.label x.slots) x.pass → is_function x.label.kind ≡ true → x.label.flags < pife_flag
       no_mark y =
           let z = found x.at (uncut x.at (ap (same_kind RAngle) c)) (ap is_last c) in
-          let l : Lexes (Lex text) r.prev_token_end (last z.0) = (z.1, read_of z.0 (sym z.2.kind ∙ c) (sym z.2.escaped ∙ close_plain) refl) in
+          let l : Lexes (Lex text) r.prev_token_end (last z.0) = (z.1, read_of z.0 (sym z.2.kind ∙ c) refl) in
           unmarked (y.goes.sound end end r.prev_token_end (last z.0) (last z.0) l (inl y.near) is_nothing) refl (all_read text q.prev_token_end (x.pass (last z.0)) (y.goes.passes.lexed (last z.0) l))
 
       module _ (v : Label) (g : (is_function x.label.kind ≡ true → x.label.flags < pife_flag) → v ≡ with_pife x.label) where
@@ -148,7 +148,7 @@ paren_answers {text} {f} {p} {q} {r} {u} {v} {w} {inside} {id} s a k m x c d g b
     let hv : Holds v.nodes (length p.nodes) (length v.nodes) inside.0 t.label x.answer.slots = subst (λ (i : ℕ). Holds v.nodes (length p.nodes) i inside.0 t.label x.answer.slots) (sym g.1.long) t.holds in
     let ks : Keeps p.nodes u.nodes = subst (λ (ns : List Node). Keeps p.nodes ns) (sym d.nodes) (subst (λ (ns : List Node). Keeps ns r.nodes) m.nodes x.keeps) in
     let kv : Keeps p.nodes v.nodes = g.1.keeps p.nodes ks (Holds-range h).0 in
-    by_path (paren_path a k m x.answer c d t.label t.is) (same_both m.same (same_both x.answer.same d.same)) (z.stays ∙ ap (λ (y : Parser). record y { nodes = w.nodes }) g.0) (behind_primary f.in_ (label_here parenthesized_expression no_op p u) (tree t.label x.answer.slots end) text u.prev_token_end) refl (one_held p.nodes z hv) (Keeps-trans kv (Keeps-made z.made)) refl (λ s h. one_lies z s (g.1.lies u.text h))
+    by_path (paren_path a k m x.answer c d t.label t.is) (same_both m.same (same_both x.answer.same d.same)) (z.stays ∙ ap (λ (y : Parser). record y { nodes = w.nodes }) g.0) (behind_primary f.in_ (label_here parenthesized_expression no_op p u) (tree t.label x.answer.slots end) text u.prev_token_end) refl (one_held p.nodes z hv) (Keeps-trans kv (Keeps-made z.made)) refl (λ s h. one_lies_in (ap (λ (y : Parser). y.text) g.0) z s (g.1.lies u.text h))
 
 -- what `expect_closing` answers
 pub closes : (p q : Parser) (opening : Span) (r : Result (Unit {0}) Stop) → Expects (λ p. p.token.kind ≡ RParen) ExpectClosing (Some opening) p q r → Passes RParen p q r

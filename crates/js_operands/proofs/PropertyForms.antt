@@ -23,10 +23,11 @@ use Rattle.js_cursor.specs.declared.stop.Stop.{Stop}
 use Rattle.js_operands.specs.declared.property_name.PropertyName.{PropertyName}
 use Rattle.js_operands.specs.Spreads.{PartOutcome, spread}
 use Rattle.js_operands.proofs.Wholes.{part_by}
+use Rattle.js_parsing.proofs.Escapes.{keyword_is}
 use Rattle.js_parsing.specs.declared.nested.MethodForm.{MethodForm}
 use Rattle.js_parsing.specs.declared.nested.MethodForm.TheVariants.{Method, Getter, Setter}
 use Rattle.js_parsing.specs.Arguments.{NoItem, Partway, behind_item}
-use Rattle.js_parsing.specs.Lexemes.{Lex, escaped_word, may_name, name_kinds, read_word}
+use Rattle.js_parsing.specs.Lexemes.{Lex, may_name, name_kinds, read_word, keyword_kind}
 use Rattle.js_parsing.specs.Moves.{LeafTaken, MadeHere, Moved, Moves, plain_label}
 use Rattle.js_parsing.specs.Nesting.{room}
 use Rattle.js_base.specs.declared.span.Span.{Span}
@@ -37,8 +38,9 @@ use Rattle.js_operands.proofs.PropertyNames.{literal_kinds, word_outcome}
 use Rattle.js_parsing.specs.States.{At}
 use Rattle.js_parsing.proofs.Moving.{beside_nodes, neither}
 use Rattle.js_parsing.proofs.Parts.{part_from, part_sign, parts}
-use Rattle.js_parsing.proofs.Escapes.{plain_word}
 use Rattle.js_parsing.proofs.Paths.{◌⟶✗◌, token}
+use Rattle.js_parsing.proofs.Signs.{plain_sign}
+use Rattle.js_parsing.specs.Stands.{StandsHere}
 use Rattle.js_operands.proofs.Methods.{no_first}
 use Rattle.js_operands.proofs.Properties.{behind_shorthand, forms, kinds_apart, name_part, no_async_line, no_forms, no_getter, no_method, no_name_begins, no_setter, no_named_shorthand, no_shorthand, no_spread, no_value, only_getters, only_method, only_methods, only_named, only_setters, only_shorthand, only_spread, property_name_kinds, none_of_line, with_star, word_apart}
 use Rattle.js_operands.proofs.WordProperties.{name_async, no_accessor, no_dots, no_methods, no_star, no_values, not_alone, one_begins}
@@ -66,6 +68,14 @@ pub no_kind_of : (a b k : Kind) (ks : List Kind) → one_of_kinds (a ∷ b ∷ k
 no_kind_of a b k ks h = let z = neither (same_kind a k) _ h in let y = neither (same_kind b k) _ z.1 in (ap (λ (x : Bool). x || false) z.0, ap (λ (x : Bool). x || false) y.0, y.1)
 
 module _ {text : List ℕ} {f : Flags} {p : Parser} (a : At text f p) where
+  pub dots_stand : p.token.kind ≡ Dot3 → StandsHere p Dot3 true
+  unfolding words
+  dots_stand k = (k, plain_sign Dot3 a k refl refl refl)
+
+  pub star_stands : p.token.kind ≡ Star → StandsHere p Star true
+  unfolding words
+  star_stands k = (k, plain_sign Star a k refl refl refl)
+
   -- a spread
   pub dots_only : p.token.kind ≡ Dot3 → Goes rule (Lex text) behind_item end (rule (at Property f)) p.prev_token_end (spread f) p.prev_token_end (λ us. us) (still 0)
   dots_only k =
@@ -125,45 +135,45 @@ module _ {text : List ℕ} {f : Flags} {p : Parser} (a : At text f p) where
 
   -- ---- a word
 
-  module _ {q : Parser} (r : read_word p.token.kind ≡ true) (e : escaped_word p.token.kind p.token.escaped ≡ false) (m : Moved text f p q) where
+  module _ {q : Parser} (r : read_word p.token.kind ≡ true) (m : Moved text f p q) where
     -- an accessor
     no_shorthand_so : one_of_kinds behind_shorthand q.token.kind ≡ false → Fails rule (Lex text) behind_item end (shorthand f) p.prev_token_end
     no_shorthand_so h = go (may_name f.yield_ f.await_ p.token.kind) refl
       where
         go : (b : Bool) → may_name f.yield_ f.await_ p.token.kind ≡ b → Fails rule (Lex text) behind_item end (shorthand f) p.prev_token_end
-        go true i = not_alone a i e m h
+        go true i = not_alone a i m h
         go false i = no_named_shorthand a i
 
     pub accessor_only : (form : MethodForm) → Begins form p.token.kind × (one_of_kinds ends_name_kinds q.token.kind ≡ false) → Goes rule (Lex text) behind_item end (rule (at Property f)) p.prev_token_end (accessors form f) p.prev_token_end (λ us. us) (still 0)
     accessor_only Method z = absurd z.0
     accessor_only Getter z =
         let h = no_kind_of Colon LParen q.token.kind behind_shorthand z.1 in
-        only_getters f (no_shorthand_so h.2) (no_spread a (no_dots a r e m)) (no_values a r e m h.0) (no_methods a r e m (λ c. no_async_line a c (ap (one_of_kinds (Async ∷ [])) z.0)) h.1) (λ c. no_setter a c (ap (one_of_kinds (Set ∷ [])) z.0))
+        only_getters f (no_shorthand_so h.2) (no_spread a (no_dots a r m)) (no_values a r m h.0) (no_methods a r m (λ c. no_async_line a c (ap (one_of_kinds (Async ∷ [])) z.0)) h.1) (λ c. no_setter a c (ap (one_of_kinds (Set ∷ [])) z.0))
     accessor_only Setter z =
         let h = no_kind_of Colon LParen q.token.kind behind_shorthand z.1 in
-        only_setters f (no_shorthand_so h.2) (no_spread a (no_dots a r e m)) (no_values a r e m h.0) (no_methods a r e m (λ c. no_async_line a c (ap (one_of_kinds (Async ∷ [])) z.0)) h.1) (λ c. no_getter a c (ap (one_of_kinds (Get ∷ [])) z.0))
+        only_setters f (no_shorthand_so h.2) (no_spread a (no_dots a r m)) (no_values a r m h.0) (no_methods a r m (λ c. no_async_line a c (ap (one_of_kinds (Async ∷ [])) z.0)) h.1) (λ c. no_getter a c (ap (one_of_kinds (Get ∷ [])) z.0))
 
     -- the `async` of a method
     pub async_only : p.token.kind ≡ Async → one_of_kinds ends_name_kinds q.token.kind ≡ false → Goes rule (Lex text) behind_item end (rule (at Property f)) p.prev_token_end (methods f) p.prev_token_end (λ us. us) (still 0)
     async_only k z =
         let h = no_kind_of Colon LParen q.token.kind behind_shorthand z in
-        only_methods f (no_shorthand_so h.2) (no_spread a (no_dots a r e m)) (no_values a r e m h.0) (λ c. no_getter a c (ap (one_of_kinds (Get ∷ [])) k)) (λ c. no_setter a c (ap (one_of_kinds (Set ∷ [])) k))
+        only_methods f (no_shorthand_so h.2) (no_spread a (no_dots a r m)) (no_values a r m h.0) (λ c. no_getter a c (ap (one_of_kinds (Get ∷ [])) k)) (λ c. no_setter a c (ap (one_of_kinds (Set ∷ [])) k))
 
     -- its name alone
-    pub shorthand_only : form_of p.token.kind q.token.kind ≡ None → begins_async p.token.kind q.token.kind q.token.is_on_new_line ≡ false → one_of_kinds (Colon ∷ LParen ∷ []) q.token.kind ≡ false → Goes rule (Lex text) behind_item end (rule (at Property f)) p.prev_token_end (shorthand f) p.prev_token_end (λ us. us) (still 0)
+    pub shorthand_only : form_of (keyword_kind p.token) q.token.kind ≡ None → begins_async (keyword_kind p.token) q.token.kind q.token.is_on_new_line ≡ false → one_of_kinds (Colon ∷ LParen ∷ []) q.token.kind ≡ false → Goes rule (Lex text) behind_item end (rule (at Property f)) p.prev_token_end (shorthand f) p.prev_token_end (λ us. us) (still 0)
     shorthand_only n j h =
         let z = no_sign_of Colon LParen q.token.kind h in
-        only_shorthand f (λ c. let y = no_accessor a r e m n c in no_forms f c (no_values a r e m z.0 c) (no_methods a r e m (name_async a r e m j) z.1 c) y.0 y.1) (no_spread a (no_dots a r e m))
+        only_shorthand f (λ c. let y = no_accessor a r m n c in no_forms f c (no_values a r m z.0 c) (no_methods a r m (name_async a r m j) z.1 c) y.0 y.1) (no_spread a (no_dots a r m))
 
     -- its name with something behind it
-    pub word_only : form_of p.token.kind q.token.kind ≡ None → begins_async p.token.kind q.token.kind q.token.is_on_new_line ≡ false → (may_name f.yield_ f.await_ p.token.kind && not (one_of_kinds (Colon ∷ LParen ∷ []) q.token.kind)) ≡ false → NoName text true f p.prev_token_end → Goes rule (Lex text) behind_item end (rule (at Property f)) p.prev_token_end (named false f) p.prev_token_end (λ us. us) (still 0)
+    pub word_only : form_of (keyword_kind p.token) q.token.kind ≡ None → begins_async (keyword_kind p.token) q.token.kind q.token.is_on_new_line ≡ false → (may_name f.yield_ f.await_ p.token.kind && not (one_of_kinds (Colon ∷ LParen ∷ []) q.token.kind)) ≡ false → NoName text true f p.prev_token_end → Goes rule (Lex text) behind_item end (rule (at Property f)) p.prev_token_end (named false f) p.prev_token_end (λ us. us) (still 0)
     unfolding apart
     word_only n j h o =
-        let y = no_accessor a r e m n in
-        only_named f false no_short (no_spread a (no_dots a r e m)) (y false).0 (y false).1 (no_forms f true (no_value a true o) (no_method a true (no_star a r e m) (name_async a r e m j true) o) (y true).0 (y true).1)
+        let y = no_accessor a r m n in
+        only_named f false no_short (no_spread a (no_dots a r m)) (y false).0 (y false).1 (no_forms f true (no_value a true o) (no_method a true (no_star a r m) (name_async a r m j true) o) (y true).0 (y true).1)
       where
         go : (b c : Bool) → may_name f.yield_ f.await_ p.token.kind ≡ b → one_of_kinds (Colon ∷ LParen ∷ []) q.token.kind ≡ c → (b && not c) ≡ false → Fails rule (Lex text) behind_item end (shorthand f) p.prev_token_end
-        go true true i j z = not_alone a i e m (kinds_apart (Colon ∷ LParen ∷ []) behind_shorthand refl q.token.kind j)
+        go true true i j z = not_alone a i m (kinds_apart (Colon ∷ LParen ∷ []) behind_shorthand refl q.token.kind j)
         go true false i j z = absurd (false≢true (sym z))
         go false c i j z = no_named_shorthand a i
 
@@ -209,10 +219,10 @@ module _ {text : List ℕ} {f : Flags} {p q : Parser} (a : At text f p) (e : p.t
 pub one_form : {w b k j : Kind} (form : MethodForm) → w ≡ k → b ≡ j → form_of w b ≡ Some form → Begins form k × (one_of_kinds ends_name_kinds j ≡ false)
 one_form {w} {b} form e h n = let z = one_begins w b form n in (subst (λ (k : Kind). Begins form k) e z.0, subst (λ (k : Kind). one_of_kinds ends_name_kinds k ≡ false) h z.1)
 
-pub begins_plain : (t : Token) (form : MethodForm) → Begins form t.kind → escaped_word t.kind t.escaped ≡ false → t.escaped ≡ false
-begins_plain t Method k n = absurd k
-begins_plain t Getter k n = plain_word t k refl n
-begins_plain t Setter k n = plain_word t k refl n
+pub begins_plain : (t : Token) (form : MethodForm) → Begins form (keyword_kind t) → Begins form t.kind × (t.escaped ≡ false)
+begins_plain t Method k = absurd k
+begins_plain t Getter k = keyword_is t k refl
+begins_plain t Setter k = keyword_is t k refl
 
 pub no_form : {w b k j : Kind} → w ≡ k → b ≡ j → form_of w b ≡ None → form_of k j ≡ None
 no_form {w} {b} {k} {j} e h n = subst (λ (x : Kind). form_of x j ≡ None) e (subst (λ (x : Kind). form_of w x ≡ None) h n)
@@ -226,10 +236,10 @@ pub no_shorthand_here : (y t : Bool) {w b k j : Kind} → w ≡ k → b ≡ j �
 no_shorthand_here y t {w} {b} {k} {j} e h n = subst (λ (x : Kind). (may_name y t x && not (one_of_kinds (Colon ∷ LParen ∷ []) j)) ≡ false) e (subst (λ (x : Kind). (may_name y t w && not (one_of_kinds (Colon ∷ LParen ∷ []) x)) ≡ false) h n)
 
 -- a word that was passed, and its node
-module _ {text : List ℕ} {f : Flags} {p q : Parser} (a : At text f p) (r : read_word p.token.kind ≡ true) (e : escaped_word p.token.kind p.token.escaped ≡ false) (ms : Moves p q) where
+module _ {text : List ℕ} {f : Flags} {p q : Parser} (a : At text f p) (r : read_word p.token.kind ≡ true) (ms : Moves p q) where
   pub word_name : {u : Parser} {id : NodeId} {s : Span} → s ≡ p.token.span → MadeHere (plain_label node.IdentifierName op_made.None s) [] q u id → NameRead text f false p u id
   unfolding apart
-  word_name {u} {id} {s} h n = word_outcome a (λ k d. bracket_is (sym (word_apart (LBrack ∷ []) refl p.token.kind r) ∙ ap (one_of_kinds (LBrack ∷ [])) k)) (word_apart literal_kinds refl p.token.kind r) u (Ok id) (name_taken text f p u (Ok id) a r e (λ t g b. leaf t g b))
+  word_name {u} {id} {s} h n = word_outcome a (λ k d. bracket_is (sym (word_apart (LBrack ∷ []) refl p.token.kind r) ∙ ap (one_of_kinds (LBrack ∷ [])) k)) (word_apart literal_kinds refl p.token.kind r) u (Ok id) (name_taken text f p u (Ok id) a r (λ t g b. leaf t g b))
     where
       bracket_is : false ≡ one_of_kinds (LBrack ∷ []) LBrack → ⊥
       bracket_is h = false≢true h

@@ -45,7 +45,7 @@ use Rattle.js_parsing.specs.Nesting.{room}
 use Rattle.js_operands.proofs.ArgumentLists.{none_there}
 use Rattle.js_operands.proofs.Arrays.{turned}
 use Rattle.js_parsing.proofs.Bracketed.{opened_here, opened_later}
-use Rattle.js_parsing.proofs.Signs.{plain_sign}
+use Rattle.js_parsing.proofs.Signs.{none_seen, plain_sign}
 use Rattle.js_parsing.proofs.Giving.{gives_up}
 use Rattle.js_parsing.proofs.Here.{uncut}
 use Rattle.js_parsing.proofs.Signs.{AllClose, NoneIs}
@@ -85,11 +85,8 @@ closing_plain : (is_word RCurly || same_kind PrivateIdentifier RCurly) ≡ false
 unfolding words
 closing_plain = refl
 
-none_so : {text : List ℕ} {s : ℕ} {k : Kind} → NoneIs text s k → (y : Lexeme) → Lex text s y → IsTrue (seen (is k) y) → ⊥
-none_so {k = k} n y l h = n y l (sym (kind_of_same k y.kind (and_parts (same_kind k y.kind) _ h).0))
-
 all_apart : {text : List ℕ} {s : ℕ} {j k : Kind} → AllAre text s k → (k ≡ j → ⊥) → NoneIs text s j
-all_apart a n y l e = n (sym (a y l).0 ∙ e)
+all_apart a n y l e w = n (sym (a y l).0 ∙ e)
 
 -- a property may be followed by these, and begins with no closing brace
 ends_there : (f : Flags) → covers (starts first_of (after_item true (property f)) (is RCurly)) next_kinds ≡ true
@@ -114,7 +111,7 @@ regrouped = same (λ ts us i j ls rest d. one ts us i j ls rest d) (λ ts us i j
 
 module _ {text : List ℕ} (f : Flags) {s : ℕ} where
   not_closed : NoneIs text s RCurly → Fails rule (Lex text) (plain (is RCurly)) end nothing s
-  not_closed n = fails_nothing (λ ts y l e. none_so n y l e.0)
+  not_closed n = fails_nothing (λ ts y l e. none_seen n y l e.0)
 
   no_more : AllClose text s → Fails rule (Lex text) (plain (is RCurly)) end (commas true (property f)) s
   no_more a = fails_here firsts (λ y l h. not_both (first_of (at Property f)) closing (begins_apart f) y.kind y.newline y.escaped h (a y l).0)
@@ -131,14 +128,14 @@ module _ {text : List ℕ} (f : Flags) {s : ℕ} where
   -- behind one
   no_comma_left : NoneIs text s Comma → Goes rule (Lex text) (plain full) end (rest f) s (tok RCurly) s (λ us. us) (still 0)
   unfolding covers
-  no_comma_left n = part firsts (is RCurly) (no_comma true (property f) (none_so n)) refl ▹ done
+  no_comma_left n = part firsts (is RCurly) (no_comma true (property f) (none_seen n)) refl ▹ done
 
   comma_left : NoneIs text s RCurly → Goes rule (Lex text) (plain full) end (rest f) s (seq (tok Comma) (properties f)) s (λ us. us) (still 0)
   unfolding covers
   comma_left n = part firsts (is RCurly) (left {a = seq (tok Comma) (after_comma true (property f))} {b = nothing} (not_closed n)) refl ▹ regrouped
 
   rest_fails : NoneIs text s Comma → NoneIs text s RCurly → Fails rule (Lex text) (plain full) end (rest f) s
-  rest_fails n m = no_comma_left n ▹✗ fails_lexeme (is RCurly) (none_so m)
+  rest_fails n m = no_comma_left n ▹✗ fails_lexeme (is RCurly) (none_seen m)
 
   property_read : {s' : ℕ} {l : Label} {cs : Slots} {pass : Lexemes → Lexemes} → Stretch text behind_item (property f) s nothing s' (tree l cs) pass → Stretch text (plain full) (seq (commas true (property f)) (tok RCurly)) s (rest f) s' (tree l cs) pass
   unfolding covers
@@ -152,7 +149,7 @@ module _ {text : List ℕ} {f : Flags} {p : Parser} (a : At text f p) where
   -- the closing brace stands here
   module _ (k : p.token.kind ≡ RCurly) where
     rest_closes : Goes rule (Lex text) (plain full) end (rest f) p.prev_token_end (properties f) p.prev_token_end (λ us. us) (still 0)
-    rest_closes = no_comma_left f (λ y l e. false≢true (ap (one_of_kinds (RCurly ∷ template_tails)) (sym e) ∙ (closing_there a k y l).0)) ▹ turned (closes f (closing_there a k))
+    rest_closes = no_comma_left f (λ y l e w. false≢true (ap (one_of_kinds (RCurly ∷ template_tails)) (sym e) ∙ (closing_there a k y l).0)) ▹ turned (closes f (closing_there a k))
 
     pub properties_end : {q : Parser} (ids : List (Option NodeId)) → Moved text f p q → Partway text f (properties f) nothing p q ids ids
     properties_end ids m = part_from (closes f (closing_there a k)) (part_last RCurly a k (plain_sign RCurly a k refl refl closing_plain) refl m)

@@ -39,23 +39,32 @@ use Rattle.js_operands.specs.Numbers.{node_of_number, op_of_number}
 use Rattle.js_operands.specs.PropertyNames.{NoName, NoNames, NameRead, NameOutcome}
 use Rattle.js_operands.proofs.Operands.{exponential_test, of_number, one_path, plain_leaf}
 use Rattle.js_parsing.specs.Answers.{Underived, Numbered, Outcome, Stops}
-use Rattle.js_parsing.specs.Lexemes.{Lex, escaped_word, signs}
+use Rattle.js_parsing.specs.Lexemes.{Lex, signs}
 use Rattle.js_parsing.specs.Moves.{IsWholeHere, LeafTaken, Moved, TakesLeaf, plain_label, unpassable}
 use Rattle.js_parsing.specs.Stands.{StandsHere}
 use Rattle.js_parsing.specs.States.{At, Same, NodesLie}
 use Rattle.js_parsing.proofs.Classes.{here_ends}
-use Rattle.js_parsing.proofs.Giving.{fails_escaped, gives_up}
+use Rattle.js_parsing.proofs.Giving.{gives_up}
 use Rattle.js_parsing.proofs.Here.{uncut}
 use Rattle.js_parsing.proofs.MadeNodes.{leaf_held, one_lies, from_start}
 use Rattle.js_parsing.proofs.Moving.{beside_nodes, moves, same_both, same_with, stops_behind, stops_so}
 use Rattle.js_parsing.proofs.Paths.{Path, ◌⟼◌, ◌⟶◌, ◌⟶✗◌, at_kind, called, fails_at, label_here, last_called, last_token, noded, token}
-use Rattle.js_parsing.proofs.Signs.{other_kind, plain_sign, stands_not}
+use Rattle.js_parsing.proofs.Signs.{none_seen, other_kind, plain_among, plain_sign, stands_not}
 use Rattle.js_parsing.proofs.Verdicts.{grown_then}
 use Rattle.js_parsing.proofs.Verdicts.{after as grown_behind}
 
 -- a name that is no word, and stands in no brackets
 abbrev literals : G
 literals = string ◇ number ◇ never
+
+-- a number has no escape
+pub number_plain : {text : List ℕ} {f : Flags} {p : Parser} → At text f p → one_of_kinds number_kinds p.token.kind ≡ true → p.token.escaped ≡ false
+unfolding covers words
+number_plain a h = plain_among number_kinds a refl h
+
+pub string_plain : {text : List ℕ} {f : Flags} {p : Parser} → At text f p → p.token.kind ≡ Str → p.token.escaped ≡ false
+unfolding words
+string_plain a k = plain_sign Str a k refl refl refl
 
 abbrev pub literal_kinds : List Kind
 literal_kinds = Str ∷ number_kinds
@@ -75,7 +84,7 @@ module _ {text : List ℕ} {f : Flags} {p : Parser} (a : At text f p) where
 
   -- no opening bracket stands here
   pub no_computed : StandsHere p LBrack false → NoName text true f p.prev_token_end
-  no_computed s = fails_here firsts (λ y l h. stands_not a refl s y l (sym (kind_of_same LBrack y.kind (and_parts (same_kind LBrack y.kind) _ h).0)))
+  no_computed s = fails_here firsts (none_seen (stands_not a refl s))
 
   -- one does
   pub no_plain : p.token.kind ≡ LBrack → NoName text false f p.prev_token_end
@@ -85,9 +94,6 @@ module _ {text : List ℕ} {f : Flags} {p : Parser} (a : At text f p) where
   no_names_plainly : StandsHere p LBrack false → NoName text false f p.prev_token_end → NoNames text f p.prev_token_end
   no_names_plainly s n true = no_computed s
   no_names_plainly s n false = n
-
-  pub escaped_names : escaped_word p.token.kind p.token.escaped ≡ true → NoNames text f p.prev_token_end
-  escaped_names e c = fails_escaped a e
 
   -- ---- a word
 

@@ -160,7 +160,7 @@ pattern_so source at_end {text} {s} {y} {t} {faults} u b h k r e x = (right, wro
     right z sound =
         let l = sign_there h (ap (one_of_kinds other_goals) k) in
         let slash : one_of_kinds slashes l.lexeme.kind ≡ true = subst (λ (v : Kind). one_of_kinds (signs_of v) l.lexeme.kind ≡ true) k l.is in
-        let n : IsTrue (is_read l.lexeme) = read_of l.lexeme refl (l.escaped ∙ read_plain y r k refl) (read_slash l.lexeme.kind slash) in
+        let n : IsTrue (is_read l.lexeme) = read_of l.lexeme refl (read_slash l.lexeme.kind slash) in
         let f = sound l.lexeme (l.stands.lex, n) (plain_sign_of l.lexeme.kind slash) in
         let c : comments_pass (passing_of source) h.trivia ≡ true = subst (λ (ps : List (List ℕ)). comments_pass (passing_of source) ps ≡ true) (stands-same f.0.stands h.stands).pieces f.0.comments in
         let w : flags_pass (flags h.word) ≡ true = ap flags_pass are ∙ are_right at_end stand.0 (sym stand.3 ∙ z) in
@@ -277,7 +277,7 @@ module _ {text : List ℕ} {f : Flags} {p q : Parser} {at_end : ℕ} (a : At tex
     plain = stood.escaped ∙ ap (λ (v : Kind). is_escaped v stood.word) kind
 
     read_so : IsTrue (is_read y)
-    read_so = read_of y kind plain refl
+    read_so = read_of y kind refl
 
     from : q.token.span.start ≡ p.token.span.start
     from = h.again.start

@@ -39,7 +39,7 @@ use Rattle.js_parsing.specs.Answers.{Answer, unclean, Stretch, Underived, Number
 use Rattle.js_parsing.specs.Arguments.{item_of, behind_item, NoItem, ItemTaken, ItemOutcome, PartTaken, spread_at}
 use Rattle.js_parsing.specs.Stands.{StandsHere}
 use Rattle.js_parsing.specs.Moves.{Moved, MadeHere, plain_label}
-use Rattle.js_parsing.proofs.Signs.{NoneIs, AllAre}
+use Rattle.js_parsing.proofs.Signs.{none_seen, NoneIs, AllAre}
 use Rattle.js_operands.proofs.ArgumentLists.{is_that}
 use Rattle.js_operands.specs.Spreads.{PartOutcome, spread}
 use Rattle.js_operands.proofs.Wholes.{item_by, part_answers}
@@ -88,7 +88,7 @@ module _ {text : List ℕ} (f : Flags) where
 
   module _ {s : ℕ} (n : NoneIs text s Dot3) where
     no_spread : {X : Test} → Fails rule (Lex text) X end (mk spread_element (spread_slots f)) s
-    no_spread = fails_here firsts (λ y l h. n y l (sym (kind_of_same Dot3 y.kind (and_parts (same_kind Dot3 y.kind) _ h).0)))
+    no_spread = fails_here firsts (none_seen n)
 
     -- an item without `...`
     item_read : (i : Bool) {s' : ℕ} {l : Label} {cs : Slots} {pass : Lexemes → Lexemes} → Stretch text (after (at Assignment (plus_in f))) (such (at Assignment (plus_in f)) always) s nothing s' (tree l cs) pass → Stretch text behind_item (such (item_of i f) always) s nothing s' (tree l cs) pass

@@ -52,7 +52,7 @@ use Rattle.js_parsing.proofs.MadeNodes.{leaf_held, made_lies}
 use Rattle.js_parsing.proofs.Moving.{beside_nodes, same_both, same_with, stops_behind}
 use Rattle.js_parsing.proofs.NameKinds.{no_listed_name}
 use Rattle.js_parsing.proofs.Paths.{label_here, noding, passes, walked_one, walked_to}
-use Rattle.js_parsing.proofs.Signs.{NoneIs, stands_not, stands_there}
+use Rattle.js_parsing.proofs.Signs.{none_seen, NoneIs, stands_not, stands_there}
 use Rattle.js_parsing.proofs.Told.{told_at, told_same}
 use Rattle.js_parsing.proofs.Verdicts.{either_way, grown_then, verdict_of}
 use Rattle.js_parsing.proofs.Verdicts.{after as grown_behind}
@@ -74,14 +74,14 @@ module _ {text : List ℕ} {f : Flags} {p : Parser} (a : At text f p) (s : Stand
 
 -- no arguments stand behind it
 uncalled : {text : List ℕ} {f : Flags} {s s' : ℕ} {l : Label} {cs : Slots} {pass : Lexemes → Lexemes} → SuperWord text f s l cs pass s' → NoneIs text s' LParen → NoSuperCall text f s
-uncalled x n = unfollowed x.word.goes (record { admits = λ ts vs k ls rest d e. (refl, refl) }) (λ us y i e. n y i (sym (kind_of_same LParen y.kind (and_parts (same_kind LParen y.kind) _ e.0).0)))
+uncalled x n = unfollowed x.word.goes (record { admits = λ ts vs k ls rest d e. (refl, refl) }) (λ us y i e. none_seen n y i e.0)
 
 -- neither a name nor an expression in brackets does
 no_name_part : {text : List ℕ} (f : Flags) {s : ℕ} → NoneIs text s Dot → NoLink text f s by_name false
-no_name_part f n = fails_here firsts (λ y l h. n y l (sym (kind_of_same Dot y.kind (and_parts _ _ h).0)))
+no_name_part f n = fails_here firsts (none_seen n)
 
 no_index_part : {text : List ℕ} (f : Flags) {s : ℕ} → NoneIs text s LBrack → NoLink text f s by_index false
-no_index_part f n = fails_here firsts (λ y l h. n y l (sym (kind_of_same LBrack y.kind (and_parts _ _ h).0)))
+no_index_part f n = fails_here firsts (none_seen n)
 
 module _ {text : List ℕ} {f : Flags} {p q : Parser} (a : At text f p) (s : StandsHere p super_kind true) (m : Moved text f p q) where
   the_word : SuperWord text f p.prev_token_end (label_here super_expression no_op p q) end (λ ls. next m.lexeme ls) q.prev_token_end

@@ -59,7 +59,7 @@ use Rattle.js_parsing.specs.Answers.{Outcome as Answered}
 use Rattle.js_parsing.specs.Arguments.{Partway}
 use Rattle.js_parsing.specs.Classes.{IsEarly}
 use Rattle.js_parsing.specs.Heads.{NotedHeads}
-use Rattle.js_parsing.specs.Lexemes.{Lex, KeptFor, Braceless, IsNew, IsReread, News, NoneToEnd, Spot, TriviaKept, Walked, goal_for, is_read, nowhere, one_more, onward, other_goals, read_again, read_kinds, spot, template_tails, with_faults}
+use Rattle.js_parsing.specs.Lexemes.{Lex, KeptFor, Braceless, IsNew, IsReread, News, NoneToEnd, Spot, TriviaKept, Walked, goal_for, is_read, nowhere, one_more, onward, other_goals, read_again, read_kinds, spot, template_tails, with_faults, read_word}
 use Rattle.js_parsing.specs.Moves.{MadeHere, unpassable, plain_label}
 use Rattle.js_parsing.specs.Nesting.{room}
 use Rattle.js_parsing.specs.States.{At, IsPlain, whole, sign, nothing as none_stands, Same, flags_of}
@@ -68,7 +68,7 @@ use Rattle.js_parsing.proofs.Classes.{unexpected_ends}
 use Rattle.js_parsing.proofs.Giving.{kept_one}
 use Rattle.js_parsing.proofs.Here.{alike, begins_here, found, kind_here, plain_token, told_plain, uncut, unsettled}
 use Rattle.js_parsing.proofs.Slashes.{tail_goal}
-use Rattle.js_parsing.proofs.Escapes.{no_name_where, read_plain}
+use Rattle.js_parsing.proofs.Escapes.{no_word_among, read_listed, read_plain}
 use Rattle.js_parsing.proofs.Parts.{part_called, part_path, part_path_fails}
 use Rattle.js_parsing.proofs.Parts.{parts as parts_joined}
 use Rattle.js_operands.proofs.Operands.{behind_primary, by_path}
@@ -161,7 +161,7 @@ module _ {text : List ℕ} {f : Flags} {p : Parser} (a : At text f p) (h : one_o
 
   -- it is what stands here
   pub heads_there : (y : Lexeme) → Lex text p.prev_token_end y → (y.kind ≡ p.token.kind) × (y.escaped ≡ false)
-  heads_there y l = let k = kind_here a refl (head_settled p.token.kind h).0 y l in (k, read_plain y l.1 k (no_name_where (one_of_kinds heads) p.token.kind h refl))
+  heads_there y l = let k = kind_here a refl (head_settled p.token.kind h).0 y l in (k, read_listed heads y l (subst (λ (v : Kind). one_of_kinds heads v ≡ true) (sym k) h) refl)
 
   pub part_here : PartAt text f p
   part_here = record { text_is = a.text_is; flags_are = a.flags_are; at = a.at; uncut = uncut a head_passes.1; part = head_part p.token.kind h; begins = begins_here a; behind = a.behind; heads = a.heads; kept_last = a.kept_last; meets = to_end_passed a (uncut a head_passes.1) head_passes.0 refl }
@@ -252,7 +252,7 @@ module _ {text : List ℕ} {f : Flags} {p q : Parser} (a : PartAt text f p) wher
     stood = subst (λ (v : List ℕ). StandsBehind all_faults v p.prev_token_end h.lexeme) a.text_is h.stood
 
     lexeme_read : IsTrue (is_read h.lexeme)
-    lexeme_read = let k = part_read h.lexeme.kind (subst (λ (k : Kind). one_of_kinds parts k ≡ true) h.tells.kind a.part) in read_of h.lexeme refl (plain_of h.lexeme.kind h.stood.word h.lexeme.escaped h.stood.escaped k.1) k.0
+    lexeme_read = let k = part_read h.lexeme.kind (subst (λ (k : Kind). one_of_kinds parts k ≡ true) h.tells.kind a.part) in read_of h.lexeme refl k.0
 
     moved : PartMoved text f p q
     unfolding the_news
@@ -342,7 +342,7 @@ module _ {text : List ℕ} {f : Flags} {p q : Parser} (a : At text f p) (k : p.t
 
   brace_read : Lex text p.prev_token_end brace.lexeme
   unfolding words
-  brace_read = (brace.stands.lex, read_of brace.lexeme brace_kind (brace.stands.lex.escaped ∙ ap (λ (v : Kind). is_escaped v brace.stands.lex.word) brace_kind) refl)
+  brace_read = (brace.stands.lex, read_of brace.lexeme brace_kind refl)
 
   -- nothing that is the same in every lexical goal stands there
   only_brace : (y : Lexeme) → Braceless text p.prev_token_end y → ⊥
@@ -463,10 +463,10 @@ no_brace {f = f} {p} a n = fails_at a {X = plain full} (tail_of f) (RCurly ∷ t
         second false c h = h
 
 -- one part, over its lexeme
-part_reads : {text : List ℕ} {X : Test} {s from : ℕ} {y : Lexeme} (fl close : ℕ) (k : Kind) → Lex text s y → y.kind ≡ k → same_kind Ident k ≡ false → ((z : Lexeme) → Lex text s z → z.from ≡ from) → Reads rule (Lex text) X end (part fl close k) s y.to (tree (record { kind = template_element; op = no_op; flags = fl; span = record { from = from + 1; to = y.to - close } }) end) (passing y)
+part_reads : {text : List ℕ} {X : Test} {s from : ℕ} {y : Lexeme} (fl close : ℕ) (k : Kind) → Lex text s y → y.kind ≡ k → read_word k ≡ false → ((z : Lexeme) → Lex text s z → z.from ≡ from) → Reads rule (Lex text) X end (part fl close k) s y.to (tree (record { kind = template_element; op = no_op; flags = fl; span = record { from = from + 1; to = y.to - close } }) end) (passing y)
 part_reads {text} {X} {s} {from} {y} fl close k l e n b =
     makes_by (record { kind = template_element; op = no_op; flags = fl; span = record { from = from + 1; to = y.to - close } }) inside_full
-    (reads_lexeme (is k) l (and_from _ _ (subst (λ (v : Kind). same_kind k v ≡ true) (sym e) (same_self k)) (ap not (read_plain y l.1 e n))) (λ z m t. alike m l (sym (ap goal_for (kind_of_same k z.kind (and_parts (same_kind k z.kind) (not z.escaped) t).0)) ∙ sym (ap goal_for e))))
+    (reads_lexeme (is k) l (and_from _ _ (subst (λ (v : Kind). same_kind k v ≡ true) (sym e) (same_self k)) (ap not (read_plain y l e n))) (λ z m t. alike m l (sym (ap goal_for (kind_of_same k z.kind (and_parts (same_kind k z.kind) (not z.escaped) t).0)) ∙ sym (ap goal_for e))))
     (λ ls ls' i j. ap (λ (v : ℕ). record { kind = template_element; op = no_op; flags = fl; span = record { from = v + 1; to = y.to - close } }) (b (here ls) (here_at (Lex text) ls i)))
 
 abbrev element : Bool → Parser → Label
@@ -477,7 +477,7 @@ part_goes : {text : List ℕ} {f : Flags} {X : Test} {p q : Parser} {id : NodeId
 part_goes {text} {f} {X} {p} {q} {id} {b} k d a x e i j =
     subst (λ (l : Label). Reads rule (Lex text) X end (part (cond d tail_flag 0) (cond d 1 2) k) p.prev_token_end q.prev_token_end (tree l end) (passing x.lexeme)) label
     (subst (λ (n : ℕ). Reads rule (Lex text) X end (part (cond d tail_flag 0) (cond d 1 2) k) p.prev_token_end n (tree read_label end) (passing x.lexeme)) x.ends
-    (part_reads (cond d tail_flag 0) (cond d 1 2) k x.stands (sym x.tells.kind ∙ i) (no_name_where (one_of_kinds parts) k (subst (λ (v : Kind). one_of_kinds parts v ≡ true) i a.part) refl) a.begins))
+    (part_reads (cond d tail_flag 0) (cond d 1 2) k x.stands (sym x.tells.kind ∙ i) (no_word_among parts k refl (subst (λ (v : Kind). one_of_kinds parts v ≡ true) i a.part)) a.begins))
   where
     read_label : Label
     read_label = record { kind = template_element; op = no_op; flags = cond d tail_flag 0; span = record { from = p.token.span.start + 1; to = x.lexeme.to - cond d 1 2 } }

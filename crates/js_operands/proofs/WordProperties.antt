@@ -1,12 +1,13 @@
 -- A property that begins with a word (ECMA-262, 13.2.5): what is left of the line of a property, by what stands behind the word.
-use Rattle.std.proofs.Common.{ℕ, ◌≡◌, ◌≤◌, ◌⊎◌, inl, inr, max, suc, Bool, true, false, ◌&&◌, ◌||◌, List, [], ◌∷◌, length, Option, Some, None, IsTrue, IsCharBoundary, refl, sym, ap, subst, arith, ◌∙◌}
+use Rattle.std.proofs.Common.{ℕ, ◌≡◌, ◌≤◌, ◌⊎◌, inl, inr, max, suc, Bool, true, false, ◌&&◌, ◌||◌, List, [], ◌∷◌, length, Option, Some, None, IsTrue, IsCharBoundary, refl, sym, ap, subst, arith, ◌∙◌, cond}
 use Rattle.std.specs.Prelude.{if◌then◌else◌}
 use Rattle.std.proofs.lemmas.Bool.{false≢true, and_parts, or_left}
 use Rattle.js_base.specs.Kinds.{same_kind, one_of_kinds}
 use Rattle.js_base.specs.Texts.{words}
 use Rattle.js_base.specs.declared.kind.Kind.{Kind}
-use Rattle.js_base.specs.declared.kind.Kind.TheVariants.{Async, Colon, Comma, Dot3, Eof, Eq, Get, LBrack, LParen, PrivateIdentifier, RBrack, RCurly, RParen, Set, Star}
+use Rattle.js_base.specs.declared.kind.Kind.TheVariants.{Async, Colon, Comma, Dot3, Eof, Eq, Get, Ident, LBrack, LParen, PrivateIdentifier, RBrack, RCurly, RParen, Set, Star}
 use Rattle.js_base.specs.declared.span.Span.{Span}
+use Rattle.js_base.specs.declared.token.Token.{Token}
 use Rattle.js_base.proofs.KindLemmas.{kind_of_same}
 use Rattle.js_grammar.specs.Insertion.{is_word}
 use Rattle.js_grammar.specs.Lexemes.{is_word as is_worded}
@@ -37,15 +38,16 @@ use Rattle.js_parsing.specs.declared.nested.MethodForm.TheVariants.{Method, Gett
 use Rattle.js_base.specs.declared.diagnostic.Diagnostic.{Diagnostic}
 use Rattle.js_parsing.specs.Answers.{Answer, Grown, Numbered, Stops, Underived}
 use Rattle.js_parsing.specs.Arguments.{PartTaken, behind_item}
-use Rattle.js_parsing.specs.Lexemes.{Lex, escaped_word, is_read, may_name, name_kinds, read_kinds, read_word}
+use Rattle.js_parsing.specs.Lexemes.{Lex, is_read, may_name, name_kinds, read_kinds, read_word, keyword_kind}
 use Rattle.js_parsing.proofs.NameKinds.{listed_name}
 use Rattle.js_parsing.specs.Moves.{Moved, MadeHere, plain_label}
 use Rattle.js_parsing.specs.States.{At, Same, NodesLie}
 use Rattle.js_parsing.proofs.Here.{begins_here, kind_here}
-use Rattle.js_parsing.proofs.MadeNodes.{from_start, leaf_held, node_held, one_lies}
+use Rattle.js_parsing.proofs.MadeNodes.{from_start, leaf_held, node_held, one_lies, one_lies_in}
 use Rattle.js_parsing.proofs.Moving.{beside_nodes, same_both, same_with, stops_behind}
 use Rattle.js_parsing.proofs.Paths.{Path, ◌⟼◌, ◌⟶◌, ◌⟶✗◌, by_symbol_as, fails_at, flagged_by, flagged_here, label_here, last_called, noded, one_read, passes_test, token}
-use Rattle.js_parsing.proofs.Escapes.{plain_word, read_as}
+use Rattle.js_parsing.proofs.Escapes.{read_as, keyword_plain}
+use Rattle.js_parsing.proofs.Giving.{fails_unescaped}
 use Rattle.js_parsing.proofs.Signs.{other_kind, plain_sign}
 use Rattle.js_parsing.proofs.Verdicts.{grown_then, verdict_of}
 use Rattle.js_operands.proofs.Members.{name_of, word_signless, word_signless}
@@ -129,11 +131,11 @@ literals = string ◇ number ◇ never
 abbrev next_kinds : Look
 next_kinds k w e = one_of_kinds (Comma ∷ RParen ∷ RBrack ∷ RCurly ∷ []) k
 
-module _ {text : List ℕ} {f : Flags} {p q : Parser} (a : At text f p) (r : read_word p.token.kind ≡ true) (n : escaped_word p.token.kind p.token.escaped ≡ false) (m : Moved text f p q) where
+module _ {text : List ℕ} {f : Flags} {p q : Parser} (a : At text f p) (r : read_word p.token.kind ≡ true) (m : Moved text f p q) where
   word_is : IsTrue (is_read m.lexeme) × IsTrue (is_word m.lexeme.kind)
   word_is =
       let z = and_parts (one_of_kinds read_kinds p.token.kind) (is_word p.token.kind) (covered read_words word_kinds words_are p.token.kind false false r) in
-      (read_as m.lexeme m.tells n z.0, subst (λ (k : Kind). is_word k ≡ true) m.tells.kind z.1)
+      (read_as m.lexeme m.tells z.0, subst (λ (k : Kind). is_word k ≡ true) m.tells.kind z.1)
 
   abbrev word_label : Label
   word_label = label_here identifier_name no_op p q
@@ -141,7 +143,7 @@ module _ {text : List ℕ} {f : Flags} {p q : Parser} (a : At text f p) (r : rea
   -- it is a name
   word_path : {b : G} → Path text f (plain full) (name false false f ▸ b) p b q (tree word_label end)
   unfolding covers apart
-  word_path = path_then (left (fails_at a literals literal_kinds refl (word_apart literal_kinds refl p.token.kind r)) ⟼ by_symbol_as {X' = after (at IdentifierName f)} (λ l cs vs y d. (refl, refl)) (name_of text f p q a r n m))
+  word_path = path_then (left (fails_at a literals literal_kinds refl (word_apart literal_kinds refl p.token.kind r)) ⟼ by_symbol_as {X' = after (at IdentifierName f)} (λ l cs vs y d. (refl, refl)) (name_of text f p q a r m))
 
   no_bracket : NoName text true f p.prev_token_end
   unfolding covers apart
@@ -162,22 +164,26 @@ module _ {text : List ℕ} {f : Flags} {p q : Parser} (a : At text f p) (r : rea
   no_values h false = fails_node inside_full (word_path ⟶✗ fails_at m.at (value_left f) (Colon ∷ []) refl h)
 
   -- `async` is no method's, where a name ends behind it, or its line
-  pub name_async : begins_async p.token.kind q.token.kind q.token.is_on_new_line ≡ false → (c : Bool) → NoAsyncMethod text c f p.prev_token_end
+  pub name_async : begins_async (keyword_kind p.token) q.token.kind q.token.is_on_new_line ≡ false → (c : Bool) → NoAsyncMethod text c f p.prev_token_end
   unfolding covers apart
-  name_async h c b = go (same_kind Async p.token.kind) (one_of_kinds ends_name_kinds q.token.kind) q.token.is_on_new_line refl refl refl h
+  name_async h c b = by p.token.escaped refl
     where
       behind : (b : Bool) → one_of_kinds ends_name_kinds q.token.kind ≡ true → Fails rule (Lex text) (plain full) end (only b (tok Star) ▸ nothing ▸ name c false f ▸ method_left Method true b f) q.prev_token_end
       behind true e = no_first (fails_at m.at (tok Star) (Star ∷ []) refl (kinds_apart ends_name_kinds (Star ∷ []) refl q.token.kind e))
       behind false e = done ▹✗ (done ▹✗ no_first (no_name_begins m.at c (kinds_apart ends_name_kinds property_name_kinds refl q.token.kind e)))
 
-      at_async : same_kind Async p.token.kind ≡ true → Fails rule (Lex text) (plain full) end (no_newline ▸ only b (tok Star) ▸ nothing ▸ name c false f ▸ method_left Method true b f) q.prev_token_end → Fails rule (Lex text) (plain full) end (async_line c b f) p.prev_token_end
-      at_async k i = part_path_fails {ids = []} {js = []} (part_within (part_sign Async a (sym (kind_of_same Async p.token.kind k)) (plain_word p.token (sym (kind_of_same Async p.token.kind k)) refl n) refl m)) i
+      at_async : p.token.escaped ≡ false → same_kind Async p.token.kind ≡ true → Fails rule (Lex text) (plain full) end (no_newline ▸ only b (tok Star) ▸ nothing ▸ name c false f ▸ method_left Method true b f) q.prev_token_end → Fails rule (Lex text) (plain full) end (async_line c b f) p.prev_token_end
+      at_async e k i = part_path_fails {ids = []} {js = []} (part_within (part_sign Async a (sym (kind_of_same Async p.token.kind k)) e refl m)) i
 
-      go : (x y z : Bool) → same_kind Async p.token.kind ≡ x → one_of_kinds ends_name_kinds q.token.kind ≡ y → q.token.is_on_new_line ≡ z → (if y || z then false else x) ≡ false → Fails rule (Lex text) (plain full) end (async_line c b f) p.prev_token_end
-      go false y z k e w h = no_async_line a c (ap (λ (x : Bool). x || false) k) b
-      go true y true k e w h = at_async k (no_same_line m.at w)
-      go true true false k e w h = at_async k (same_line m.at w ▹✗ behind b e)
-      go true false false k e w h = absurd (false≢true (sym h))
+      go : p.token.escaped ≡ false → (x y z : Bool) → same_kind Async p.token.kind ≡ x → one_of_kinds ends_name_kinds q.token.kind ≡ y → q.token.is_on_new_line ≡ z → (if y || z then false else x) ≡ false → Fails rule (Lex text) (plain full) end (async_line c b f) p.prev_token_end
+      go n false y z k e w h = no_async_line a c (ap (λ (x : Bool). x || false) k) b
+      go n true y true k e w h = at_async n k (no_same_line m.at w)
+      go n true true false k e w h = at_async n k (same_line m.at w ▹✗ behind b e)
+      go n true false false k e w h = absurd (false≢true (sym h))
+
+      by : (e : Bool) → p.token.escaped ≡ e → Fails rule (Lex text) (plain full) end (async_line c b f) p.prev_token_end
+      by true e = no_first (no_first (fails_unescaped (tok Async) a refl e))
+      by false e = go e (same_kind Async p.token.kind) (one_of_kinds ends_name_kinds q.token.kind) q.token.is_on_new_line refl refl refl (subst (λ (k : Kind). begins_async k q.token.kind q.token.is_on_new_line ≡ false) (keyword_plain p.token e) h)
 
   -- nor one without `async`
   pub no_plain : one_of_kinds (LParen ∷ []) q.token.kind ≡ false → (c : Bool) → Fails rule (Lex text) (plain full) end (name c false f ▸ method_left Method false false f) p.prev_token_end
@@ -190,28 +196,48 @@ module _ {text : List ℕ} {f : Flags} {p q : Parser} (a : At text f p) (r : rea
   no_methods k h true = no_method a true no_star (k true) no_bracket
   no_methods k h false = fails_node inside_full (without_star a false no_star (k false) ▹✗ no_plain h false)
 
-  -- no accessor, where a name ends behind `get` and `set`
+  -- no accessor, where `get` and `set` have an escape
+  no_getter_escaped : p.token.escaped ≡ true → (c : Bool) → Fails rule (Lex text) behind_item end (getter_of c f) p.prev_token_end
+  unfolding apart
+  no_getter_escaped e true = fails_unescaped (getter_of true f) a refl e
+  no_getter_escaped e false = fails_unescaped (getter_of false f) a refl e
+
+  no_setter_escaped : p.token.escaped ≡ true → (c : Bool) → Fails rule (Lex text) behind_item end (setter_of c f) p.prev_token_end
+  unfolding apart
+  no_setter_escaped e true = fails_unescaped (setter_of true f) a refl e
+  no_setter_escaped e false = fails_unescaped (setter_of false f) a refl e
+
+  -- nor where a name ends behind them
   no_getter_behind : one_of_kinds ends_name_kinds q.token.kind ≡ true → (c : Bool) → Fails rule (Lex text) behind_item end (getter_of c f) p.prev_token_end
   unfolding apart
-  no_getter_behind h c = go (same_kind Get p.token.kind) refl
+  no_getter_behind h c = go (same_kind Get p.token.kind) p.token.escaped refl refl
     where
-      go : (b : Bool) → same_kind Get p.token.kind ≡ b → Fails rule (Lex text) behind_item end (getter_of c f) p.prev_token_end
-      go true e = fails_node inside_full (token Get a (sym (kind_of_same Get p.token.kind e)) (plain_word p.token (sym (kind_of_same Get p.token.kind e)) refl n) refl m ⟶✗ no_first (no_name_begins m.at c (kinds_apart ends_name_kinds property_name_kinds refl q.token.kind h)))
-      go false e = no_getter a c (ap (λ (b : Bool). b || false) e)
+      go : (b d : Bool) → same_kind Get p.token.kind ≡ b → p.token.escaped ≡ d → Fails rule (Lex text) behind_item end (getter_of c f) p.prev_token_end
+      go b true e n = no_getter_escaped n c
+      go true false e n = fails_node inside_full (token Get a (sym (kind_of_same Get p.token.kind e)) n refl m ⟶✗ no_first (no_name_begins m.at c (kinds_apart ends_name_kinds property_name_kinds refl q.token.kind h)))
+      go false false e n = no_getter a c (ap (λ (b : Bool). b || false) e)
 
   no_setter_behind : one_of_kinds ends_name_kinds q.token.kind ≡ true → (c : Bool) → Fails rule (Lex text) behind_item end (setter_of c f) p.prev_token_end
   unfolding apart
-  no_setter_behind h c = go (same_kind Set p.token.kind) refl
+  no_setter_behind h c = go (same_kind Set p.token.kind) p.token.escaped refl refl
     where
-      go : (b : Bool) → same_kind Set p.token.kind ≡ b → Fails rule (Lex text) behind_item end (setter_of c f) p.prev_token_end
-      go true e = fails_node inside_full (token Set a (sym (kind_of_same Set p.token.kind e)) (plain_word p.token (sym (kind_of_same Set p.token.kind e)) refl n) refl m ⟶✗ no_first (no_name_begins m.at c (kinds_apart ends_name_kinds property_name_kinds refl q.token.kind h)))
-      go false e = no_setter a c (ap (λ (b : Bool). b || false) e)
+      go : (b d : Bool) → same_kind Set p.token.kind ≡ b → p.token.escaped ≡ d → Fails rule (Lex text) behind_item end (setter_of c f) p.prev_token_end
+      go b true e n = no_setter_escaped n c
+      go true false e n = fails_node inside_full (token Set a (sym (kind_of_same Set p.token.kind e)) n refl m ⟶✗ no_first (no_name_begins m.at c (kinds_apart ends_name_kinds property_name_kinds refl q.token.kind h)))
+      go false false e n = no_setter a c (ap (λ (b : Bool). b || false) e)
 
-  pub no_accessor : form_of p.token.kind q.token.kind ≡ None → (c : Bool) → Fails rule (Lex text) behind_item end (getter_of c f) p.prev_token_end × Fails rule (Lex text) behind_item end (setter_of c f) p.prev_token_end
-  no_accessor e c = elim (none_begins p.token.kind q.token.kind e) [
-    | inl h ↦ (no_getter_behind h c, no_setter_behind h c)
-    | inr h ↦ (no_getter a c h.0, no_setter a c h.1)
-  ]
+  pub no_accessor : form_of (keyword_kind p.token) q.token.kind ≡ None → (c : Bool) → Fails rule (Lex text) behind_item end (getter_of c f) p.prev_token_end × Fails rule (Lex text) behind_item end (setter_of c f) p.prev_token_end
+  no_accessor h c = by p.token.escaped refl
+    where
+      Neither : Type 0
+      Neither = Fails rule (Lex text) behind_item end (getter_of c f) p.prev_token_end × Fails rule (Lex text) behind_item end (setter_of c f) p.prev_token_end
+
+      by : (e : Bool) → p.token.escaped ≡ e → Neither
+      by true e = (no_getter_escaped e c, no_setter_escaped e c)
+      by false e = elim (none_begins p.token.kind q.token.kind (subst (λ (k : Kind). form_of k q.token.kind ≡ None) (keyword_plain p.token e) h)) [
+        | inl b ↦ (no_getter_behind b c, no_setter_behind b c)
+        | inr b ↦ (no_getter a c b.0, no_setter a c b.1)
+      ]
 
   -- ---- the word alone
 
@@ -259,7 +285,7 @@ module _ {text : List ℕ} {f : Flags} {p q : Parser} (a : At text f p) (r : rea
 pub name_word : (k : Kind) → one_of_kinds name_kinds k ≡ true → read_word k ≡ true
 name_word k h = or_left (one_of_kinds name_kinds k) _ h
 
-module _ {text : List ℕ} {f : Flags} {p q : Parser} (a : At text f p) (i : may_name f.yield_ f.await_ p.token.kind ≡ true) (n : escaped_word p.token.kind p.token.escaped ≡ false) (m : Moved text f p q) where
+module _ {text : List ℕ} {f : Flags} {p q : Parser} (a : At text f p) (i : may_name f.yield_ f.await_ p.token.kind ≡ true) (m : Moved text f p q) where
   abbrev reference_label : Label
   reference_label = label_here identifier_reference no_op p q
 
@@ -271,10 +297,10 @@ module _ {text : List ℕ} {f : Flags} {p q : Parser} (a : At text f p) (i : may
 
   reference_path : Path text f (plain full) (symbol IdentifierReference f) p nothing q (tree reference_label end)
   unfolding rule rule_of
-  reference_path = by_symbol_as {X' = plain full} (λ l cs vs y d. (refl, refl)) (noded a (name_leaf a i n m))
+  reference_path = by_symbol_as {X' = plain full} (λ l cs vs y d. (refl, refl)) (noded a (name_leaf a i m))
 
   to_initialiser : Path text f behind_item inner p (initialiser f) q two
-  to_initialiser = ahead_then a (name_word p.token.kind (listed_name f.yield_ f.await_ p.token.kind i)) n m (path_then reference_path)
+  to_initialiser = ahead_then a (name_word p.token.kind (listed_name f.yield_ f.await_ p.token.kind i)) m (path_then reference_path)
 
   alone_path : (q.token.kind ≡ Eq → ⊥) → Path text f behind_item (shorthand f) p nothing q (tree (flagged_here object_property init shorthand_flag p q) (two end))
   unfolding covers apart
@@ -315,7 +341,7 @@ module _ {text : List ℕ} {f : Flags} {p q : Parser} (a : At text f p) (i : may
     both_lie : IsCharBoundary p.text p.token.span.start → NodesLie q.text q.nodes → NodesLie q.text v.nodes
     both_lie b h =
         let before : p.token.span.start ≤ q.prev_token_end = (let i = m.further in omega arith) in
-        one_lies value_made (from_start reference_label m.same m.at.at before refl b) (one_lies key_made (from_start (label_here identifier_name no_op p q) m.same m.at.at before refl b) h)
+        one_lies_in (ap (λ (z : Parser). z.text) x.stays) value_made (from_start reference_label m.same m.at.at before refl b) (one_lies key_made (from_start (label_here identifier_name no_op p q) m.same m.at.at before refl b) h)
 
     both_same : Same p v
     both_same = subst (λ (z : Parser). Same p z) (sym both_stay) (same_with v.nodes m.same both_keep both_lie)
@@ -377,8 +403,8 @@ leaves_at {text} {f} {q} {u} {v} {start = start} a x y b =
     let e : v ≡ record q { nodes = v.nodes } = y.stays ∙ ap (λ (z : Parser). record z { nodes = v.nodes }) x.stays in
     (subst (λ (z : Parser). At text f z) (sym e) (beside_nodes v.nodes a), subst (λ (z : Parser). start ≤ z.prev_token_end) (sym e) b, ap (λ (z : Parser). room z) e)
 
-pub shorthand_made : (first : Parser) {q w : Parser} {ids : List (Option NodeId)} {id : NodeId} {s : Span} {fl : ℕ} → s ≡ first.token.span → fl ≡ shorthand_flag → MadeHere (property_label property.Init fl s.start q.prev_token_end) ids q w id → MadeHere (flagged_here object_property init shorthand_flag first q) ids q w id
+pub shorthand_made : (first : Parser) {q w : Parser} {ids : List (Option NodeId)} {id : NodeId} {start fl : ℕ} → start ≡ first.token.span.start → fl ≡ shorthand_flag → MadeHere (property_label property.Init fl start q.prev_token_end) ids q w id → MadeHere (flagged_here object_property init shorthand_flag first q) ids q w id
 shorthand_made first {q} {w} {ids} {id} e h n = subst (λ (v : Label). MadeHere v ids q w id) (rw (e, h) refl) n
 
-pub shorthand_made_with : (first : Parser) {q w : Parser} {ids : List (Option NodeId)} {id : NodeId} {s : Span} → s ≡ first.token.span → MadeHere (property_label property.Init shorthand_flag s.start q.prev_token_end) ids q w id → MadeHere (flagged_here object_property init shorthand_flag first q) ids q w id
+pub shorthand_made_with : (first : Parser) {q w : Parser} {ids : List (Option NodeId)} {id : NodeId} {start : ℕ} → start ≡ first.token.span.start → MadeHere (property_label property.Init shorthand_flag start q.prev_token_end) ids q w id → MadeHere (flagged_here object_property init shorthand_flag first q) ids q w id
 shorthand_made_with first e n = shorthand_made first e refl n

@@ -31,8 +31,8 @@ use Rattle.js_operands.specs.declared.function.FunctionParts.{FunctionParts}
 
 -- whether `function` stands behind the current lexeme, on its line
 abbrev pub FunctionNext : Parser → Bool → Type 0
-FunctionNext p true = (text : List ℕ) (f : Flags) → At text f p → (y : Lexeme) × Lex text p.token.span.end y × (y.kind ≡ a_function) × (y.newline ≡ false)
-FunctionNext p false = (text : List ℕ) (f : Flags) → At text f p → (y : Lexeme) → Lex text p.token.span.end y → y.kind ≡ a_function → y.newline ≡ false → ⊥
+FunctionNext p true = (text : List ℕ) (f : Flags) → At text f p → (y : Lexeme) × Lex text p.token.span.end y × (y.kind ≡ a_function) × (y.escaped ≡ false) × (y.newline ≡ false)
+FunctionNext p false = (text : List ℕ) (f : Flags) → At text f p → (y : Lexeme) → Lex text p.token.span.end y → y.kind ≡ a_function → y.escaped ≡ false → y.newline ≡ false → ⊥
 
 abbrev pub FunctionBehind : Parser → Parser → Bool → Type 0
 FunctionBehind old new b = (new ≡ old) × FunctionNext old b

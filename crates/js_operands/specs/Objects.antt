@@ -23,7 +23,7 @@ use Rattle.js_parsing.specs.declared.nested.MethodForm.{MethodForm}
 use Rattle.js_parsing.specs.declared.nested.MethodForm.TheVariants.{Method, Getter, Setter}
 use Rattle.js_parsing.specs.Answers.{Stops}
 use Rattle.js_parsing.specs.Arguments.{Partway}
-use Rattle.js_parsing.specs.Lexemes.{Lex, escaped_word, may_name}
+use Rattle.js_parsing.specs.Lexemes.{Lex, may_name}
 use Rattle.js_parsing.specs.Methods.{parameters_of}
 use Rattle.js_parsing.specs.Moves.{Moved}
 use Rattle.js_parsing.specs.States.{At}
@@ -130,7 +130,6 @@ ReadsBehindName start n old new r = (text : List ℕ) (f : Flags) (first : Parse
 -- a name stands here, by these parameters
 pub record IsName (f : Flags) (p : Parser) : Type 0 where
   pub kind : may_name f.yield_ f.await_ p.token.kind ≡ true
-  pub plain : escaped_word p.token.kind p.token.escaped ≡ false
 
 -- Its first word was passed: what stands behind it makes of it an accessor, or a name alone.
 abbrev pub ReadsAccessor : ℕ → MethodForm → Parser → Parser → Result NodeId Stop → Type 0

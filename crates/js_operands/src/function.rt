@@ -1,17 +1,18 @@
 //! Functions and generators, asynchronous or not (ECMA-262, sections 15.2, 15.5, 15.6 and 15.8).
 
-ghost use Rattle.std.specs.Prelude.{◌≡◌, ◌+◌, ◌∷◌, [], IfOk, MatchResult, Some, true};
+ghost use Rattle.std.specs.Prelude.{◌≡◌, ◌+◌, ◌∷◌, [], IfOk, MatchResult, Some, true, false};
 ghost use Rattle.js_cursor.specs.Moves.{OnlyMemory};
 ghost use Rattle.js_grammar.specs.Productions.{at, async_flag, flag, generator_flag, Primary};
 ghost use Rattle.js_parsing.specs.Answers.{Answers};
 ghost use Rattle.js_parsing.specs.Moves.{MadeHere, plain_label};
 ghost use Rattle.js_parsing.specs.Nesting.{CanNest, room};
+ghost use Rattle.js_parsing.specs.NodeTexts.{is_textual};
 ghost use Rattle.js_parsing.specs.States.{Standing};
 ghost use Rattle.js_tree.specs.declared.op.Op.TheVariants as op;
 ghost use Rattle.js_tree.specs.Labels.{number_of};
 ghost use Rattle.js_operands.specs.Functions.{BeginsFunction, FunctionBehind, FunctionHere, NamesFunction, TakesName, TakesParts};
 
-use crate::primary::parse_leaf;
+use crate::primary::parse_name;
 use js_base::{DiagnosticKind, Kind, NoMemory, Span};
 use js_cursor::{ParserImpl, Stop};
 use js_lex::ParserConfig;
@@ -150,7 +151,7 @@ fn parse_function_name<C: ParserConfig>(
     ensures { TakesName form is_async is_generator p.old p.new result }
 {
     if function_name_stands(p, form, is_async, is_generator) {
-        let name = parse_leaf(p, NodeKind::BindingIdentifier, Op::None)?;
+        let name = parse_name(p, NodeKind::BindingIdentifier)?;
         return Ok(Some(name));
     }
     if let FunctionForm::Expression = form {
@@ -171,6 +172,7 @@ pub fn make_function<C: ParserConfig>(
     span: Span,
     parts: FunctionParts,
 ) -> Result<NodeId, NoMemory>
+    requires { is_textual kind ≡ false }
     ensures { IfOk result (λ id. MadeHere (record (plain_label kind op.None span) { flags = flag parts.is_async async_flag + flag parts.is_generator generator_flag }) (parts.name ∷ Some parts.parameters ∷ Some parts.body ∷ []) p.old p.new id) }
 {
     let flags = function_flags(parts.is_async, parts.is_generator);

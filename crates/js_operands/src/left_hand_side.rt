@@ -15,12 +15,13 @@ ghost use Rattle.js_parsing.specs.Stands.{StandsHere};
 ghost use Rattle.js_operands.specs.Members as members;
 ghost use Rattle.js_parsing.specs.Moves.{MadeHere};
 ghost use Rattle.js_parsing.specs.Nesting.{CanNest, room};
+ghost use Rattle.js_parsing.specs.NodeTexts.{is_textual};
 ghost use Rattle.js_parsing.specs.States.{Standing};
 ghost use Rattle.js_operands.specs.declared.left_hand_side.LinkBase.TheVariants as base;
 
 use crate::arguments::parse_call_arguments;
 use crate::new_target::parse_new_target;
-use crate::primary::{parse_leaf, parse_primary_expression};
+use crate::primary::{parse_name, parse_primary_expression};
 use crate::super_word::{check_new_callee, is_super_alone, parse_super_member};
 use crate::template::{begins_template, parse_chained_template, parse_tagged_template};
 use js_base::{DiagnosticKind, Kind, NoMemory, Span};
@@ -28,7 +29,7 @@ use js_cursor::{ParserImpl, Stop};
 use js_lex::ParserConfig;
 use js_parsing::context::expression_with_in;
 use js_parsing::diagnostics::diagnostic_at;
-use js_parsing::lexemes::{advance, escaped_word_stands, is_read_word, stands};
+use js_parsing::lexemes::{advance, is_read_word, stands};
 use js_parsing::nested::Nested;
 use js_parsing::nodes::make_one;
 use js_tree::{NodeFlags, NodeId, NodeKind, Op};
@@ -395,6 +396,7 @@ pub fn parse_with_arguments<C: ParserConfig, N: Nested<C>>(
     requires nests { CanNest (N.can nested.now) (room p.old) }
     requires start { start ≤ p.old.prev_token_end }
     requires open { p.old.token.kind ≡ LParen }
+    requires kind { is_textual kind ≡ false }
     ensures { MakesWithArguments kind optional start callee p.old p.new result }
 {
     let mut children = Vec::new(p.alloc);
@@ -414,18 +416,15 @@ fn takes_spreads(kind: NodeKind) -> bool
     }
 }
 
-/// An IdentifierName (ECMA-262, section 12.7).
+/// An IdentifierName: a name or a word, with escapes or without (ECMA-262, section 12.7).
 pub fn parse_identifier_name<C: ParserConfig>(p: &mut ParserImpl<'_, C>) -> Result<NodeId, Stop>
     requires { Standing p.old }
     ensures { Answers (at IdentifierName) p.old p.new result }
 {
-    if escaped_word_stands(p) {
-        return Err(p.set_unexpected());
-    }
     if !is_read_word(p.cur_kind()) {
         return Err(p.set_unexpected());
     }
-    parse_leaf(p, NodeKind::IdentifierName, Op::None)
+    parse_name(p, NodeKind::IdentifierName)
 }
 
 /// The flags of a link.
@@ -447,6 +446,7 @@ fn make_member<C: ParserConfig>(
     right: NodeId,
 ) -> Result<NodeId, NoMemory>
     requires start { start ≤ p.old.prev_token_end }
+    requires kind { is_textual kind ≡ false }
     ensures { IfOk result (λ id. MadeHere (flagged_label kind optional start p.old.prev_token_end) (Some left ∷ Some right ∷ []) p.old p.new id) }
 {
     let span = p.end_span(start);
@@ -464,6 +464,7 @@ fn make_with_arguments<C: ParserConfig>(
     children: Vec<Option<NodeId>>,
 ) -> Result<NodeId, NoMemory>
     requires start { start ≤ p.old.prev_token_end }
+    requires kind { is_textual kind ≡ false }
     ensures { IfOk result (λ id. MadeHere (flagged_label kind optional start p.old.prev_token_end) children.items p.old p.new id) }
 {
     let span = p.end_span(start);

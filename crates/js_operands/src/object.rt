@@ -10,11 +10,12 @@ ghost use Rattle.js_tree.specs.Labels.{number_of};
 ghost use Rattle.js_tree.specs.declared.op.PropertyKind.TheVariants.{Init};
 ghost use Rattle.js_operands.specs.Objects.{NoProperties, Properties, ReadsAccessor, ReadsAsyncMethod, ReadsBehindName, begins_async, ReadsMethod, ReadsShorthand, ReadsValue, TakesProperty, ends_name_kinds, flags_of_form, form_of, function_label, kind_of_form, method_left, property_label};
 ghost use Rattle.js_parsing.specs.Answers.{Answers};
-ghost use Rattle.js_parsing.specs.Lexemes.{escaped_word, may_name, read_word};
+ghost use Rattle.js_parsing.specs.Lexemes.{may_name, read_word};
 ghost use Rattle.js_parsing.specs.Lists.{ReadsItem};
 ghost use Rattle.js_parsing.specs.Methods.{ReadsWhole};
 ghost use Rattle.js_parsing.specs.Moves.{MadeHere};
 ghost use Rattle.js_parsing.specs.Nesting.{CanNest, room};
+ghost use Rattle.js_parsing.specs.NodeTexts.{SpellsName};
 ghost use Rattle.js_parsing.specs.Stands.{StandsHere};
 ghost use Rattle.js_parsing.specs.States.{Standing};
 
@@ -25,9 +26,9 @@ use js_base::{Kind, NoMemory, Span, Token};
 use js_cursor::{ParserImpl, Stop};
 use js_lex::ParserConfig;
 use js_parsing::context::{assignment_with_in, body_of_function, parameters_in_method};
-use js_parsing::lexemes::{advance, escaped_word_stands, is_name_here, is_read_word, stands};
+use js_parsing::lexemes::{advance, is_name_here, is_read_word, keyword_of, stands};
 use js_parsing::nested::{MethodForm, Nested};
-use js_parsing::nodes::{make_leaf, make_list};
+use js_parsing::nodes::{make_list, make_name};
 use js_tree::{NodeFlags, NodeId, NodeKind, Op, PropertyKind};
 
 /// An ObjectLiteral (ECMA-262, section 13.2.5).
@@ -95,9 +96,6 @@ fn parse_property<C: ParserConfig, N: Nested<C>>(
     requires nests { CanNest (N.can nested.now) (room p.old + 1) }
     ensures { ReadsItem (at Property) p.old p.new result }
 {
-    if escaped_word_stands(p) {
-        return Err(p.set_unexpected());
-    }
     if is_read_word(p.cur_kind()) {
         return parse_word_property(p, nested);
     }
@@ -167,22 +165,22 @@ fn parse_word_property<C: ParserConfig, N: Nested<C>>(
     requires at { Standing p.old }
     requires nests { CanNest (N.can nested.now) (room p.old + 1) }
     requires word { read_word p.old.token.kind ≡ true }
-    requires plain { escaped_word p.old.token.kind p.old.token.escaped ≡ false }
     ensures { ReadsItem (at Property) p.old p.new result }
 {
     let word = p.cur_token();
     let span = word.span();
     advance(p)?;
-    if let Some(form) = accessor_form(word.kind(), p.cur_kind()) {
+    let keyword = keyword_of(word);
+    if let Some(form) = accessor_form(keyword, p.cur_kind()) {
         return parse_accessor(p, nested, span.start, form);
     }
-    if begins_async_method(word.kind(), p.cur_token()) {
+    if begins_async_method(keyword, p.cur_token()) {
         return parse_async_method(p, nested, span.start);
     }
     if is_shorthand(p, word.kind(), p.cur_kind()) {
-        return parse_shorthand(p, nested, span);
+        return parse_shorthand(p, nested, word);
     }
-    let key = make_leaf(p, NodeKind::IdentifierName, Op::None, span)?;
+    let key = make_name(p, NodeKind::IdentifierName, word)?;
     let name = PropertyName {
         key,
         computed: false,
@@ -257,23 +255,25 @@ fn parse_accessor<C: ParserConfig, N: Nested<C>>(
 fn parse_shorthand<C: ParserConfig, N: Nested<C>>(
     p: &mut ParserImpl<'_, C>,
     nested: &N,
-    name: Span,
+    name: Token,
 ) -> Result<NodeId, Stop>
     requires at { Standing p.old }
     requires nests { CanNest (N.can nested.now) (room p.old + 1) }
-    requires before { name.start ≤ p.old.prev_token_end }
-    ensures { ReadsShorthand name p.old p.new result }
+    requires before { name.span.start ≤ p.old.prev_token_end }
+    requires spells { SpellsName p.old.text name }
+    ensures { ReadsShorthand name.span p.old p.new result }
 {
-    let key = make_leaf(p, NodeKind::IdentifierName, Op::None, name)?;
-    let value = make_leaf(p, NodeKind::IdentifierReference, Op::None, name)?;
+    let start = name.start();
+    let key = make_name(p, NodeKind::IdentifierName, name)?;
+    let value = make_name(p, NodeKind::IdentifierReference, name)?;
     if !p.at(Kind::Eq) {
         let flags = shorthand_flags();
-        let node = make_property(p, name.start, PropertyKind::Init, flags, key, value)?;
+        let node = make_property(p, start, PropertyKind::Init, flags, key, value)?;
         return Ok(node);
     }
     advance(p)?;
     let initialiser = assignment_with_in(p, nested)?;
-    let node = make_initialised(p, name.start, key, value, initialiser)?;
+    let node = make_initialised(p, start, key, value, initialiser)?;
     Ok(node)
 }
 

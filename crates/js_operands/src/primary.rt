@@ -3,16 +3,19 @@
 ghost use Rattle.std.specs.Prelude.{◌≡◌, true, false, MatchResult, ◌<◌, length};
 ghost use Rattle.js_base.specs.KindSets.{number_kinds};
 ghost use Rattle.js_base.specs.Kinds.{one_of_kinds};
-ghost use Rattle.js_base.specs.declared.kind.Kind.TheVariants.{LParen, Percent, RParen};
+ghost use Rattle.js_base.specs.declared.kind.Kind.TheVariants.{LParen, Percent, RParen, Str};
 ghost use Rattle.js_grammar.specs.Productions.{at, Primary};
 ghost use Rattle.js_cursor.specs.Moves.{OnlyMemory, Opened};
 ghost use Rattle.js_parsing.specs.Answers.{Answers};
 ghost use Rattle.js_tree.specs.Labels.{kind_of};
+ghost use Rattle.js_tree.specs.declared.kind.NodeKind.TheVariants as node;
+ghost use Rattle.js_tree.specs.declared.op.Op.TheVariants as op;
 ghost use Rattle.js_operands.specs.Marked.{Marks, MarksNode};
 ghost use Rattle.js_operands.specs.Marked as marked;
 ghost use Rattle.js_parsing.specs.Moves.{IsWholeHere, TakesLeaf};
-ghost use Rattle.js_parsing.specs.Lexemes.{slashes};
+ghost use Rattle.js_parsing.specs.Lexemes.{read_word, slashes};
 ghost use Rattle.js_parsing.specs.Nesting.{CanNest, room};
+ghost use Rattle.js_parsing.specs.NodeTexts.{is_name_node, is_textual};
 ghost use Rattle.js_operands.specs.Numbers.{node_of_number, op_of_number};
 ghost use Rattle.js_parsing.specs.Moves.{Passes};
 ghost use Rattle.js_parsing.specs.Stands.{NameHere};
@@ -29,7 +32,7 @@ use js_lex::ParserConfig;
 use js_parsing::context::expression_with_in;
 use js_parsing::lexemes::{advance, escaped_word_stands, name_stands, stands};
 use js_parsing::nested::Nested;
-use js_parsing::nodes::{make_leaf, make_one};
+use js_parsing::nodes::{make_leaf, make_name, make_one, make_string};
 use js_tree::{BigintBase, NodeFlags, NodeId, NodeKind, NumberBase, Op, ParserAstBuilder};
 
 /// A PrimaryExpression (ECMA-262, section 13.2): a name, a literal, a regular expression, an array, an object literal, a function, parentheses or a
@@ -42,11 +45,11 @@ pub fn parse_primary_expression<C: ParserConfig, N: Nested<C>>(
     requires nests { CanNest (N.can nested.now) (room p.old) }
     ensures { Answers (at Primary) p.old p.new result }
 {
-    if escaped_word_stands(p) {
-        return Err(p.set_unexpected());
-    }
     if name_stands(p) {
         return parse_name_or_function(p, nested);
+    }
+    if escaped_word_stands(p) {
+        return Err(p.set_unexpected());
     }
     if p.cur_kind().is_number() {
         return parse_number(p);
@@ -55,7 +58,7 @@ pub fn parse_primary_expression<C: ParserConfig, N: Nested<C>>(
         Kind::This => parse_leaf(p, NodeKind::ThisExpression, Op::None),
         Kind::Null => parse_leaf(p, NodeKind::NullLiteral, Op::None),
         Kind::True | Kind::False => parse_leaf(p, NodeKind::BooleanLiteral, Op::None),
-        Kind::Str => parse_leaf(p, NodeKind::StringLiteral, Op::None),
+        Kind::Str => parse_string(p),
         Kind::Slash | Kind::SlashEq => parse_literal_regexp(p),
         Kind::NoSubstitutionTemplate | Kind::TemplateHead => parse_template(p, nested),
         Kind::LParen => parse_parenthesized_expression(p, nested),
@@ -81,7 +84,7 @@ fn parse_name_or_function<C: ParserConfig, N: Nested<C>>(
     if function_stands(p)? {
         return parse_function_expression(p, nested);
     }
-    parse_leaf(p, NodeKind::IdentifierReference, Op::None)
+    parse_name(p, NodeKind::IdentifierReference)
 }
 
 /// A NumericLiteral (ECMA-262, section 12.9.3), or one of a BigInt, which has a node of its own.
@@ -98,7 +101,8 @@ fn parse_number<C: ParserConfig>(p: &mut ParserImpl<'_, C>) -> Result<NodeId, St
 
 /// The kind of the node of a number.
 pub(crate) fn number_node(kind: Kind) -> NodeKind
-    ensures { result ≡ node_of_number kind }
+    ensures node { result ≡ node_of_number kind }
+    ensures plain { is_textual result ≡ false }
 {
     match kind {
         Kind::DecimalBigInt | Kind::BinaryBigInt | Kind::OctalBigInt | Kind::HexBigInt => {
@@ -243,7 +247,7 @@ fn parse_v8_intrinsic_expression<C: ParserConfig, N: Nested<C>>(
     parse_with_arguments(p, nested, start, kind, false, name)
 }
 
-/// A node of one lexeme.
+/// A node of one lexeme, which is no name and no string.
 pub fn parse_leaf<C: ParserConfig>(
     p: &mut ParserImpl<'_, C>,
     kind: NodeKind,
@@ -251,10 +255,40 @@ pub fn parse_leaf<C: ParserConfig>(
 ) -> Result<NodeId, Stop>
     requires at { Standing p.old }
     requires whole { IsWholeHere p.old }
+    requires kind { is_textual kind ≡ false }
     ensures { MatchResult result (λ id. TakesLeaf kind op p.old p.new id) OnlyMemory }
 {
     let span = p.cur_token().span();
     advance(p)?;
     let node = make_leaf(p, kind, op, span)?;
+    Ok(node)
+}
+
+/// The node of the name, or the word, that stands here (ECMA-262, section 12.7).
+pub fn parse_name<C: ParserConfig>(
+    p: &mut ParserImpl<'_, C>,
+    kind: NodeKind,
+) -> Result<NodeId, Stop>
+    requires at { Standing p.old }
+    requires whole { IsWholeHere p.old }
+    requires kind { is_name_node kind ≡ true }
+    requires word { read_word p.old.token.kind ≡ true }
+    ensures { MatchResult result (λ id. TakesLeaf kind op.None p.old p.new id) OnlyMemory }
+{
+    let token = p.cur_token();
+    advance(p)?;
+    let node = make_name(p, kind, token)?;
+    Ok(node)
+}
+
+/// The node of the string that stands here (ECMA-262, section 12.9.4).
+pub fn parse_string<C: ParserConfig>(p: &mut ParserImpl<'_, C>) -> Result<NodeId, Stop>
+    requires at { Standing p.old }
+    requires string { p.old.token.kind ≡ Str }
+    ensures { MatchResult result (λ id. TakesLeaf node.StringLiteral op.None p.old p.new id) OnlyMemory }
+{
+    let span = p.cur_token().span();
+    advance(p)?;
+    let node = make_string(p, span)?;
     Ok(node)
 }

@@ -8,12 +8,12 @@ ghost use Rattle.js_parsing.specs.Stands.{StandsHere};
 ghost use Rattle.js_parsing.specs.States.{Standing};
 
 use crate::left_hand_side::parse_identifier_name;
-use crate::primary::{number_node, number_op, parse_leaf};
+use crate::primary::{number_node, number_op, parse_leaf, parse_string};
 use js_base::Kind;
 use js_cursor::{ParserImpl, Stop};
 use js_lex::ParserConfig;
 use js_parsing::context::assignment_with_in;
-use js_parsing::lexemes::{advance, escaped_word_stands, stands};
+use js_parsing::lexemes::{advance, stands};
 use js_parsing::nested::Nested;
 use js_tree::{NodeId, NodeKind, Op};
 
@@ -55,15 +55,12 @@ fn parse_plain_name<C: ParserConfig>(p: &mut ParserImpl<'_, C>) -> Result<NodeId
     requires no_bracket { StandsHere p.old LBrack false }
     ensures { NamesPlainly p.old p.new result }
 {
-    if escaped_word_stands(p) {
-        return Err(p.set_unexpected());
-    }
     let kind = p.cur_kind();
     if kind.is_number() {
         return parse_leaf(p, number_node(kind), number_op(kind));
     }
     match kind {
-        Kind::Str => parse_leaf(p, NodeKind::StringLiteral, Op::None),
+        Kind::Str => parse_string(p),
         _ => parse_identifier_name(p),
     }
 }

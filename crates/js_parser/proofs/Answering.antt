@@ -118,7 +118,7 @@ one_at_least d ds e = cc
 
 -- what stands before the end of the current lexeme lies in the text
 pub nodes_lie : {p : Parser} {ids : List (Option NodeId)} (span : Span) (nodes : List Node) → span.start ≡ 0 → span.end ≡ p.token.span.end → nodes ≡ with_program (program_node span ids) p.nodes → IsAt p → NodesLie p.text p.nodes → NodesLie p.text nodes
-nodes_lie {p} {ids} span nodes a b n h l = subst (λ (ns : List Node). NodesLie p.text ns) (sym n) (program_lie (program_node span ids) p.nodes (subst (λ (v : Span). LiesIn v p.text) (sym (span_is span a b)) (record { ordered = omega arith; starts_whole = IsCharBoundary-start p.text h.utf8; ends_whole = h.lies.ends_whole })) l)
+nodes_lie {p} {ids} span nodes a b n h l = subst (λ (ns : List Node). NodesLie p.text ns) (sym n) (program_lie (program_node span ids) tt p.nodes (subst (λ (v : Span). LiesIn v p.text) (sym (span_is span a b)) (record { ordered = omega arith; starts_whole = IsCharBoundary-start p.text h.utf8; ends_whole = h.lies.ends_whole })) l)
 
 pub taken_answer : {text : List ℕ} {s : SourceType} {o : ParseOptions} {asks : Bool} {p : Parser} {ids : List (Option NodeId)} (span : Span) (nodes : List Node) (out kept : LexerOutput) (early : List Diagnostic) (covers : List Span) → span.start ≡ 0 → span.end ≡ p.token.span.end → ((cs : Slots) → HoldsAll p.nodes 1 (length p.nodes) ids cs → IsTree nodes (program_tree span cs)) → nodes ≡ with_program (program_node span ids) p.nodes → ((t : Tree) → IsTree nodes t → early ≡ told_in p.text Anywhere t.slots) → ((t : Tree) → IsTree nodes t → covers ≡ map placed (initialised_in t.slots)) → out ≡ record kept { errors = with_leftover (p.lexer.kept.errors ++ p.errors) early covers } → LieIn p.lexer.text kept → ProgramTaken text s o asks p ids → IsAnswer text (goal_of s) (options_of o) nodes out false
 taken_answer {text} {s} {o} {asks} {p} {ids} span nodes out kept early covers a b t n f i e l h = go (p.lexer.kept.errors ++ p.errors) refl
@@ -130,7 +130,7 @@ taken_answer {text} {s} {o} {asks} {p} {ids} span nodes out kept early covers a 
     whole = subst (λ (v : Span). IsTree nodes (program_tree v h.slots)) (span_is span a b) (t h.slots h.holds)
 
     all_lie : NodesLie text nodes
-    all_lie = subst (λ (ns : List Node). NodesLie text ns) (sym n) (program_lie (program_node span ids) p.nodes (subst (λ (v : Span). LiesIn v text) (sym (span_is span a b)) (up_to_token h.is_of)) h.lies)
+    all_lie = subst (λ (ns : List Node). NodesLie text ns) (sym n) (program_lie (program_node span ids) tt p.nodes (subst (λ (v : Span). LiesIn v text) (sym (span_is span a b)) (up_to_token h.is_of)) h.lies)
 
     slots_inside : SlotsLie text h.slots
     slots_inside = slots_lie h.lies (h.holds).stands
@@ -246,7 +246,7 @@ refused_answer {text} {s} {o} {p} {ids} ns span nodes told out kept n a b k z t 
   is_tree = subst (λ (v : Span). IsTree nodes (program_tree v end)) (span_is span a (b ∙ ap (λ (v : List ℕ). length v) h.is_of.text_is)) (childless ns span z t);
   program_lies = whole;
   inside = tt;
-  nodes_lie = subst (λ (ms : List Node). NodesLie text ms) (sym (t ∙ ap (λ (ms : List Node). with_program (program_node span ids) ms) same)) (program_lie (program_node span ids) p.nodes (subst (λ (v : Span). LiesIn v text) (sym (span_is span a (b ∙ ap (λ (v : List ℕ). length v) h.is_of.text_is))) whole) h.lies);
+  nodes_lie = subst (λ (ms : List Node). NodesLie text ms) (sym (t ∙ ap (λ (ms : List Node). with_program (program_node span ids) ms) same)) (program_lie (program_node span ids) tt p.nodes (subst (λ (v : Span). LiesIn v text) (sym (span_is span a (b ∙ ap (λ (v : List ℕ). length v) h.is_of.text_is))) whole) h.lies);
   clean = λ y. absurd (some y);
   unclean = λ y. none_read h.none;
   early = λ q. absurd (false≢true (sym q));

@@ -1,7 +1,7 @@
 -- A core text's readings by the whole table, over the kinds of lexemes that are read so far, are its readings by the core grammar.
 use Rattle.std.proofs.Common.{ℕ, ◌≡◌, true, not, List, Some, None, refl, sym, subst, ap, ◌∙◌, Bool, false}
 use Rattle.std.specs.Prelude.{IsUtf8, codes, Option}
-use Rattle.std.proofs.lemmas.Bool.{false≢true, and_parts, and_from}
+use Rattle.std.proofs.lemmas.Bool.{false≢true, and_parts}
 use Rattle.js_base.specs.declared.kind.Kind.{Kind}
 use Rattle.js_base.specs.declared.kind.Kind.TheVariants.{Eof, HashbangComment}
 use Rattle.js_base.specs.declared.options.ParseOptions.{ParseOptions}
@@ -41,7 +41,7 @@ plainly_so false h = refl
 
 -- a core lexeme is read
 read_so : (y : Lexeme) → core_lexeme y ≡ true → is_read y ≡ true
-read_so y h = let k = and_parts (one_of_kinds core_kinds y.kind) (not y.escaped) h in read_of y refl (plainly_so y.escaped k.1) (every_at (one_of_kinds read_kinds) core_kinds y.kind k.0 refl)
+read_so y h = let k = and_parts (one_of_kinds core_kinds y.kind) (not y.escaped) h in read_of y refl (every_at (one_of_kinds read_kinds) core_kinds y.kind k.0 refl)
 
 all_read : (text : List ℕ) (goal : Goal) (s : ℕ) (ls : Lexemes) → Lexes (Lex (passing_of goal) text) s ls → AllCore ls → Lexes (Faultless goal text) s ls
 all_read text goal s (last x) l c = (l, read_so x c)

@@ -1,6 +1,6 @@
 -- How a text begins: a list of directives and items stands at its start, or behind a hashbang comment (ECMA-262, 12.5).
 use Rattle.std.proofs.Common.{ℕ, ◌==◌, ◌≡◌, true, false, List, [], ◌∷◌, ◌++◌, Some, refl, sym, ap, subst, arith, ◌∙◌, eqb-true}
-use Rattle.std.proofs.lemmas.Bool.{false≢true, and_parts}
+use Rattle.std.proofs.lemmas.Bool.{false≢true}
 use Rattle.js_base.specs.declared.kind.Kind.{Kind}
 use Rattle.js_base.specs.declared.kind.Kind.TheVariants.{HashbangComment}
 use Rattle.js_base.specs.Kinds.{one_of_kinds}
@@ -54,7 +54,7 @@ none_begins {text} n (y, h) =
 
 -- no hashbang comment is read
 unread : {text : List ℕ} (goal : Goal) {s : ℕ} {y : Lexeme} → Faultless goal text s y → HashbangComment ≡ y.kind → ⊥
-unread goal {y = y} l k = false≢true (subst (λ (v : Kind). one_of_kinds read_kinds v ≡ true) (sym k) (and_parts (one_of_kinds read_kinds y.kind) _ l.1).0)
+unread goal {y = y} l k = false≢true (subst (λ (v : Kind). one_of_kinds read_kinds v ≡ true) (sym k) l.1)
 
 -- What Program derives over lexemes that are read is what a list derives from the place s, with its front; what was kept for them is of the list's lexemes.
 pub record Parts (text : List ℕ) (source : Goal) (f : Flags) (s : ℕ) (front : Slots → Slots) (put : Lexemes → Lexemes) (t : Tree) (ls : Lexemes) (l : AreRead text source ls) (place : ℕ) (final : Lexeme) : Type 0 where

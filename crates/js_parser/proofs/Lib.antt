@@ -8,6 +8,7 @@ pub mod Answering
 pub mod CoreTexts
 pub mod FlagScans
 pub mod Broken
+pub mod Cooked
 pub mod EarlyErrors
 pub mod EarlyMarks
 pub mod Leftovers

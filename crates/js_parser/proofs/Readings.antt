@@ -1,6 +1,6 @@
 -- From the statements that were taken to the readings of the whole text.
 use Rattle.std.proofs.Common.{ℕ, zero, suc, ◌&&◌, take, ◌≡◌, max, ◌⊎◌, inl, inr, List, [], ◌∷◌, ◌++◌, length, Bool, true, false, not, ◌||◌, IsTrue, Option, refl, sym, ap, subst, arith, ◌∙◌}
-use Rattle.std.proofs.lemmas.Bool.{and_from, false≢true}
+use Rattle.std.proofs.lemmas.Bool.{false≢true}
 use Rattle.js_base.specs.declared.diagnostic.Diagnostic.{Diagnostic}
 use Rattle.js_base.specs.declared.kind.Kind.{Kind}
 use Rattle.js_base.specs.declared.kind.Kind.TheVariants.{Eof, Undetermined, RAngle, HashbangComment}
@@ -16,6 +16,7 @@ use Rattle.js_grammar.specs.Lexemes.{is_escaped, division}
 use Rattle.js_grammar.specs.Parsing.{plain, Reads}
 use Rattle.js_grammar.specs.Productions.{Flags, at, Program}
 use Rattle.js_grammar.specs.Table.{rule, rule_of}
+use Rattle.js_grammar.proofs.Behind.{lexed_behind}
 use Rattle.js_grammar.proofs.Looks.{covers}
 use Rattle.js_grammar.proofs.Calculus.{◌▹◌, more_of, here_at, ends, label_is, slots_are}
 use Rattle.js_lex.specs.States.{goal_of}
@@ -30,11 +31,13 @@ use Rattle.js_cursor.specs.Tokens.{IsToken, whole as whole_token, sign as sign_t
 use Rattle.js_cursor.specs.declared.stop.Stop.{Stop}
 use Rattle.js_cursor.specs.declared.stop.Stop.TheVariants.{Fatal, NoMemory}
 use Rattle.js_parsing.specs.Answers.{Stretch, Verdict, clean, unclean, wider}
-use Rattle.js_parsing.specs.Lexemes.{IsRight, Lex, goal_for, is_read, other_goals, read_kinds, signs}
+use Rattle.js_parsing.specs.Lexemes.{IsRight, Lex, goal_for, is_read, other_goals, signs}
+use Rattle.js_parsing.specs.NodeTexts.{NodeFits}
 use Rattle.js_parsing.specs.States.{At, IsPlain, whole, sign, nothing as no_lexeme, flags_of, Standing, NodesLie, SpansLie}
 use Rattle.js_statements.specs.StatementLists.{at_end, with_directives, statements, NoList, Taken, AllTaken, AllRefused}
 use Rattle.js_statements.specs.declared.statement_list.StatementList.TheVariants.{Text}
 use Rattle.js_parsing.proofs.Beginning.{begins, begins_with_hashbang, behind_first, none_noted}
+use Rattle.js_parsing.proofs.Escapes.{read_plain}
 use Rattle.js_parsing.proofs.Giving.{fails_none}
 use Rattle.js_parsing.proofs.Here.{alike, told, plain_there, kind_here}
 use Rattle.js_parsing.proofs.Paths.{at_kind, read_of}
@@ -57,7 +60,7 @@ use Rattle.js_lex.specs.Scans.{NoLexeme}
 use Rattle.js_lex.specs.States.{State}
 use Rattle.js_parser.proofs.Hashbangs.{hashbang_label, program_label, behind_comment, alone}
 use Rattle.js_parser.proofs.Fronts.{Front, Parts, kind_of_hashbang, none_begins, at_the_start, behind_a_comment}
-use Rattle.js_parsing.proofs.MadeNodes.{leaf_held, one_lies}
+use Rattle.js_parsing.proofs.MadeNodes.{leaf_held, one_lies_in}
 use Rattle.js_parsing.proofs.Moving.{standing, beside_nodes}
 use Rattle.js_parser.specs.Parsed.{options_of, IsAnswer}
 use Rattle.js_parser.specs.Readings.{parameters, ReadingBy, IsOnlyReadingBy, HasNoReadingBy}
@@ -102,7 +105,7 @@ end_here {text} {q = q} a e = go a.plain
     read_end : (y : Lexeme) → StandsBehind all_faults text q.prev_token_end y → y.kind ≡ Eof → IsTrue (is_read y)
     read_end y l k =
         let n : y.escaped ≡ false = l.escaped ∙ ap (λ (v : Kind). is_escaped v l.word) k in
-        read_of y k n refl
+        read_of y k refl
 
     go : IsPlain text q → (y : Lexeme) × Lex text q.prev_token_end y × (y.kind ≡ Eof)
     go (whole c n x) = let k : x.lexeme.kind ≡ Eof = sym x.tells.kind ∙ e in (x.lexeme, (x.stands.lex, read_end x.lexeme x.stands.lex k), k)
@@ -116,6 +119,11 @@ record Body (L : ℕ → Lexeme → Type 0) (f : Flags) (s : ℕ) (slots : Slots
   final : Lexeme
   is_end : final.kind ≡ Eof
   derived : Takes rule (with_directives Text f) end slots s ls end place (last final)
+
+-- the text's end is no word, so no escape stands in it
+unescaped : {text : List ℕ} {f : Flags} {s : ℕ} {slots : Slots} {ls : Lexemes} (b : Body (Lex text) f s slots ls) → b.final.escaped ≡ false
+unfolding words
+unescaped {text} b = read_plain b.final (lexed_behind (Lex text) b.derived b.lexed) b.is_end refl
 
 module _ {text : List ℕ} {f : Flags} {q : Parser} (a : At text f q) (e : q.token.kind ≡ Eof) where
   end_kind : (y : Lexeme) → Lex text q.prev_token_end y → y.kind ≡ Eof
@@ -148,7 +156,7 @@ module _ {text : List ℕ} {f : Flags} {q : Parser} (a : At text f q) (e : q.tok
 
     only_so : {ts : Slots} {ls : Lexemes} (b : Body (Lex text) f s ts ls) → (ts ≡ slots end) × (ls ≡ pass (last (end_here a e).0)) × (b.final ≡ (end_here a e).0)
     only_so {ts} {ls} b =
-        let x = list_reads.only ts end b.place ls (last b.final) b.lexed b.derived (rw b.is_end refl, refl) in
+        let x = list_reads.only ts end b.place ls (last b.final) b.lexed b.derived (rw b.is_end (ap not (unescaped b)), refl) in
         let z = ends x.4 in
         let same : b.final ≡ (end_here a e).0 = same_end (subst (λ (v : Lexemes). Lexes (Lex text) q.prev_token_end v) z.2 x.3) in
         (x.2 ∙ ap slots z.0, x.5 ∙ ap pass (z.2 ∙ ap (λ (v : Lexeme). last v) same), same)
@@ -159,7 +167,7 @@ module _ {text : List ℕ} {f : Flags} {q : Parser} (a : At text f q) (e : q.tok
 
 -- where statements can't be taken, no list is derived
 no_list : {text : List ℕ} {f : Flags} {s : ℕ} {ts : Slots} {ls : Lexemes} → NoList text Text (with_directives Text f) s → Body (Lex text) f s ts ls → ⊥
-no_list {ts = ts} {ls} n b = n.no ts end b.place ls (last b.final) b.lexed b.derived (rw b.is_end refl, refl)
+no_list {ts = ts} {ls} n b = n.no ts end b.place ls (last b.final) b.lexed b.derived (rw b.is_end (ap not (unescaped b)), refl)
 
 -- ---- faults
 
@@ -470,7 +478,7 @@ module _ {b : Bool} {p : Parser} (s : Starts p.text p.source_type p.options b p)
   first_lies : NodesLie p.text p.nodes
   first_lies =
       let at_start = IsCharBoundary-start p.text s.at.utf8 in
-      All-same (λ (n : Node). LiesIn n.span p.text) p.nodes (empty_program ∷ []) s.nodes (All-cons (λ (n : Node). LiesIn n.span p.text) empty_program [] (record { ordered = omega arith; starts_whole = at_start; ends_whole = at_start }) (All-nil (λ (n : Node). LiesIn n.span p.text)))
+      All-same (NodeFits p.text) p.nodes (empty_program ∷ []) s.nodes (All-cons (NodeFits p.text) empty_program [] (record { lies = record { ordered = omega arith; starts_whole = at_start; ends_whole = at_start }; texted = tt }) (All-nil (NodeFits p.text)))
 
   -- no hashbang comment stands here
   module _ (n : p.token.kind ≡ HashbangComment → ⊥) where
@@ -548,7 +556,7 @@ module _ {b : Bool} {p : Parser} (s : Starts p.text p.source_type p.options b p)
       trivia = subst (λ (r : Parser). TriviaKept p.text d.lexeme.to r.lexer.kept.comments r.lexer.kept.irregular_whitespaces) (sym n.stays) (trivia_first d.next kept_nothing s.at.reads s.at.reads_for ends_there);
       tokens = (λ i. kept_before (n.stays i).lexer (n.stays i).token) ∙ (before_next d.next ∙ kept_nothing.tokens);
       errors = ap (λ (r : Parser). r.errors) n.stays ∙ (d.stays.errors ∙ s.errors);
-      lies = (hashbang_stands.at.lies.starts_whole, subst (λ (t : List ℕ). NodesLie t v.nodes) (sym text_still) (one_lies n comment_lies (All-same (λ (x : Node). LiesIn x.span p.text) m.nodes p.nodes d.stays.nodes first_lies)));
+      lies = (hashbang_stands.at.lies.starts_whole, subst (λ (t : List ℕ). NodesLie t v.nodes) (sym text_still) (one_lies_in d.stays.text n comment_lies (All-same (NodeFits p.text) m.nodes p.nodes d.stays.nodes first_lies)));
     }
       where
         comment_lies : LiesIn (record { start = span.start; end = span.end }) p.text

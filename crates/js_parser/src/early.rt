@@ -1,13 +1,18 @@
 //! Early rules (ECMA-262, section 5.2.7) that a tree is looked through for, since the grammar doesn't have them.
 
-ghost use Rattle.std.specs.Prelude.{◌≡◌, ◌<◌, ◌≤◌, ◌++◌, length, true, false, None, IfOk, OnOk};
+ghost use Rattle.std.specs.Prelude.{◌≡◌, ◌<◌, ◌≤◌, ◌++◌, ℕ, List, chars, is_some, length, true, false, None, IfOk, OnOk};
 ghost use Rattle.std.specs.List.{All};
+ghost use Rattle.js_base.specs.Decoding.{cooked};
 ghost use Rattle.js_base.specs.Spans.{LiesIn};
+ghost use Rattle.js_grammar.specs.Names as names;
 ghost use Rattle.js_grammar.specs.Trees.{Tree as SeenTree};
 ghost use Rattle.js_tree.specs.Holding.{IsTree};
 ghost use Rattle.js_tree.specs.Labels.{kind_of};
 ghost use Rattle.js_tree.specs.Nodes.{node_at};
+ghost use Rattle.js_tree.specs.Sources.{text_of};
+ghost use Rattle.js_parser.specs.declared.early.Position.{Position as Standing};
 ghost use Rattle.js_parser.specs.declared.early.Position.TheVariants.{Anywhere, InTemplate};
+ghost use Rattle.js_parser.specs.Broken as broken;
 ghost use Rattle.js_parser.specs.Broken.{past, within, rule_at, told_of, told_in, pending, pending_within, pending_alike, first_end};
 
 use crate::flags::has_u_and_v;
@@ -93,11 +98,38 @@ fn has_suspect(alloc: Global, tree: &Tree, source: &str) -> Result<bool, NoMemor
     ensures none { IfOk result (λ found. found ≡ false → (id : NodeId) → id.0 < length tree.now → rule_at source.now tree.now id InTemplate ≡ None) }
 {
     for i in 0..tree.kinds().len() {
-        if broken_rule(alloc, tree, NodeId(i), Position::InTemplate, source)?.is_some() {
+        if breaks_in_template(alloc, tree, NodeId(i), source)? {
             return Ok(true);
         }
     }
     Ok(false)
+}
+
+/// Whether the node breaks a rule where most is asked.
+#[inline(always)]
+fn breaks_in_template(
+    alloc: Global,
+    tree: &Tree,
+    id: NodeId,
+    source: &str,
+) -> Result<bool, NoMemory>
+    requires contained { id.0 < length tree.now }
+    requires lies { LiesIn (node_at tree.now id).span source.now }
+    ensures { IfOk result (λ found. found ≡ is_some (rule_at source.now tree.now id InTemplate)) }
+{
+    if !may_break(tree.kind(id)) {
+        return Ok(false);
+    }
+    let rule = broken_rule(alloc, tree, id, Position::InTemplate, source)?;
+    Ok(rule.is_some())
+}
+
+/// Whether a node of this kind breaks a rule, by what its text is and where it stands.
+#[inline(always)]
+fn may_break(kind: NodeKind) -> bool
+    ensures { result ≡ false → (p : Standing) (w : List ℕ) → broken.broken_rule p (kind_of kind) w ≡ None }
+{
+    matches!(kind, NodeKind::RegExpLiteral | NodeKind::TemplateElement)
 }
 
 /// The rule that the node breaks, standing at the position.
@@ -118,11 +150,36 @@ fn broken_rule(
             Ok(Some(DiagnosticKind::RegExpFlagUAndV))
         }
         (NodeKind::TemplateElement, Position::InTemplate)
-            if tree.cooked(alloc, id, source)?.is_none() => {
+            if !has_cooked(alloc, tree, id, source)? => {
             Ok(Some(DiagnosticKind::TemplateLiteral))
         }
         _ => Ok(None),
     }
+}
+
+/// Whether the part of a template has a cooked text (section 12.9.6.1), as it does where no backslash stands in it.
+fn has_cooked(alloc: Global, tree: &Tree, id: NodeId, source: &str) -> Result<bool, NoMemory>
+    requires contained { id.0 < length tree.now }
+    requires lies { LiesIn (node_at tree.now id).span source.now }
+    ensures { IfOk result (λ has. has ≡ is_some (cooked (chars (text_of (node_at tree.now id) source.now)))) }
+{
+    if !has_backslash(tree.text(id, source)) {
+        return Ok(true);
+    }
+    let units = tree.cooked(alloc, id, source)?;
+    Ok(units.is_some())
+}
+
+/// Whether a backslash stands in a text.
+fn has_backslash(text: &str) -> bool
+    ensures { result ≡ names.has_backslash (chars text.now) }
+{
+    for c in text.chars() {
+        if c == '\\' {
+            return true;
+        }
+    }
+    false
 }
 
 /// Tells that the node breaks a rule, if it does.

@@ -1,5 +1,5 @@
 -- What needs a lexeme that isn't read derives nothing, and falls away from a choice.
-use Rattle.std.proofs.Common.{ℕ, ◌≡◌, Bool, true, false, not, cond, ◌&&◌, ◌||◌, List, IsTrue, refl}
+use Rattle.std.proofs.Common.{ℕ, ◌≡◌, Bool, true, false, cond, ◌&&◌, ◌||◌, List, IsTrue, refl}
 use Rattle.std.proofs.lemmas.Bool.{false≢true, and_parts}
 use Rattle.js_grammar.specs.Trees.{Slots}
 use Rattle.js_grammar.specs.Grammar.{Lexeme, Lexemes, last, next, here, Look, seen, never, lexeme, look, ahead, seq, alt, when, commas, such, marked, node, ended, keep, Takes, is_nothing, is_lexeme, is_look, is_text, is_ahead, is_empty_slot, is_seq, is_left, is_right, is_when, is_many, is_commas, is_such, is_marked, is_node, is_ended, is_keep, is_kept}
@@ -11,11 +11,11 @@ use Rattle.js_grammar.specs.FirstSets.{first}
 use Rattle.js_grammar.proofs.Looks.{apart, not_both}
 use Rattle.js_grammar.proofs.FirstClaims.{begins}
 use Rattle.js_grammar.proofs.Calculus.{stay, left, right, both, ◌▹◌}
-use Rattle.js_parsing.specs.Lexemes.{Lex, escaped_word, is_read, read_kinds}
+use Rattle.js_parsing.specs.Lexemes.{Lex, is_read, read_kinds}
 use Rattle.js_base.specs.Kinds.{one_of_kinds}
 
 abbrev reads : Look
-reads k w e = one_of_kinds read_kinds k && not (escaped_word k e)
+reads k w e = one_of_kinds read_kinds k
 
 -- no lexeme that is read passes the test
 abbrev pub unread : Look → Bool

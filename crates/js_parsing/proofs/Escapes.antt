@@ -1,18 +1,24 @@
--- What is read has no escape, unless it is a plain name.
-use Rattle.std.proofs.Common.{ℕ, ◌≡◌, Bool, true, false, not, ◌&&◌, List, IsTrue, refl, sym, ap, subst, ◌∙◌}
-use Rattle.std.proofs.lemmas.Bool.{false≢true, and_parts, and_from}
+-- Which lexemes have an escape: names and words alone.
+use Rattle.std.proofs.Common.{ℕ, ◌≡◌, Bool, true, false, not, ◌&&◌, ◌||◌, List, IsTrue, refl, sym, ap, subst, ◌∙◌, cond}
+use Rattle.std.proofs.lemmas.Bool.{false≢true, and_parts, and_from, or_left, or_right}
 use Rattle.js_base.specs.declared.kind.Kind.{Kind}
-use Rattle.js_base.specs.declared.kind.Kind.TheVariants.{Ident}
+use Rattle.js_base.specs.declared.kind.Kind.TheVariants.{Ident, PrivateIdentifier}
 use Rattle.js_base.specs.declared.token.Token.{Token}
 use Rattle.js_base.specs.Kinds.{same_kind, one_of_kinds}
+use Rattle.js_base.specs.Texts.{words}
 use Rattle.js_base.proofs.KindLemmas.{kind_of_same}
-use Rattle.js_grammar.specs.Grammar.{Lexeme}
+use Rattle.js_grammar.specs.Grammar.{Lexeme, Look}
+use Rattle.js_grammar.specs.Lexemes.{is_word}
+use Rattle.js_grammar.specs.Names.{has_backslash}
 use Rattle.js_grammar.specs.Productions.{Flags}
+use Rattle.js_grammar.specs.Pruning.{every_kind}
+use Rattle.js_grammar.proofs.Looks.{covers, covered}
 use Rattle.js_lex.specs.Reading.{Tells, is_right_angle}
 use Rattle.js_cursor.specs.Parsers.{Parser}
-use Rattle.js_parsing.specs.Lexemes.{Lex, escaped_word, is_read, other_goals, read_kinds}
+use Rattle.js_parsing.specs.Lexemes.{Lex, escaped_word, is_read, may_name, other_goals, read_kinds, read_word, keyword_kind}
 use Rattle.js_parsing.specs.States.{At}
 use Rattle.js_parsing.proofs.Here.{angled, escaped_here, told_plain}
+use Rattle.js_parsing.proofs.Paths.{of_every}
 
 -- what holds of a kind, and not of a plain name's
 pub no_name_where : (P : Kind → Bool) (k : Kind) → P k ≡ true → P Ident ≡ false → same_kind Ident k ≡ false
@@ -60,48 +66,113 @@ plain_here p e n w h = (e, plain_word p.token e n (sym w ∙ h))
 pub unescaped_word : (k : Kind) (e : Bool) → e ≡ false → escaped_word k e ≡ false
 unescaped_word k e h = ap (λ (b : Bool). b && not (same_kind Ident k)) h
 
+abbrev sign_like : Look
+sign_like k w e = one_of_kinds read_kinds k && not (read_word k)
+
+abbrev unescapable : Look
+unescapable k w e = not (is_word k || same_kind PrivateIdentifier k)
+
+signs_unescapable : covers sign_like unescapable ≡ true
+unfolding covers words
+signs_unescapable = refl
+
 is_not : (b : Bool) → not b ≡ true → b ≡ false
 is_not true h = absurd (false≢true h)
 is_not false h = refl
 
-pub read_word_plain : (y : Lexeme) → IsTrue (is_read y) → escaped_word y.kind y.escaped ≡ false
-read_word_plain y h = is_not (escaped_word y.kind y.escaped) (and_parts (one_of_kinds read_kinds y.kind) _ h).1
-
--- what is read and is no plain name has no escape
-pub read_unnamed : (y : Lexeme) → IsTrue (is_read y) → same_kind Ident y.kind ≡ false → y.escaped ≡ false
-read_unnamed y h n = word_plain y.kind y.escaped n (read_word_plain y h)
+-- what is read and is no word has no escape
+pub read_unnamed : {text : List ℕ} {s : ℕ} (y : Lexeme) → Lex text s y → read_word y.kind ≡ false → y.escaped ≡ false
+read_unnamed y l n = l.0.escaped ∙ ap (λ (b : Bool). b && has_backslash l.0.word) (is_not (is_word y.kind || same_kind PrivateIdentifier y.kind) (covered sign_like unescapable signs_unescapable y.kind false false (and_from _ _ l.1 (ap not n))))
 
 -- of a kind
-pub read_plain : {k : Kind} (y : Lexeme) → IsTrue (is_read y) → y.kind ≡ k → same_kind Ident k ≡ false → y.escaped ≡ false
-read_plain y h e n = read_unnamed y h (ap (same_kind Ident) e ∙ n)
+pub read_plain : {k : Kind} {text : List ℕ} {s : ℕ} (y : Lexeme) → Lex text s y → y.kind ≡ k → read_word k ≡ false → y.escaped ≡ false
+read_plain y l e n = read_unnamed y l (ap read_word e ∙ n)
+
+-- none of these kinds is a word's
+pub no_word_among : (ks : List Kind) (k : Kind) → every_kind (λ k. not (read_word k)) ks ≡ true → one_of_kinds ks k ≡ true → read_word k ≡ false
+no_word_among ks k n m = is_not (read_word k) (of_every (λ k. not (read_word k)) ks k n m)
 
 -- one of these kinds
-pub read_listed : (ks : List Kind) (y : Lexeme) → IsTrue (is_read y) → one_of_kinds ks y.kind ≡ true → one_of_kinds ks Ident ≡ false → y.escaped ≡ false
-read_listed ks y h m n = read_unnamed y h (no_name_where (one_of_kinds ks) y.kind m n)
+pub read_listed : (ks : List Kind) {text : List ℕ} {s : ℕ} (y : Lexeme) → Lex text s y → one_of_kinds ks y.kind ≡ true → every_kind (λ k. not (read_word k)) ks ≡ true → y.escaped ≡ false
+read_listed ks y l m n = read_unnamed y l (no_word_among ks y.kind n m)
 
--- a token of a kind that is read, which is no word with an escape, is the whole of a lexeme that is
-pub read_as : (y : Lexeme) {t : Token} → Tells y t → escaped_word t.kind t.escaped ≡ false → one_of_kinds read_kinds t.kind ≡ true → IsTrue (is_read y)
-read_as y {t} s n h =
-    let same : escaped_word t.kind t.escaped ≡ escaped_word y.kind y.escaped = λ i. escaped_word (s.kind i) (s.escaped i) in
-    and_from _ _ (subst (λ (k : Kind). one_of_kinds read_kinds k ≡ true) s.kind h) (ap not (sym same ∙ n))
-
--- and the token of a lexeme that is read is none
-pub token_read : {y : Lexeme} {t : Token} → Tells y t → IsTrue (is_read y) → escaped_word t.kind t.escaped ≡ false
-token_read {y} {t} s h =
-    let same : escaped_word t.kind t.escaped ≡ escaped_word y.kind y.escaped = λ i. escaped_word (s.kind i) (s.escaped i) in
-    same ∙ read_word_plain y h
-
--- where a word with an escape stands, no lexeme is read
-pub none_escaped : {text : List ℕ} {f : Flags} {p : Parser} → At text f p → escaped_word p.token.kind p.token.escaped ≡ true → (y : Lexeme) → Lex text p.prev_token_end y → ⊥
-none_escaped {text} {p = p} a e y l = go (same_kind Ident y.kind) refl
+-- what has an escape and is no name is a word with one
+pub escaped_unnamed : (y t : Bool) (k : Kind) (e : Bool) → may_name y t k ≡ false → e ≡ true → escaped_word k e ≡ true
+escaped_unnamed y t k e n i = and_from e _ i (ap not (go (same_kind Ident k) refl))
   where
-    parts : (p.token.escaped ≡ true) × (not (same_kind Ident p.token.kind) ≡ true)
-    parts = and_parts p.token.escaped (not (same_kind Ident p.token.kind)) e
+    go : (b : Bool) → same_kind Ident k ≡ b → same_kind Ident k ≡ false
+    go true q = absurd (false≢true (sym n ∙ ap (may_name y t) (sym (kind_of_same Ident k q))))
+    go false q = q
 
-    at_name : y.kind ≡ Ident → (c : Bool) → p.cut ≡ c → ⊥
-    at_name k true c = false≢true (sym (ap is_right_angle k) ∙ angled a c y l)
-    at_name k false c = false≢true (sym (ap (λ (v : Kind). not (same_kind Ident v)) ((told_plain a c y (ap (one_of_kinds other_goals) k) l).kind ∙ k)) ∙ parts.1)
+-- a token of a kind that is read is the whole of a lexeme that is
+pub read_as : (y : Lexeme) {t : Token} → Tells y t → one_of_kinds read_kinds t.kind ≡ true → IsTrue (is_read y)
+read_as y s h = subst (λ (k : Kind). one_of_kinds read_kinds k ≡ true) s.kind h
 
-    go : (b : Bool) → same_kind Ident y.kind ≡ b → ⊥
-    go true i = at_name (sym (kind_of_same Ident y.kind i)) p.cut refl
-    go false n = false≢true (sym (read_unnamed y l.1 n) ∙ (escaped_here a y l ∙ parts.0))
+-- where a word with an escape stands, every lexeme has one
+pub all_escaped : {text : List ℕ} {f : Flags} {p : Parser} → At text f p → escaped_word p.token.kind p.token.escaped ≡ true → (y : Lexeme) → Lex text p.prev_token_end y → y.escaped ≡ true
+all_escaped {p = p} a e y l = escaped_here a y l ∙ (and_parts p.token.escaped (not (same_kind Ident p.token.kind)) e).0
+
+abbrev a_word : Look
+a_word k w e = read_word k
+
+abbrev settled_look : Look
+settled_look k w e = not (is_right_angle k) && not (one_of_kinds other_goals k)
+
+words_settled : covers a_word settled_look ≡ true
+unfolding covers
+words_settled = refl
+
+-- what has an escape is a word
+pub word_escaped : {text : List ℕ} {s : ℕ} (y : Lexeme) → Lex text s y → y.escaped ≡ true → read_word y.kind ≡ true
+word_escaped y l e = go (read_word y.kind) refl
+  where
+    go : (b : Bool) → read_word y.kind ≡ b → read_word y.kind ≡ true
+    go true q = q
+    go false q = absurd (false≢true (sym (read_unnamed y l q) ∙ e))
+
+-- so it has none, or it is one
+pub plain_or_word : {text : List ℕ} {s : ℕ} (y : Lexeme) → Lex text s y → (not y.escaped || read_word y.kind) ≡ true
+plain_or_word y l = go y.escaped refl
+  where
+    go : (b : Bool) → y.escaped ≡ b → (not y.escaped || read_word y.kind) ≡ true
+    go true e = or_right (not y.escaped) _ (word_escaped y l e)
+    go false e = or_left _ _ (ap not e)
+
+-- it is of the token's kind
+pub kind_escaped : {text : List ℕ} {f : Flags} {p : Parser} → At text f p → p.token.escaped ≡ true → (y : Lexeme) → Lex text p.prev_token_end y → y.kind ≡ p.token.kind
+kind_escaped {p = p} a e y l = go p.cut refl
+  where
+    apart : (is_right_angle y.kind ≡ false) × (one_of_kinds other_goals y.kind ≡ false)
+    apart =
+        let z = and_parts (not (is_right_angle y.kind)) _ (covered a_word settled_look words_settled y.kind false false (word_escaped y l (escaped_here a y l ∙ e))) in
+        (is_not (is_right_angle y.kind) z.0, is_not (one_of_kinds other_goals y.kind) z.1)
+
+    go : (b : Bool) → p.cut ≡ b → y.kind ≡ p.token.kind
+    go true c = absurd (false≢true (sym apart.0 ∙ angled a c y l))
+    go false c = sym (told_plain a c y apart.1 l).kind
+
+-- ---- keywords
+
+-- without an escape it is the keyword that it looks like
+pub keyword_plain : (t : Token) → t.escaped ≡ false → keyword_kind t ≡ t.kind
+keyword_plain t e = ap (λ (b : Bool). cond b Ident t.kind) e
+
+-- a keyword has no escape
+pub keyword_is : (t : Token) {k : Kind} → keyword_kind t ≡ k → same_kind Ident k ≡ false → (t.kind ≡ k) × (t.escaped ≡ false)
+keyword_is t {k} h n = go t.escaped refl h
+  where
+    go : (b : Bool) → t.escaped ≡ b → cond b Ident t.kind ≡ k → (t.kind ≡ k) × (t.escaped ≡ false)
+    go true e i = absurd (false≢true (sym n ∙ ap (same_kind Ident) (sym i)))
+    go false e i = (i, e)
+
+-- what is none of these kinds is no keyword among them
+pub keyword_none : (t : Token) (ks : List Kind) → one_of_kinds ks t.kind ≡ false → one_of_kinds ks Ident ≡ false → one_of_kinds ks (keyword_kind t) ≡ false
+keyword_none t ks h n = go t.escaped refl
+  where
+    go : (b : Bool) → t.escaped ≡ b → one_of_kinds ks (keyword_kind t) ≡ false
+    go true e = ap (λ (b : Bool). one_of_kinds ks (cond b Ident t.kind)) e ∙ n
+    go false e = ap (one_of_kinds ks) (keyword_plain t e) ∙ h
+
+-- nor is what has an escape
+pub keyword_escaped : (t : Token) (ks : List Kind) → t.escaped ≡ true → one_of_kinds ks Ident ≡ false → one_of_kinds ks (keyword_kind t) ≡ false
+keyword_escaped t ks e n = ap (λ (b : Bool). one_of_kinds ks (cond b Ident t.kind)) e ∙ n

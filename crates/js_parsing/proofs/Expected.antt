@@ -1,12 +1,10 @@
 -- A lexeme that is due: it was passed; or it doesn't stand here, and that was told.
-use Rattle.std.proofs.Common.{◌∷◌, ◌≡◌, ◌||◌, List, false, not, refl, sym}
+use Rattle.std.proofs.Common.{◌≡◌, ◌||◌, List, false, refl}
 use Rattle.std.specs.Prelude.{ℕ, None, Err}
-use Rattle.std.proofs.lemmas.Bool.{and_parts}
 use Rattle.js_base.specs.declared.diagnostic.DiagnosticKind.TheVariants.{ExpectToken}
 use Rattle.js_base.specs.declared.kind.Kind.{Kind}
-use Rattle.js_base.specs.declared.kind.Kind.TheVariants.{Ident, RAngle}
+use Rattle.js_base.specs.declared.kind.Kind.TheVariants.{RAngle}
 use Rattle.js_base.specs.Kinds.{same_kind, one_of_kinds}
-use Rattle.js_base.proofs.KindLemmas.{kind_of_same}
 use Rattle.js_grammar.specs.Trees.{end}
 use Rattle.js_grammar.specs.Grammar.{is, seq}
 use Rattle.js_grammar.specs.Parsing.{Test, plain, full, Fails}
@@ -26,12 +24,12 @@ use Rattle.js_parsing.specs.States.{At}
 use Rattle.js_parsing.proofs.Classes.{here_ends}
 use Rattle.js_parsing.proofs.Giving.{gives_up}
 use Rattle.js_parsing.proofs.Moving.{moves}
-use Rattle.js_parsing.proofs.Signs.{stands_not, whole_sign}
+use Rattle.js_parsing.proofs.Signs.{none_seen, stands_not, whole_sign}
 
 module _ {text : List ℕ} {f : Flags} {p : Parser} (a : At text f p) where
   -- it doesn't stand here
-  pub not_due : {X : Test} {g : G} (k : Kind) → (is_right_angle k || one_of_kinds (Ident ∷ other_goals) k) ≡ false → StandsHere p k false → Fails rule (Lex text) X end (seq (tok k) g) p.prev_token_end
-  not_due k n s = part_fails {X' = plain full} (fails_lexeme (is k) (λ y l h. stands_not a n s y l (sym (kind_of_same k y.kind (and_parts (same_kind k y.kind) (not y.escaped) h).0)))) (record { admits = λ ts us vs j k ls mid rest d d' e. (refl, refl) })
+  pub not_due : {X : Test} {g : G} (k : Kind) → (is_right_angle k || one_of_kinds other_goals k) ≡ false → StandsHere p k false → Fails rule (Lex text) X end (seq (tok k) g) p.prev_token_end
+  not_due k n s = part_fails {X' = plain full} (fails_lexeme (is k) (none_seen (stands_not a n s))) (record { admits = λ ts us vs j k ls mid rest d d' e. (refl, refl) })
 
   pub unexpected : {F : Type 0} (k : Kind) (q : Parser) (e : Stop) → Expects (IsKind k) ExpectToken None p q (Err e) → (StandsHere p k false → F) → Stops p q e F
   unexpected k q Fatal x h = gives_up _ p q Fatal a x.1 (here_ends ExpectToken refl) (h (λ i j. x.0 refl (i, j)))

@@ -59,11 +59,11 @@ pub plain_kind : {text : List ℕ} {s : ℕ} {y : Lexeme} (h : StandsBehind all_
 plain_kind {y = y} h kinds r = goal_is h kinds ∙ goal_here y.kind r
 
 pub plainly : {text : List ℕ} {s : ℕ} {y : Lexeme} (h : StandsBehind all_faults text s y) → IsTrue (is_read y) → one_of_kinds other_goals y.kind ≡ false → h.goal ≡ division
-plainly {y = y} h r = plain_kind h (and_parts (one_of_kinds read_kinds y.kind) _ r).0
+plainly h r = plain_kind h r
 
 -- two lexemes that are read behind one place are one, if they are of one lexical goal
 pub alike : {text : List ℕ} {s : ℕ} {y z : Lexeme} → Lex text s y → Lex text s z → goal_for y.kind ≡ goal_for z.kind → y ≡ z
-alike {y = y} {z} l m e = lex-same l.0 m.0 (goal_is l.0 (and_parts (one_of_kinds read_kinds y.kind) _ l.1).0 ∙ (e ∙ sym (goal_is m.0 (and_parts (one_of_kinds read_kinds z.kind) _ m.1).0)))
+alike l m e = lex-same l.0 m.0 (goal_is l.0 l.1 ∙ (e ∙ sym (goal_is m.0 m.1)))
 
 -- two of the plain one
 pub alike_plain : {text : List ℕ} {s : ℕ} {y z : Lexeme} → Lex text s y → Lex text s z → one_of_kinds other_goals y.kind ≡ false → one_of_kinds other_goals z.kind ≡ false → y ≡ z

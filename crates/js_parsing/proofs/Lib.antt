@@ -17,6 +17,7 @@ pub mod MadeNodes
 pub mod Moving
 pub mod NameKinds
 pub mod NamedFirsts
+pub mod NodeTexts
 pub mod Nesting
 pub mod Parts
 pub mod Paths

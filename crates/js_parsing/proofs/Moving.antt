@@ -37,6 +37,7 @@ use Rattle.js_cursor.specs.Starts.{is_module}
 use Rattle.js_parsing.specs.Heads.{NoHead, NotedHeads, OnlyArrow, flags_in, widened}
 use Rattle.js_parsing.specs.Lexemes.{KeptFor, NoneToEnd, TriviaKept, News, other_goals, read_kinds}
 use Rattle.js_parsing.proofs.KeptTokens.{counts_here, completed_counts, before_next, next_kept_last, again_before, again_last, trivia_kept}
+use Rattle.js_parsing.specs.NodeTexts.{NodeFits}
 use Rattle.js_parsing.specs.States.{At, Standing, IsPlain, whole, sign, nothing, Same, flags_of, NodesLie, SpansLie}
 use Rattle.js_parsing.specs.Moves.{IsCompleted, IsWholeHere, Moved, Moves, Tightness}
 use Rattle.js_parsing.specs.Operators.{power_of}
@@ -92,7 +93,7 @@ same_both a b = record { follows = follows_on a.follows b.follows; options = b.o
 
 -- what lies in the text still does, where text and nodes stay
 pub nodes_lie : (p q : Parser) → q.text ≡ p.text → q.nodes ≡ p.nodes → NodesLie p.text p.nodes → NodesLie q.text q.nodes
-nodes_lie p q t n h = subst (λ (v : List ℕ). NodesLie v q.nodes) (sym t) (All-same (λ (m : Node). LiesIn m.span p.text) q.nodes p.nodes n h)
+nodes_lie p q t n h = subst (λ (v : List ℕ). NodesLie v q.nodes) (sym t) (All-same (NodeFits p.text) q.nodes p.nodes n h)
 
 same_of : {p q : Parser} → IsAt q → Follows p q → q.nodes ≡ p.nodes → q.errors ≡ p.errors → q.options ≡ p.options → q.ctx ≡ p.ctx → q.depth ≡ p.depth → q.visits ≡ p.visits → (NoneToEnd q.text q.prev_token_end → NoneToEnd p.text p.prev_token_end) → Same p q
 same_of {p} {q} i g n e o c d v m = record { follows = g; options = o; ctx = c; depth = d; visits = v; early = λ h. All-same IsEarly q.errors p.errors e h; lies = λ h. (i.lies.starts_whole, nodes_lie p q g.text n h.1); meets = m }

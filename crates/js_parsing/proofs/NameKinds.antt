@@ -17,7 +17,7 @@ use Rattle.js_grammar.proofs.Looks.{covers, covered, apart, not_both}
 use Rattle.js_grammar.proofs.FirstRules.{pick}
 use Rattle.js_cursor.specs.Moves.{is_last}
 use Rattle.js_cursor.specs.Parsers.{Parser}
-use Rattle.js_parsing.specs.Lexemes.{Lex, escaped_word, is_read, may_name, name_kinds, read_kinds}
+use Rattle.js_parsing.specs.Lexemes.{Lex, is_read, may_name, name_kinds, read_kinds}
 use Rattle.js_parsing.specs.Moves.{IsWholeHere}
 use Rattle.js_parsing.specs.Stands.{NameHere, NameUnder}
 use Rattle.js_parsing.specs.States.{At}
@@ -131,21 +131,13 @@ or_kind a ks k n m = go (same_kind a k) refl
 pub name_so : (p : Parser) {b r : Bool} → r ≡ b → NameHere p r → NameHere p b
 name_so p e s = subst (λ (c : Bool). NameHere p c) e s
 
--- none of another kind
-pub no_name_here : (f : Flags) (p : Parser) → NameUnder f.yield_ f.await_ p false → escaped_word p.token.kind p.token.escaped ≡ false → may_name f.yield_ f.await_ p.token.kind ≡ false
-no_name_here f p n e = go (may_name f.yield_ f.await_ p.token.kind) refl
-  where
-    go : (b : Bool) → may_name f.yield_ f.await_ p.token.kind ≡ b → may_name f.yield_ f.await_ p.token.kind ≡ false
-    go true h = absurd (n h e)
-    go false h = h
-
 -- the parameters in force are those of the text's place
 pub name_at : {text : List ℕ} {f : Flags} {p : Parser} (b : Bool) → At text f p → NameHere p b → NameUnder f.yield_ f.await_ p b
 name_at {p = p} b a h = subst (λ (g : Flags). NameUnder g.yield_ g.await_ p b) a.flags_are h
 
 -- a name that stands here is one of the kinds
 pub listed_here : (p : Parser) → NameHere p true → one_of_kinds name_kinds p.token.kind ≡ true
-listed_here p h = listed_name (has_flag yield_flag p.ctx) (has_flag await_flag p.ctx) p.token.kind h.0
+listed_here p h = listed_name (has_flag yield_flag p.ctx) (has_flag await_flag p.ctx) p.token.kind h
 
 -- which kinds are names is told by either, whatever is said of it
 pub names_at : {text : List ℕ} {f : Flags} {p : Parser} → At text f p → (P : Bool → Bool) (k : Kind) → P (may_name f.yield_ f.await_ k) ≡ P (may_name (has_flag yield_flag p.ctx) (has_flag await_flag p.ctx) k)

@@ -1,11 +1,11 @@
 -- First sets by the parameters Yield and Await: where one is on, its word is no name (ECMA-262, 13.1).
-use Rattle.std.proofs.Common.{ℕ, ◌≡◌, Bool, true, false, not, ◌&&◌, ◌||◌, List, refl, sym, subst, ◌∙◌}
-use Rattle.std.proofs.lemmas.Bool.{false≢true, and_from}
+use Rattle.std.proofs.Common.{ℕ, ◌≡◌, Bool, true, false, not, ◌&&◌, ◌||◌, List, IsTrue, refl, sym, ap, subst, ◌∙◌}
+use Rattle.std.proofs.lemmas.Bool.{false≢true, and_parts, and_from}
 use Rattle.js_base.specs.declared.kind.Kind.{Kind}
-use Rattle.js_base.specs.declared.kind.Kind.TheVariants.{Yield, Await}
+use Rattle.js_base.specs.declared.kind.Kind.TheVariants.{Ident, Yield, Await}
 use Rattle.js_base.specs.Kinds.{same_kind, one_of_kinds}
 use Rattle.js_grammar.specs.Trees.{end}
-use Rattle.js_grammar.specs.Grammar.{Lexeme, Look}
+use Rattle.js_grammar.specs.Grammar.{Lexeme, Look, seen}
 use Rattle.js_grammar.specs.Parsing.{Test, Fails, full}
 use Rattle.js_grammar.specs.Productions.{G, Flags, Name, Symbol, at, Program, Statement, Labeled, Arrow', Param, DecoratorMember, Conditional, Short, Coalesce, Or, And, BitOr, BitXor, BitAnd, Equality, Relational, Shift, Additive, Multiply, Exponent, Unary, Update, LeftHandSide, New, Member, Call, Chain, Links, Primary, IdentifierReference, BindingIdentifier, LabelIdentifier, SimpleTarget, Target, TargetElement, Binding, BElement}
 use Rattle.js_grammar.specs.Table.{rule, rule_of}
@@ -14,9 +14,10 @@ use Rattle.js_grammar.proofs.Looks.{covers, covered, apart, not_both}
 use Rattle.js_grammar.proofs.First.{FirstSets, starts}
 use Rattle.js_grammar.proofs.FirstRules.{fails_here}
 use Rattle.js_cursor.specs.Parsers.{Parser}
-use Rattle.js_parsing.specs.Lexemes.{Lex, may_name, other_goals}
+use Rattle.js_parsing.specs.Lexemes.{Lex, escaped_word, may_name, other_goals, read_word}
 use Rattle.js_parsing.specs.States.{At}
-use Rattle.js_parsing.proofs.Here.{told_plain, angled, kind_here}
+use Rattle.js_parsing.proofs.Here.{told_plain, angled, escaped_here, kind_here}
+use Rattle.js_parsing.proofs.Escapes.{kind_escaped, word_escaped}
 use Rattle.js_parsing.proofs.Paths.{angles, not_here, reads, settles}
 
 -- What begins with a name, or with what no name begins, but never with `await` under Await.
@@ -107,6 +108,10 @@ firsts_by = record { first = first_by; claims = claims }
 abbrev pub begins_named : Bool → Bool → G → Look → List Kind → Bool
 begins_named y t g F ks = covers (λ k w e. starts first_by g F k w e && reads k w e) (λ k w e. may_name y t k || one_of_kinds ks k)
 
+-- of what may begin g with an escape, those words that are read are names
+abbrev pub escapes_named : Bool → Bool → G → Look → Bool
+escapes_named y t g F = covers (λ k w e. starts first_by g F k w e && (read_word k && e)) (λ k w e. may_name y t k)
+
 -- for both values of both parameters
 by_flags : (P : Bool → Bool → Type 0) → P true true → P true false → P false true → P false false → (y t : Bool) → P y t
 by_flags P a b c d true true = a
@@ -153,6 +158,19 @@ module _ {text : List ℕ} {o : Flags} {p : Parser} (a : At text o p) (f : Flags
   pub fails_unnamed : {X : Test} (g : Flags → G) (ks : List Kind) → begins_named true true (g (with_flags true true f)) X.base ks ≡ true → begins_named true false (g (with_flags true false f)) X.base ks ≡ true → begins_named false true (g (with_flags false true f)) X.base ks ≡ true → begins_named false false (g (with_flags false false f)) X.base ks ≡ true
       → settles ks ≡ true → may_name f.yield_ f.await_ p.token.kind ≡ false → one_of_kinds ks p.token.kind ≡ false → Fails rule (Lex text) X end (g f) p.prev_token_end
   fails_unnamed {X} g ks c1 c2 c3 c4 d n m = fails_here firsts_by (λ y l h. no_name_there ks d n m y l (covered (λ k w e. starts first_by (g f) X.base k w e && reads k w e) (λ k w e. may_name f.yield_ f.await_ k || one_of_kinds ks k) (by_flags (λ y t. begins_named y t (g (with_flags y t f)) X.base ks ≡ true) c1 c2 c3 c4 f.yield_ f.await_) y.kind y.newline y.escaped (and_from _ _ h l.1)))
+
+  -- the same of a word with an escape, which is no keyword
+  pub fails_escaped : {X : Test} (g : Flags → G) → escapes_named true true (g (with_flags true true f)) X.base ≡ true → escapes_named true false (g (with_flags true false f)) X.base ≡ true → escapes_named false true (g (with_flags false true f)) X.base ≡ true → escapes_named false false (g (with_flags false false f)) X.base ≡ true
+      → escaped_word p.token.kind p.token.escaped ≡ true → may_name f.yield_ f.await_ p.token.kind ≡ false → Fails rule (Lex text) X end (g f) p.prev_token_end
+  fails_escaped {X} g c1 c2 c3 c4 e n = fails_here firsts_by none
+    where
+      escaped : p.token.escaped ≡ true
+      escaped = (and_parts p.token.escaped (not (same_kind Ident p.token.kind)) e).0
+
+      none : (y : Lexeme) → Lex text p.prev_token_end y → IsTrue (seen (starts first_by (g f) X.base) y) → ⊥
+      none y l h =
+          let name = covered (λ k w e. starts first_by (g f) X.base k w e && (read_word k && e)) (λ k w e. may_name f.yield_ f.await_ k) (by_flags (λ y t. escapes_named y t (g (with_flags y t f)) X.base ≡ true) c1 c2 c3 c4 f.yield_ f.await_) y.kind y.newline y.escaped (and_from _ _ h (and_from _ _ (word_escaped y l (escaped_here a y l ∙ escaped)) (escaped_here a y l ∙ escaped))) in
+          false≢true (sym n ∙ (ap (may_name f.yield_ f.await_) (sym (kind_escaped a escaped y l)) ∙ name))
 
   -- what doesn't begin with `yield` under Yield
   pub fails_at_yield : {X : Test} (g : Flags → G) → apart (starts first_by (g (with_flags true true f)) X.base) (λ k w e. same_kind Yield k) ≡ true → apart (starts first_by (g (with_flags true false f)) X.base) (λ k w e. same_kind Yield k) ≡ true → p.token.kind ≡ Yield → f.yield_ ≡ true → Fails rule (Lex text) X end (g f) p.prev_token_end

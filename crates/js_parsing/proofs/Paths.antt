@@ -2,7 +2,7 @@
 use Rattle.std.proofs.Common.{ℕ, ◌≡◌, ◌<◌, max, List, [], ◌∷◌, Bool, true, false, not, ◌&&◌, ◌||◌, IsTrue, refl, sym, ap, subst, arith, ◌∙◌}
 use Rattle.std.proofs.lemmas.Bool.{false≢true, and_parts, and_from}
 use Rattle.js_base.specs.declared.kind.Kind.{Kind}
-use Rattle.js_base.specs.declared.kind.Kind.TheVariants.{Ident, RAngle}
+use Rattle.js_base.specs.declared.kind.Kind.TheVariants.{RAngle}
 use Rattle.js_base.specs.Kinds.{same_kind, one_of_kinds}
 use Rattle.js_base.proofs.KindLemmas.{kind_of_same}
 use Rattle.js_grammar.specs.Trees.{Slots, end, tree, Label, Op, NodeKind}
@@ -23,7 +23,7 @@ use Rattle.js_grammar.proofs.FirstRules.{by_first, fails_here, picks, pick}
 use Rattle.js_grammar.proofs.FollowLaws.{surely}
 use Rattle.js_lex.specs.Reading.{is_right_angle}
 use Rattle.js_cursor.specs.Parsers.{Parser}
-use Rattle.js_parsing.specs.Lexemes.{Lex, Walked, Spot, spot, nowhere, one_more, read_again, more_faults, escaped_word, is_read, other_goals, read_kinds, signs, signs_of}
+use Rattle.js_parsing.specs.Lexemes.{Lex, Walked, Spot, spot, nowhere, one_more, read_again, more_faults, is_read, other_goals, read_kinds, signs, signs_of}
 use Rattle.js_parsing.specs.States.{At}
 use Rattle.js_parsing.specs.Moves.{Moved}
 use Rattle.js_parsing.specs.Answers.{Verdict, clean, Stretch, Answer}
@@ -55,7 +55,7 @@ walked_one s = walked_to (sym s.spot_is) (one_more nowhere s.is_new s.plain)
 
 -- the lexemes that are read
 abbrev pub reads : Look
-reads k w e = one_of_kinds read_kinds k && not (escaped_word k e)
+reads k w e = one_of_kinds read_kinds k
 
 abbrev pub angles : Look
 angles k w e = is_right_angle k
@@ -72,9 +72,9 @@ settled ks = apart angles (λ k w e. one_of_kinds ks k) && every_kind (λ o. one
 abbrev pub begins_by : G → Look → List Kind → Bool
 begins_by g F ks = covers (λ k w e. starts first g F k w e && reads k w e) (λ k w e. one_of_kinds ks k) && settles ks
 
--- a token of a kind that is read, without an escape, is the whole of a lexeme that is
-pub read_of : (y : Lexeme) {k : Kind} → y.kind ≡ k → y.escaped ≡ false → one_of_kinds read_kinds k ≡ true → IsTrue (is_read y)
-read_of y e q h = and_from _ _ (subst (λ v. one_of_kinds read_kinds v ≡ true) (sym e) h) (ap (λ (b : Bool). not (b && not (same_kind Ident y.kind))) q)
+-- a lexeme of a kind that is read is
+pub read_of : (y : Lexeme) {k : Kind} → y.kind ≡ k → one_of_kinds read_kinds k ≡ true → IsTrue (is_read y)
+read_of y e h = subst (λ v. one_of_kinds read_kinds v ≡ true) (sym e) h
 
 -- none of these kinds is that of a cut sign
 no_angle : (ks : List Kind) → apart angles (λ k w e. one_of_kinds ks k) ≡ true → (k : Kind) → one_of_kinds ks k ≡ true → same_kind RAngle k ≡ false
@@ -93,7 +93,7 @@ or_not true b h e = refl
 or_not false b h e = absurd (false≢true (sym e ∙ h))
 
 -- what holds of each kind of a list holds of one of them
-of_every : (P : Kind → Bool) (ks : List Kind) (k : Kind) → every_kind P ks ≡ true → one_of_kinds ks k ≡ true → P k ≡ true
+pub of_every : (P : Kind → Bool) (ks : List Kind) (k : Kind) → every_kind P ks ≡ true → one_of_kinds ks k ≡ true → P k ≡ true
 of_every P [] k e h = absurd (false≢true h)
 of_every P (a ∷ ks) k e h = first_or (λ (v : Kind). P v ≡ true) a k _ _ refl h (and_parts (P a) (every_kind P ks) e).0 (λ q. of_every P ks k (and_parts (P a) (every_kind P ks) e).1 q)
 
@@ -164,7 +164,7 @@ module _ {text : List ℕ} {f : Flags} {p : Parser} (a : At text f p) where
   passes k e n r s =
       let kind : s.lexeme.kind ≡ k = sym s.tells.kind ∙ e in
       let plain : s.lexeme.escaped ≡ false = sym s.tells.escaped ∙ n in
-      passes_unless (is k) s (read_of s.lexeme kind plain r) (and_from _ _ (subst (λ v. same_kind k v ≡ true) (sym kind) (same_self k)) (ap not plain))
+      passes_unless (is k) s (read_of s.lexeme kind r) (and_from _ _ (subst (λ v. same_kind k v ≡ true) (sym kind) (same_self k)) (ap not plain))
       (λ y l z. subst (λ v. one_of_kinds other_goals v ≡ false) (kind ∙ kind_of_same k y.kind (and_parts (same_kind k y.kind) (not y.escaped) z).0) s.plain)
 
   pub skips : {X : Test} {b : G} {q : Parser} (k : Kind) → p.token.kind ≡ k → p.token.escaped ≡ false → one_of_kinds read_kinds k ≡ true → (s : Moved text f p q) → Goes rule (Lex text) X end (seq (tok k) b) p.prev_token_end b q.prev_token_end (λ us. us) (passing s.lexeme)

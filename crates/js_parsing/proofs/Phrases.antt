@@ -15,6 +15,7 @@ use Rattle.js_grammar.specs.Follow.{edge_of, row_of, follow, after}
 use Rattle.js_grammar.specs.Insertion.{Row, after_expression, after_postfix, after_body, after_yield, after_declarator, after_word}
 use Rattle.js_grammar.proofs.Looks.{covers, apart}
 use Rattle.js_grammar.proofs.Calculus.{◌▹◌, ◌▹✗◌, left, by_rule, weaken_on, weaken_fails_on, fails_alt, fails_when}
+use Rattle.js_parsing.proofs.Giving.{fails_unescaped}
 use Rattle.js_parsing.specs.Operators.{unary_kinds}
 use Rattle.js_parsing.proofs.Verdicts.{verdict_of}
 use Rattle.js_grammar.proofs.RightEdges.{may_end, of_operand, of_assignment, same_row}
@@ -147,6 +148,15 @@ no_await {text} {f} {p} {X} a n = go (same_kind Await p.token.kind) refl
 pub no_operator : {text : List ℕ} {f : Flags} {p : Parser} → At text f p → one_of_kinds unary_kinds p.token.kind ≡ false → (p.token.kind ≡ Await → f.awaits ≡ false) → Goes rule (Lex text) (after (at Unary f)) end (rule (at Unary f)) p.prev_token_end (such (at Update f) always) p.prev_token_end (λ us. us) (still 0)
 unfolding covers apart
 no_operator {text} {f} {p} a n m = unary_choice f p.prev_token_end ▹ left (fails_alt (fails_at a {X = after (at Unary f)} (unary_part f) unary_kinds refl n) (no_await a m))
+
+-- nor where the word there has an escape
+pub no_operator_escaped : {text : List ℕ} {f : Flags} {p : Parser} → At text f p → p.token.escaped ≡ true → Goes rule (Lex text) (after (at Unary f)) end (rule (at Unary f)) p.prev_token_end (such (at Update f) always) p.prev_token_end (λ us. us) (still 0)
+unfolding covers apart
+no_operator_escaped {text} {f} {p} a e = unary_choice f p.prev_token_end ▹ left (fails_alt (fails_unescaped {X = after (at Unary f)} (unary_part f) a refl e) (fails_unescaped {X = after (at Unary f)} (await_part f) a refl e))
+
+pub unary_escaped : {text : List ℕ} {f : Flags} {p : Parser} (q : Parser) (r : Result NodeId Stop) → At text f p → p.token.escaped ≡ true → Outcome text f (at Update f) p q r → Outcome text f (at Unary f) p q r
+unfolding covers
+unary_escaped {text} {f} {p} q r a e x = lift_result (at Unary f) (at Update f) refl refl text f p q r (no_operator_escaped a e) (λ i y. y.answer.row) (λ i y z l. y.answer.stops z l) x
 
 pub unary_result : {text : List ℕ} {f : Flags} {p : Parser} (q : Parser) (r : Result NodeId Stop) → At text f p → one_of_kinds unary_kinds p.token.kind ≡ false → (p.token.kind ≡ Await → f.awaits ≡ false) → Outcome text f (at Update f) p q r → Outcome text f (at Unary f) p q r
 unfolding covers

@@ -1,12 +1,12 @@
 -- Whether a lexeme of some kind stands at a place, and what is kept there.
-use Rattle.std.proofs.Common.{ℕ, ◌≡◌, ◌≤◌, List, [], ◌∷◌, length, Bool, true, false, ◌&&◌, ◌||◌, IsTrue, refl, sym, ap, subst, arith, ◌∙◌}
-use Rattle.std.proofs.lemmas.Bool.{false≢true}
+use Rattle.std.proofs.Common.{ℕ, ◌≡◌, ◌≤◌, List, [], ◌∷◌, length, Bool, true, false, not, ◌&&◌, ◌||◌, IsTrue, refl, sym, ap, subst, arith, ◌∙◌}
+use Rattle.std.proofs.lemmas.Bool.{false≢true, and_parts}
 use Rattle.js_base.specs.declared.kind.Kind.{Kind}
-use Rattle.js_base.specs.declared.kind.Kind.TheVariants.{Ident, Question, Colon, PrivateIdentifier, RAngle, Undetermined}
+use Rattle.js_base.specs.declared.kind.Kind.TheVariants.{Question, Colon, PrivateIdentifier, RAngle, Undetermined}
 use Rattle.js_base.specs.declared.span.Span.{Span}
 use Rattle.js_base.specs.Kinds.{same_kind, one_of_kinds}
 use Rattle.js_base.specs.Texts.{words}
-use Rattle.js_grammar.specs.Grammar.{Lexeme}
+use Rattle.js_grammar.specs.Grammar.{Lexeme, Look, is, seen}
 use Rattle.js_grammar.specs.Lexemes.{is_word, is_escaped}
 use Rattle.js_grammar.specs.Names.{has_backslash}
 use Rattle.js_grammar.specs.Productions.{Flags}
@@ -14,7 +14,7 @@ use Rattle.js_cursor.specs.Parsers.{Parser}
 use Rattle.js_cursor.specs.Moves.{is_last}
 use Rattle.js_base.proofs.KindLemmas.{kind_of_same}
 use Rattle.js_grammar.specs.Lexed.{Lex as StandsBehind, all_faults}
-use Rattle.js_parsing.specs.Lexemes.{Lex, other_goals}
+use Rattle.js_parsing.specs.Lexemes.{Lex, other_goals, read_word}
 use Rattle.js_parsing.specs.States.{At}
 use Rattle.js_parsing.proofs.Here.{found, told_plain, uncut, kind_here, unsettled}
 use Rattle.js_parsing.proofs.Escapes.{read_listed, read_plain}
@@ -22,6 +22,7 @@ use Rattle.std.proofs.Common.{◌<◌, ◌⊎◌, inl, inr, length-append, cond,
 use Rattle.std.proofs.lemmas.Bool.{or_left, or_right, lt-ltb}
 use Rattle.js_base.specs.declared.kind.Kind.TheVariants.{Eof, Comma, Semicolon, RParen, RBrack}
 use Rattle.js_grammar.proofs.Lexemes.{first_or}
+use Rattle.js_grammar.proofs.Looks.{covers, covered}
 use Rattle.js_lex.specs.Reading.{Tells}
 use Rattle.js_parsing.specs.Answers.{Grown, Verdict, clean, unclean, wider}
 use Rattle.js_parsing.specs.Lexemes.{read_kinds}
@@ -40,12 +41,27 @@ use Rattle.js_parsing.specs.Lexemes.{slashes, template_tails}
 unescaped : (k : Kind) (u : List ℕ) → (is_word k || same_kind PrivateIdentifier k) ≡ false → is_escaped k u ≡ false
 unescaped k u w = ap (λ (b : Bool). b && has_backslash u) w
 
+is_not : (b : Bool) → not b ≡ true → b ≡ false
+is_not true h = absurd (false≢true h)
+is_not false h = refl
+
 -- a punctuator has no escape
 pub plain_sign : {text : List ℕ} {f : Flags} {p : Parser} (k : Kind) → At text f p → p.token.kind ≡ k → same_kind RAngle k ≡ false → is_last k ≡ false → (is_word k || same_kind PrivateIdentifier k) ≡ false → p.token.escaped ≡ false
 plain_sign k a e r l w =
     let z = found a (uncut a (ap (same_kind RAngle) e ∙ r)) (ap is_last e ∙ l) in
     let i = sym z.2.kind ∙ e in
     z.2.escaped ∙ (z.1.escaped ∙ (ap (λ (v : Kind). is_escaped v z.1.word) i ∙ unescaped k z.1.word w))
+
+-- neither a word nor the end of the text, and not cut
+abbrev pub signlike : Look
+signlike k w e = not (same_kind RAngle k) && (not (is_last k) && not (is_word k || same_kind PrivateIdentifier k))
+
+pub plain_among : {text : List ℕ} {f : Flags} {p : Parser} (ks : List Kind) → At text f p → covers (λ k w e. one_of_kinds ks k) signlike ≡ true → one_of_kinds ks p.token.kind ≡ true → p.token.escaped ≡ false
+plain_among {p = p} ks a c h =
+    let k = p.token.kind in
+    let x = and_parts (not (same_kind RAngle k)) _ (covered (λ k w e. one_of_kinds ks k) signlike c k false false h) in
+    let y = and_parts (not (is_last k)) _ x.1 in
+    plain_sign k a refl (is_not (same_kind RAngle k) x.0) (is_not (is_last k) y.0) (is_not (is_word k || same_kind PrivateIdentifier k) y.1)
 
 -- it may be passed
 pub whole_sign : {text : List ℕ} {f : Flags} {p : Parser} (k : Kind) → At text f p → p.token.kind ≡ k → same_kind RAngle k ≡ false → unpassable k ≡ false → IsWholeHere p
@@ -82,7 +98,7 @@ ending_there {text} {p = p} a c h =
     let k = ending_plain p.token.kind h in
     let z = there a c k.2 in
     let e : z.0.kind ≡ p.token.kind = sym z.2.kind in
-    (z.0, (z.1, read_of z.0 e (plain_of p.token.kind z.1.word z.0.escaped (subst (λ (v : Kind). z.0.escaped ≡ is_escaped v z.1.word) e z.1.escaped) k.0) k.1), e)
+    (z.0, (z.1, read_of z.0 e k.1), e)
 
 strong : (power : ℕ) (e : Bool) (k : ℕ) → power ≡ cond e 0 k → 1 ≤ power → (e ≡ false) × (1 ≤ k)
 strong power true k h l = absurd (omega arith)
@@ -95,13 +111,16 @@ ended {text} {f} {p} {q} {power} b o h = record { at = o.at; same = o.same; node
     not_last Undetermined l e = absurd (omega arith)
     not_last _ l e = absurd (cc)
 
-    go : (one_of_kinds ending_kinds q.token.kind ≡ true) ⊎ (1 ≤ power) → (y : Lexeme) × Lex text q.prev_token_end y × IsTrue (one_of_kinds ending_kinds y.kind || nat_lt 0 (power_of f.in_ y.kind))
-    go (inl e) = let z = ending_there o.at o.uncut e in (z.0, z.1, or_left _ _ (subst (λ (k : Kind). one_of_kinds ending_kinds k ≡ true) (sym z.2) e))
+    go : (one_of_kinds ending_kinds q.token.kind ≡ true) ⊎ (1 ≤ power) → (y : Lexeme) × Lex text q.prev_token_end y × (y.escaped ≡ false) × IsTrue (one_of_kinds ending_kinds y.kind || nat_lt 0 (power_of f.in_ y.kind))
+    go (inl e) =
+        let z = ending_there o.at o.uncut e in
+        let k = subst (λ (k : Kind). one_of_kinds ending_kinds k ≡ true) (sym z.2) e in
+        (z.0, z.1, read_listed ending_kinds z.0 z.1 k refl, or_left _ _ k)
     go (inr l) =
         let s = strong power q.token.escaped (power_of f.in_ q.token.kind) o.is l in
         let z = there o.at o.uncut (not_last q.token.kind s.1) in
         let e : z.0.kind ≡ q.token.kind = sym z.2.kind in
-        (z.0, (z.1, read_of z.0 e (sym z.2.escaped ∙ s.0) (operator_read f.in_ q.token.kind true s.1).0), or_right (one_of_kinds ending_kinds z.0.kind) _ (lt-ltb 0 (power_of f.in_ z.0.kind) (subst (λ (k : Kind). 0 < power_of f.in_ k) (sym e) (let i = s.1 in omega arith))))
+        (z.0, (z.1, read_of z.0 e (operator_read f.in_ q.token.kind true s.1).0), sym z.2.escaped ∙ s.0, or_right (one_of_kinds ending_kinds z.0.kind) _ (lt-ltb 0 (power_of f.in_ z.0.kind) (subst (λ (k : Kind). 0 < power_of f.in_ k) (sym e) (let i = s.1 in omega arith))))
 
 grown_length : {K : Type 0} {old new : List K} → Grown old new → length old < length new
 grown_length {K} {old} {new} g = let a = ap length g.kept in let b = length-append old g.more in let c = positive g.more g.some in omega arith
@@ -129,40 +148,45 @@ span_is s a b = λ i. record { start = a i; end = b i }
 abbrev pub AllAre : List ℕ → ℕ → Kind → Type 0
 AllAre text s k = (y : Lexeme) → Lex text s y → (y.kind ≡ k) × (y.escaped ≡ false)
 
+-- nothing of this kind without an escape stands there
 abbrev pub NoneIs : List ℕ → ℕ → Kind → Type 0
-NoneIs text s k = (y : Lexeme) → Lex text s y → y.kind ≡ k → ⊥
+NoneIs text s k = (y : Lexeme) → Lex text s y → y.kind ≡ k → y.escaped ≡ false → ⊥
+
+pub none_seen : {text : List ℕ} {s : ℕ} {k : Kind} → NoneIs text s k → (y : Lexeme) → Lex text s y → IsTrue (seen (is k) y) → ⊥
+none_seen {k = k} n y l h = let z = and_parts (same_kind k y.kind) (not y.escaped) h in n y l (sym (kind_of_same k y.kind z.0)) (is_not y.escaped z.1)
 
 module _ {text : List ℕ} {f : Flags} {p : Parser} (a : At text f p) where
-  pub stands_there : {k : Kind} → p.token.kind ≡ k → one_of_kinds (Ident ∷ unsettled) k ≡ false → AllAre text p.prev_token_end k
-  stands_there {k} e n y l = go (same_kind Ident k) refl n
-    where
-      go : (b : Bool) → same_kind Ident k ≡ b → (b || one_of_kinds unsettled k) ≡ false → (y.kind ≡ k) × (y.escaped ≡ false)
-      go true i h = absurd (false≢true (sym h))
-      go false i h = let z = kind_here a e h y l in (z, read_plain y l.1 z i)
+  pub word_there : {k : Kind} → p.token.kind ≡ k → p.token.escaped ≡ false → one_of_kinds unsettled k ≡ false → AllAre text p.prev_token_end k
+  word_there e w n y l = (kind_here a e n y l, escaped_here a y l ∙ w)
 
-  pub stands_not : {k : Kind} → (is_right_angle k || one_of_kinds (Ident ∷ other_goals) k) ≡ false → StandsHere p k false → NoneIs text p.prev_token_end k
-  stands_not {k} n s y l e = go p.cut refl
+  -- of a sign
+  pub stands_there : {k : Kind} → p.token.kind ≡ k → (read_word k || one_of_kinds unsettled k) ≡ false → AllAre text p.prev_token_end k
+  stands_there {k} e n y l = go (read_word k) refl n
+    where
+      go : (b : Bool) → read_word k ≡ b → (b || one_of_kinds unsettled k) ≡ false → (y.kind ≡ k) × (y.escaped ≡ false)
+      go true i h = absurd (false≢true (sym h))
+      go false i h = let z = kind_here a e h y l in (z, read_plain y l z i)
+
+  pub stands_not : {k : Kind} → (is_right_angle k || one_of_kinds other_goals k) ≡ false → StandsHere p k false → NoneIs text p.prev_token_end k
+  stands_not {k} n s y l e w = go p.cut refl
     where
       apart_both : (a b : Bool) → (a || b) ≡ false → (a ≡ false) × (b ≡ false)
       apart_both true b h = absurd (false≢true (sym h))
       apart_both false b h = (refl, h)
 
-      neither : (is_right_angle k ≡ false) × (one_of_kinds (Ident ∷ other_goals) k ≡ false)
-      neither = apart_both (is_right_angle k) (one_of_kinds (Ident ∷ other_goals) k) n
-
-      unnamed : (same_kind Ident k ≡ false) × (one_of_kinds other_goals k ≡ false)
-      unnamed = apart_both (same_kind Ident k) (one_of_kinds other_goals k) neither.1
+      neither : (is_right_angle k ≡ false) × (one_of_kinds other_goals k ≡ false)
+      neither = apart_both (is_right_angle k) (one_of_kinds other_goals k) n
 
       go : (b : Bool) → p.cut ≡ b → ⊥
       go true c = false≢true (sym neither.0 ∙ subst (λ v. is_right_angle v ≡ true) e (angled a c y l))
-      go false c = s ((told_plain a c y (ap (one_of_kinds other_goals) e ∙ unnamed.1) l).kind ∙ e) (sym (escaped_here a y l) ∙ read_plain y l.1 e unnamed.0)
+      go false c = s ((told_plain a c y (ap (one_of_kinds other_goals) e ∙ neither.1) l).kind ∙ e) (sym (escaped_here a y l) ∙ w)
 
 -- what stands there is the closing brace, or a part of a template that begins with it
 abbrev pub AllClose : List ℕ → ℕ → Type 0
 AllClose text s = (y : Lexeme) → Lex text s y → (one_of_kinds (RCurly ∷ template_tails) y.kind ≡ true) × (y.escaped ≡ false)
 
 pub closing_there : {text : List ℕ} {f : Flags} {p : Parser} → At text f p → p.token.kind ≡ RCurly → AllClose text p.prev_token_end
-closing_there {text} {p = p} a e y l = let z = go (one_of_kinds other_goals y.kind) refl in (z, read_listed (RCurly ∷ template_tails) y l.1 z refl)
+closing_there {text} {p = p} a e y l = let z = go (one_of_kinds other_goals y.kind) refl in (z, read_listed (RCurly ∷ template_tails) y l z refl)
   where
     -- no regular expression begins with a brace
     tail : (b c : Bool) → (b || c) ≡ true → one_of_kinds (cond b slashes (cond c (RCurly ∷ []) [])) p.token.kind ≡ true → c ≡ true

@@ -35,9 +35,9 @@ narrowed false c false o h n x = absurd (false≢true x)
 pub narrows : (n m : ℕ) (ks : List Kind) (b : Bool) (r : Row) → covers plain_reads (narrowing n m ks b r) ≡ true → (y : Lexeme) → IsTrue (is_plain y) → one_of_kinds ks y.kind ≡ false → IsTrue (seen (looser n b r) y || seen beside y) → IsTrue (seen (looser m b r) y || seen beside y)
 narrows n m ks b r c y h o x = narrowed (seen (looser n b r) y) (seen (looser m b r) y) (seen beside y) (one_of_kinds ks y.kind) (covered plain_reads (narrowing n m ks b r) c y.kind y.newline y.escaped h) o x
 
--- What is no link binds by its power as an operator between two operands, or hardly at all.
+-- What is no link binds by its power as an operator between two operands, which a word with an escape isn't; or hardly at all.
 abbrev by_power : Bool → Row → Look
-by_power b r k w e = not (nat_lt (tight b r k w e) 15) || (not (nat_lt (power_of b k) (tight b r k w e)) || (nat_lt (tight b r k w e) 5 || beside k w e))
+by_power b r k w e = not (nat_lt (tight b r k w e) 15) || (not (nat_lt (cond e 0 (power_of b k)) (tight b r k w e)) || (nat_lt (tight b r k w e) 5 || beside k w e))
 
 by_power_at : (b : Bool) (r : Row) → of_operand r ≡ true → covers plain_reads (by_power b r) ≡ true
 unfolding covers
@@ -61,8 +61,8 @@ less_or t p n false false q h x l k = go (nat_lt t 15) (nat_lt p t) refl h x
     go false b e h x = absurd (false≢true x)
 
 -- what is no link, and binds by less than n as an operator, stands behind an operand of that level
-pub stops_by_power : (n : ℕ) (b : Bool) (r : Row) → of_operand r ≡ true → (y : Lexeme) → IsTrue (is_plain y) → IsTrue (seen (looser 15 b r) y || seen beside y) → power_of b y.kind < n → 5 ≤ n → IsTrue (seen (looser n b r) y || seen beside y)
-stops_by_power n b r o y h x l k = less_or (tight b r y.kind y.newline y.escaped) (power_of b y.kind) n (beside y.kind y.newline y.escaped) (nat_lt (tight b r y.kind y.newline y.escaped) 5) refl (covered plain_reads (by_power b r) (by_power_at b r o) y.kind y.newline y.escaped h) x l k
+pub stops_by_power : (n : ℕ) (b : Bool) (r : Row) → of_operand r ≡ true → (y : Lexeme) → IsTrue (is_plain y) → IsTrue (seen (looser 15 b r) y || seen beside y) → cond y.escaped 0 (power_of b y.kind) < n → 5 ≤ n → IsTrue (seen (looser n b r) y || seen beside y)
+stops_by_power n b r o y h x l k = less_or (tight b r y.kind y.newline y.escaped) (cond y.escaped 0 (power_of b y.kind)) n (beside y.kind y.newline y.escaped) (nat_lt (tight b r y.kind y.newline y.escaped) 5) refl (covered plain_reads (by_power b r) (by_power_at b r o) y.kind y.newline y.escaped h) x l k
 
 -- The level of an operator.
 pub record Level (b : Bool) (k : Kind) : Type 0 where

@@ -8,7 +8,7 @@ use Rattle.js_base.specs.declared.kind.Kind.TheVariants.{PrivateIdentifier, RAng
 use Rattle.js_base.specs.Kinds.{same_kind, one_of_kinds}
 use Rattle.js_base.specs.Texts.{words}
 use Rattle.js_grammar.specs.Grammar.{Look}
-use Rattle.js_grammar.specs.Lexemes.{is_word, is_escaped}
+use Rattle.js_grammar.specs.Lexemes.{is_word}
 use Rattle.js_grammar.specs.Productions.{Flags}
 use Rattle.js_grammar.proofs.Looks.{covers, covered}
 use Rattle.js_cursor.specs.Moves.{GivesUp, IsUnexpected, Keeps, StandsHere, a_fault, a_marker, a_lexeme, at_lexeme, at_fault}
@@ -23,7 +23,6 @@ use Rattle.js_parsing.specs.Answers.{Stops, StopsUnbuilt, Unbuilt}
 use Rattle.js_parsing.proofs.Classes.{unexpected_ends}
 use Rattle.js_parsing.proofs.Giving.{gives_up_or}
 use Rattle.js_parsing.proofs.Paths.{read_of}
-use Rattle.js_parsing.proofs.Signs.{plain_of}
 
 abbrev unbuilt : Look
 unbuilt k w e = one_of_kinds unbuilt_kinds k
@@ -70,7 +69,7 @@ module _ (p : Parser) (k : one_of_kinds unbuilt_kinds p.token.kind ≡ true) whe
       go : {c : Bool} → IsToken (goal p) p.text p.prev_token_end p.lexer.kept.errors p.token c → Unbuilt p
       go (whole n x) = record {
         lexeme = x.lexeme;
-        stands = (x.stands.lex, read_of x.lexeme (sym x.tells.kind) (plain_of p.token.kind x.stands.lex.word x.lexeme.escaped (x.stands.lex.escaped ∙ ap (λ (v : Kind). is_escaped v x.stands.lex.word) (sym x.tells.kind)) signs.2) signs.0);
+        stands = (x.stands.lex, read_of x.lexeme (sym x.tells.kind) signs.0);
         kind = subst (λ (v : Kind). one_of_kinds unbuilt_kinds v ≡ true) x.tells.kind k;
         tells = x.tells;
         last = d;

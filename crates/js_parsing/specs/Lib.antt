@@ -8,6 +8,7 @@ pub mod Lists
 pub mod Methods
 pub mod Moves
 pub mod Nesting
+pub mod NodeTexts
 pub mod Operators
 pub mod Stands
 pub mod Statements

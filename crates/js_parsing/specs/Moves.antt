@@ -1,5 +1,5 @@
 -- One lexeme on, the operator that stands at a place, and a node made there.
-use Rattle.std.specs.Prelude.{ℕ, ◌≡◌, ◌<◌, ◌⊎◌, Bool, false, cond, List, [], ◌∷◌, Option}
+use Rattle.std.specs.Prelude.{ℕ, ◌≡◌, ◌<◌, ◌⊎◌, Bool, false, cond, List, [], ◌∷◌, Option, chars}
 use Rattle.js_grammar.specs.Grammar.{Lexeme}
 use Rattle.js_grammar.specs.Lexed.{Lex as StandsBehind, all_faults}
 use Rattle.js_grammar.specs.Productions.{Flags}
@@ -15,6 +15,8 @@ use Rattle.js_tree.specs.declared.op.Op.{Op}
 use Rattle.js_tree.specs.Labels.{kind_of, op_of}
 use Rattle.js_tree.specs.Nodes.{Node, label}
 use Rattle.js_tree.specs.Holding.{Made}
+use Rattle.js_tree.specs.Sources.{text_of}
+use Rattle.js_parsing.specs.NodeTexts.{Texted}
 use Rattle.js_cursor.specs.Parsers.{Parser}
 use Rattle.js_cursor.specs.Moves.{Completed, is_last}
 use Rattle.js_cursor.specs.Places.{IsAt}
@@ -78,12 +80,13 @@ OperatorHere old new power = (text : List ℕ) (f : Flags) → At text f old →
 abbrev pub plain_label : NodeKind → Op → Span → Label
 plain_label k o s = record { kind = kind_of k; op = op_of o; flags = 0; span = record { from = s.start; to = s.end } }
 
--- A node was made, which has this label and these slots; nothing else changed.
+-- A node was made, which has this label and these slots, and keeps what the text there asks for; nothing else changed.
 pub record MadeHere (l : Label) (ids : List (Option NodeId)) (old new : Parser) (id : NodeId) : Type 0 where
   pub node : Node
   pub made : Made node old.nodes new.nodes id
   pub label_is : label node ≡ l
   pub children : node.children ≡ ids
+  pub texted : Texted node.kind node.name (chars (text_of node old.text))
   pub stays : new ≡ record old { nodes = new.nodes }
 
 -- A node of the lexeme that stood here, which was passed.

@@ -7,7 +7,7 @@ use Rattle.js_base.specs.Kinds.{one_of_kinds}
 use Rattle.js_grammar.specs.Grammar.{Lexeme}
 use Rattle.js_grammar.specs.Productions.{Flags}
 use Rattle.js_cursor.specs.Parsers.{Parser}
-use Rattle.js_parsing.specs.Lexemes.{Lex, escaped_word, may_name}
+use Rattle.js_parsing.specs.Lexemes.{Lex, may_name}
 use Rattle.js_parsing.specs.States.{At, Same}
 use Rattle.std.specs.Prelude.{◌||◌, IsTrue, nat_lt}
 use Rattle.js_base.specs.declared.kind.Kind.TheVariants.{Question, Colon, Comma, Semicolon, RParen, Eof}
@@ -18,10 +18,9 @@ abbrev pub StandsHere : Parser → Kind → Bool → Type 0
 StandsHere p k true = (p.token.kind ≡ k) × (p.token.escaped ≡ false)
 StandsHere p k false = p.token.kind ≡ k → p.token.escaped ≡ false → ⊥
 
--- whether a name stands here, with no escape but in a plain name, by the parameters Yield and Await
+-- whether a name stands here, with an escape or without, by the parameters Yield and Await
 abbrev pub NameUnder : Bool → Bool → Parser → Bool → Type 0
-NameUnder yields awaits p true = (may_name yields awaits p.token.kind ≡ true) × (escaped_word p.token.kind p.token.escaped ≡ false)
-NameUnder yields awaits p false = may_name yields awaits p.token.kind ≡ true → escaped_word p.token.kind p.token.escaped ≡ false → ⊥
+NameUnder yields awaits p b = may_name yields awaits p.token.kind ≡ b
 
 -- the same, by those in force
 abbrev pub NameHere : Parser → Bool → Type 0
@@ -38,7 +37,7 @@ pub record Ended (text : List ℕ) (f : Flags) (old new : Parser) (b : Bool) : T
   pub nodes : new.nodes ≡ old.nodes
   pub kept : new.errors ≡ old.errors
   pub place : new.prev_token_end ≡ old.prev_token_end
-  pub lexeme : IsTrue b → (y : Lexeme) × Lex text new.prev_token_end y × IsTrue (one_of_kinds ending_kinds y.kind || nat_lt 0 (power_of f.in_ y.kind))
+  pub lexeme : IsTrue b → (y : Lexeme) × Lex text new.prev_token_end y × (y.escaped ≡ false) × IsTrue (one_of_kinds ending_kinds y.kind || nat_lt 0 (power_of f.in_ y.kind))
 
 abbrev pub EndsOperand : Parser → Parser → Bool → Type 0
 EndsOperand old new b = (text : List ℕ) (f : Flags) → At text f old → Ended text f old new b

@@ -17,7 +17,7 @@ use Rattle.js_tree.specs.Holding.{Holds, Keeps}
 use Rattle.js_cursor.specs.Parsers.{Parser}
 use Rattle.js_cursor.specs.Moves.{Ends, MayEnd}
 use Rattle.js_cursor.specs.declared.stop.Stop.{Stop}
-use Rattle.js_parsing.specs.Lexemes.{Lex, Walked, escaped_word, may_name, spot}
+use Rattle.js_parsing.specs.Lexemes.{Lex, Walked, may_name, spot}
 use Rattle.js_parsing.specs.States.{At, Same}
 use Rattle.js_parsing.specs.Answers.{Verdict, Stretch, Stops, Numbered}
 
@@ -43,7 +43,7 @@ NoStatement text n s = Fails rule (Lex text) (after_statement n) no_slots (such 
 
 -- behind a tree that ends in an `if` without `else` there stands no `else`: it would be that one's (14.6)
 abbrev pub Closed : List ℕ → ℕ → Label → Slots → Type 0
-Closed text s l cs = (edge_of l cs).open_if ≡ true → (y : Lexeme) → Lex text s y → same_kind Else y.kind ≡ false
+Closed text s l cs = (edge_of l cs).open_if ≡ true → (y : Lexeme) → Lex text s y → y.escaped ≡ false → same_kind Else y.kind ≡ false
 
 -- A statement was taken. Clean: whatever is derived from its beginning, and stops where it may, is this; and it is derived over any lexemes that go on at least to the current one. Unclean: nothing is derived from there. A node made in the call stands for its tree.
 pub record Statement (text : List ℕ) (f : Flags) (n : Symbol) (old new : Parser) (id : NodeId) : Type 0 where
@@ -84,7 +84,6 @@ EndsStatement old new = (old.token.is_on_new_line ≡ true → one_of_kinds link
 pub record IsLabel (t : Token) (p : Parser) : Type 0 where
   pub colon : p.token.kind ≡ Colon
   pub name : may_name (has_flag yield_flag p.ctx) (has_flag await_flag p.ctx) t.kind ≡ true
-  pub plain : escaped_word t.kind t.escaped ≡ false
   pub place : t.span.end ≡ p.prev_token_end
 
 -- a statement doesn't end here

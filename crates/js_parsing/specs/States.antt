@@ -12,7 +12,7 @@ use Rattle.js_parsing.specs.Heads.{NotedHeads, flags_in, widened}
 use Rattle.js_parsing.specs.Lexemes.{KeptLast, NoneToEnd}
 use Rattle.js_parsing.specs.Classes.{IsEarly}
 use Rattle.std.specs.List.{All}
-use Rattle.js_base.specs.Spans.{LiesIn}
+use Rattle.js_parsing.specs.NodeTexts.{NodeFits}
 use Rattle.js_tree.specs.Nodes.{Node}
 
 -- the parameters that are in force
@@ -39,9 +39,9 @@ pub record At (text : List ℕ) (f : Flags) (p : Parser) : Type 0 where
 abbrev pub Standing : Parser → Type 0
 Standing p = At p.text (flags_of p) p
 
--- each node lies in the text and splits no character of it
+-- each node lies in the text, splits no character of it, and keeps what the text there asks for
 abbrev pub NodesLie : List ℕ → List Node → Type 0
-NodesLie text ns = All (λ (n : Node). LiesIn n.span text) ns
+NodesLie text ns = All (NodeFits text) ns
 
 -- the current token begins between characters, where the next node may, and all nodes lie in the text
 abbrev pub SpansLie : Parser → Type 0

@@ -7,7 +7,7 @@ ghost use Rattle.js_parsing.specs.Answers.{StopsUnbuilt};
 ghost use Rattle.js_parsing.specs.States.{Standing};
 ghost use Rattle.js_base.specs.Contexts.{has_flag, in_flag, yield_flag, await_flag};
 ghost use Rattle.js_base.specs.Kinds.{one_of_kinds};
-ghost use Rattle.js_parsing.specs.Lexemes.{escaped_word, may_name, name_kinds, read_kinds, read_mark, read_operator, read_reserved, read_word, unbuilt_kinds};
+ghost use Rattle.js_parsing.specs.Lexemes.{escaped_word, keyword_kind, may_name, name_kinds, read_kinds, read_mark, read_operator, read_reserved, read_word, unbuilt_kinds};
 ghost use Rattle.js_parsing.specs.Stands.{EndsOperand, NameHere, NameUnder, ReadsHere, StandsHere};
 ghost use Rattle.js_parsing.specs.Operators.{power_of};
 ghost use Rattle.js_parsing.specs.Moves.{IsCompleted, IsWholeHere, Moves, OperatorHere};
@@ -70,8 +70,8 @@ pub fn stands<C: ParserConfig>(p: &ParserImpl<'_, C>, kind: Kind) -> bool
     p.at(kind) && !p.cur_token().escaped()
 }
 
-/// Whether it has an escape, and is no plain name: a word of the keyword table, of which the rules are others then
-/// (ECMA-262, section 12.7.2).
+/// Whether it has an escape, and is no plain name: a word of the keyword table, which is no keyword then (ECMA-262,
+/// section 12.7.2).
 #[inline(always)]
 pub fn is_escaped_word(token: Token) -> bool
     ensures { result ≡ escaped_word token.kind token.escaped }
@@ -80,6 +80,17 @@ pub fn is_escaped_word(token: Token) -> bool
         Kind::Ident => false,
         _ => token.escaped(),
     }
+}
+
+/// Which keyword it is: with an escape it is a name and none (ECMA-262, section 12.7.2).
+#[inline(always)]
+pub fn keyword_of(token: Token) -> Kind
+    ensures { result ≡ keyword_kind token }
+{
+    if token.escaped() {
+        return Kind::Ident;
+    }
+    token.kind()
 }
 
 /// Whether such a word stands here.
@@ -147,15 +158,15 @@ pub fn is_name_here<C: ParserConfig>(p: &ParserImpl<'_, C>, kind: Kind) -> bool
     is_name_under(kind, p.ctx.has_yield(), p.ctx.has_await())
 }
 
-/// Whether a name stands here, with no escape but in a plain name, where the parameters Yield and Await are these.
+/// Whether a name stands here, with an escape or without, where the parameters Yield and Await are these.
 #[inline(always)]
 pub fn name_stands_under<C: ParserConfig>(p: &ParserImpl<'_, C>, yields: bool, awaits: bool) -> bool
     ensures { NameUnder yields awaits p.now result }
 {
-    is_name_under(p.cur_kind(), yields, awaits) && !escaped_word_stands(p)
+    is_name_under(p.cur_kind(), yields, awaits)
 }
 
-/// Whether a name stands here, with no escape but in a plain name.
+/// Whether a name stands here, with an escape or without.
 #[inline(always)]
 pub fn name_stands<C: ParserConfig>(p: &ParserImpl<'_, C>) -> bool
     ensures { NameHere p.now result }
@@ -207,6 +218,8 @@ fn is_read_reserved_word(kind: Kind) -> bool
             | Kind::With
             | Kind::Var
             | Kind::Const
+            | Kind::Enum
+            | Kind::Extends
     )
 }
 
@@ -312,7 +325,7 @@ pub fn reads_here<C: ParserConfig>(p: &ParserImpl<'_, C>) -> bool
     requires { Standing p.now }
     ensures { ReadsHere p.now result }
 {
-    !escaped_word_stands(p) && is_read_kind(p.cur_kind())
+    is_read_kind(p.cur_kind())
 }
 
 /// Whether a production that isn't built yet begins with this lexeme: all that begins with the kinds that are read is built.

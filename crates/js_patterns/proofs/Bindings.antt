@@ -36,14 +36,14 @@ use Rattle.js_parsing.specs.Stands.{NameHere, StandsHere}
 use Rattle.js_parsing.specs.Moves.{Moved, MadeHere, LeafTaken, TakesLeaf, plain_label, unpassable}
 use Rattle.js_parsing.specs.States.{At, Same, NodesLie}
 use Rattle.js_parsing.proofs.Signs.{other_kind, plain_sign, whole_sign}
-use Rattle.js_parsing.proofs.Escapes.{plain_word}
-use Rattle.js_parsing.proofs.Giving.{fails_escaped, gives_up}
+use Rattle.js_parsing.proofs.Escapes.{escaped_unnamed}
+use Rattle.js_parsing.proofs.Giving.{gives_up}
 use Rattle.js_parsing.proofs.Here.{kind_here}
 use Rattle.js_parsing.proofs.MadeNodes.{leaf_held, node_held, one_held, two_held, one_lies, made_lies}
 use Rattle.js_parsing.proofs.Moving.{beside_nodes, moves, same_both, same_with, stops_behind, stops_so}
 use Rattle.js_operands.proofs.Operands.{by_path, name_leaf}
-use Rattle.js_parsing.proofs.NameKinds.{listed_name, name_apart, name_at, no_name_here, or_kind}
-use Rattle.js_parsing.proofs.NamedFirsts.{fails_unnamed}
+use Rattle.js_parsing.proofs.NameKinds.{listed_name, name_apart, name_at, or_kind}
+use Rattle.js_parsing.proofs.NamedFirsts.{fails_unnamed, fails_escaped}
 use Rattle.js_parsing.proofs.Parts.{part_path, part_path_fails, part_sign, part_last, parts}
 use Rattle.js_parsing.proofs.Paths.{Path, ◌⟼◌, ◌⟶◌, ◌⟶✗◌, at_kind, fails_at, token, last_called, noded, noded_by, by_symbol_as, label_here}
 use Rattle.js_parsing.proofs.Verdicts.{verdict_of, grown_then}
@@ -96,9 +96,9 @@ item_answers {text} {f} {g} {p} {q} w {l} {cs} {id} r s m h k i = go w.nodes m h
 -- ---- a name
 
 -- a name that is bound
-pub bound_path : {text : List ℕ} {f : Flags} {X : Test} {p q : Parser} → At text f p → may_name f.yield_ f.await_ p.token.kind ≡ true → escaped_word p.token.kind p.token.escaped ≡ false → Moved text f p q → Path text f X (symbol BindingIdentifier f) p nothing q (tree (label_here binding_identifier no_op p q) end)
+pub bound_path : {text : List ℕ} {f : Flags} {X : Test} {p q : Parser} → At text f p → may_name f.yield_ f.await_ p.token.kind ≡ true → Moved text f p q → Path text f X (symbol BindingIdentifier f) p nothing q (tree (label_here binding_identifier no_op p q) end)
 unfolding rule rule_of
-bound_path a k e m = by_symbol_as {X' = plain full} (λ l cs vs y d. (refl, refl)) (noded a (name_leaf a k e m))
+bound_path a k m = by_symbol_as {X' = plain full} (λ l cs vs y d. (refl, refl)) (noded a (name_leaf a k m))
 
 -- no pattern begins with a name
 pub no_pattern_name : (k : Kind) → one_of_kinds name_kinds k ≡ true → one_of_kinds (LBrack ∷ LCurly ∷ []) k ≡ false
@@ -106,27 +106,30 @@ unfolding apart
 no_pattern_name k h = name_apart (LBrack ∷ LCurly ∷ []) refl k h
 
 module _ {text : List ℕ} {f : Flags} {p : Parser} (a : At text f p) where
-  binding_path : {q : Parser} → may_name f.yield_ f.await_ p.token.kind ≡ true → escaped_word p.token.kind p.token.escaped ≡ false → Moved text f p q → Path text f (after (at Binding f)) (rule (at Binding f)) p nothing q (tree (label_here binding_identifier no_op p q) end)
+  binding_path : {q : Parser} → may_name f.yield_ f.await_ p.token.kind ≡ true → Moved text f p q → Path text f (after (at Binding f)) (rule (at Binding f)) p nothing q (tree (label_here binding_identifier no_op p q) end)
   unfolding rule rule_of covers apart
-  binding_path k e m = left (fails_at a (symbol Pattern f) (LBrack ∷ LCurly ∷ []) refl (no_pattern_name p.token.kind (listed_name f.yield_ f.await_ p.token.kind k))) ⟼ bound_path a k e m
+  binding_path k m = left (fails_at a (symbol Pattern f) (LBrack ∷ LCurly ∷ []) refl (no_pattern_name p.token.kind (listed_name f.yield_ f.await_ p.token.kind k))) ⟼ bound_path a k m
 
-  name_answers : {q : Parser} {id : NodeId} → may_name f.yield_ f.await_ p.token.kind ≡ true → escaped_word p.token.kind p.token.escaped ≡ false → LeafTaken node_kind.BindingIdentifier op_made.None text f p q id → Numbered text f (at Binding f) p q id
-  name_answers k e t =
+  name_answers : {q : Parser} {id : NodeId} → may_name f.yield_ f.await_ p.token.kind ≡ true → LeafTaken node_kind.BindingIdentifier op_made.None text f p q id → Numbered text f (at Binding f) p q id
+  name_answers k t =
       let l : plain_label node_kind.BindingIdentifier op_made.None p.token.span ≡ label_here binding_identifier no_op p t.mid = ap (λ (v : ℕ). record { kind = binding_identifier; op = no_op; flags = 0; span = record { from = p.token.span.start; to = v } }) (t.moved.tells.end ∙ t.moved.ends) in
       let ks : Keeps p.nodes t.mid.nodes = subst (λ (ns : List Node). Keeps p.nodes ns) (sym t.moved.nodes) (Keeps-refl p.nodes) in
-      by_path (subst (λ (v : Label). Path text f (after (at Binding f)) (rule (at Binding f)) p nothing t.mid (tree v end)) (sym l) (binding_path k e t.moved)) t.moved.same t.made.stays (λ y i. refl) refl (leaf_held t.made ks) (Keeps-trans ks (Keeps-made t.made.made)) (ap (λ (v : Label). v.span) l) (one_lies t.made)
+      by_path (subst (λ (v : Label). Path text f (after (at Binding f)) (rule (at Binding f)) p nothing t.mid (tree v end)) (sym l) (binding_path k t.moved)) t.moved.same t.made.stays (λ y i. refl) refl (leaf_held t.made ks) (Keeps-trans ks (Keeps-made t.made.made)) (ap (λ (v : Label). v.span) l) (one_lies t.made)
 
   -- neither a name nor a pattern stands here
   pub no_binding : StandsHere p LBrack false → StandsHere p LCurly false → NameHere p false → Underived text (at Binding f) p.prev_token_end
   unfolding rule rule_of covers apart
-  no_binding u v n = by (escaped_word p.token.kind p.token.escaped) refl
+  no_binding u v n = by p.token.escaped refl
     where
-      by : (b : Bool) → escaped_word p.token.kind p.token.escaped ≡ b → Underived text (at Binding f) p.prev_token_end
-      by true e = fails_escaped a e
-      by false e = fails_by (fails_unnamed a f {X = after (at Binding f)} (λ g. rule (at Binding g)) (LBrack ∷ LCurly ∷ []) refl refl refl refl refl (no_name_here f p (name_at false a n) e) (or_kind LBrack (LCurly ∷ []) p.token.kind (λ k. u k (plain_word p.token k refl e)) (or_kind LCurly [] p.token.kind (λ k. v k (plain_word p.token k refl e)) refl)))
+      unnamed : may_name f.yield_ f.await_ p.token.kind ≡ false
+      unnamed = name_at false a n
+
+      by : (e : Bool) → p.token.escaped ≡ e → Underived text (at Binding f) p.prev_token_end
+      by true e = fails_by (fails_escaped a f {X = after (at Binding f)} (λ g. rule (at Binding g)) refl refl refl refl (escaped_unnamed f.yield_ f.await_ p.token.kind p.token.escaped unnamed e) unnamed)
+      by false e = fails_by (fails_unnamed a f {X = after (at Binding f)} (λ g. rule (at Binding g)) (LBrack ∷ LCurly ∷ []) refl refl refl refl refl unnamed (or_kind LBrack (LCurly ∷ []) p.token.kind (λ k. u k e) (or_kind LCurly [] p.token.kind (λ k. v k e) refl)))
 
 pub name_outcome : (text : List ℕ) (f : Flags) (p q : Parser) (r : Result NodeId Stop) → At text f p → NameHere p true → MatchResult r (λ id. TakesLeaf node_kind.BindingIdentifier op_made.None p q id) OnlyMemory → Outcome text f (at Binding f) p q r
-name_outcome text f p q (Ok id) a s m = let h = name_at true a s in name_answers a h.0 h.1 (m text f a)
+name_outcome text f p q (Ok id) a s m = name_answers a (name_at true a s) (m text f a)
 name_outcome text f p q (Err Fatal) a s m = absurd m
 name_outcome text f p q (Err NoMemory) a s m = tt
 

@@ -37,7 +37,7 @@ use Rattle.js_parsing.specs.States.{At, Standing}
 use Rattle.js_patterns.specs.Bindings.{closers, rest_comma}
 use Rattle.js_operands.proofs.Arrays.{listed, behind_one, by_first_item, unrolled, rolled}
 use Rattle.js_parsing.proofs.Signs.{plain_sign}
-use Rattle.js_parsing.proofs.Signs.{NoneIs}
+use Rattle.js_parsing.proofs.Signs.{NoneIs, none_seen}
 use Rattle.js_parsing.proofs.Moving.{same_both, same_itself, standing, stops_behind}
 use Rattle.js_parsing.proofs.Nesting.{later_room}
 use Rattle.js_parsing.proofs.Paths.{passes, skips, walked_both, walked_one}
@@ -72,7 +72,7 @@ module _ (gap item z : G) (close : Kind) {text : List ℕ} {s : ℕ} where
   comma_due n = left n
 
   closing_due : NoneIs text s Comma → Goes rule (Lex text) (plain full) end (behind_one gap item z (tok close)) s (tok close) s (λ us. us) (still 0)
-  closing_due n = right (no_first (fails_lexeme (is Comma) (λ y l h. n y l (sym (kind_of_same Comma y.kind (and_parts (same_kind Comma y.kind) _ h).0)))))
+  closing_due n = right (no_first (fails_lexeme (is Comma) (none_seen n)))
 
 -- ---- what was read, put together
 

@@ -37,6 +37,7 @@ use Rattle.js_parsing.proofs.Moving.{stops_behind, stops_so}
 use Rattle.js_parsing.proofs.Parts.{part_from, part_last, part_path, part_path_fails, part_sign, parts}
 use Rattle.js_parsing.proofs.Paths.{fails_at, label_here, noded}
 use Rattle.js_parsing.proofs.Signs.{plain_sign, stands_not}
+use Rattle.js_parsing.proofs.Escapes.{read_plain}
 use Rattle.js_parsing.proofs.Verdicts.{grown_then, verdict_of}
 use Rattle.js_parsing.proofs.Verdicts.{after as grown_behind}
 use Rattle.js_patterns.proofs.ParameterLists.{open_plain, paren_plain}
@@ -47,9 +48,9 @@ next_kinds k w e = one_of_kinds (Comma ∷ RParen ∷ RBrack ∷ RCurly ∷ []) 
 -- no opening parenthesis
 pub no_parameters : {text : List ℕ} {f : Flags} {p : Parser} (form : MethodForm) → At text f p → StandsHere p LParen false → Fails rule (Lex text) (plain full) end (parameters_of form f) p.prev_token_end
 unfolding rule rule_of
-no_parameters Method a s = fails_here firsts (λ y l h. stands_not a refl s y l (sym (kind_of_same LParen y.kind (and_parts (same_kind LParen y.kind) _ h).0)))
-no_parameters Getter a s = fails_here firsts (λ y l h. stands_not a refl s y l (sym (kind_of_same LParen y.kind (and_parts (same_kind LParen y.kind) _ h).0)))
-no_parameters Setter a s = fails_here firsts (λ y l h. stands_not a refl s y l (sym (kind_of_same LParen y.kind (and_parts (same_kind LParen y.kind) _ h).0)))
+no_parameters Method a s = fails_here firsts (λ y l h. let k = sym (kind_of_same LParen y.kind (and_parts (same_kind LParen y.kind) _ h).0) in stands_not a refl s y l k (read_plain y l k refl))
+no_parameters Getter a s = fails_here firsts (λ y l h. let k = sym (kind_of_same LParen y.kind (and_parts (same_kind LParen y.kind) _ h).0) in stands_not a refl s y l k (read_plain y l k refl))
+no_parameters Setter a s = fails_here firsts (λ y l h. let k = sym (kind_of_same LParen y.kind (and_parts (same_kind LParen y.kind) _ h).0) in stands_not a refl s y l k (read_plain y l k refl))
 
 -- those of a method
 pub method_outcome : (text : List ℕ) (f : Flags) (p q : Parser) (r : Result NodeId Stop) → Outcome text f (at Params f) p q r → WholeOutcome text f (parameters_of Method f) p q r

@@ -42,9 +42,8 @@ use Rattle.js_parsing.specs.declared.nested.Goal.{Goal}
 use Rattle.js_parsing.specs.States.{At, Same, NodesLie, Standing}
 use Rattle.js_parsing.proofs.Expected.{not_due, unexpected}
 use Rattle.js_parsing.proofs.Escapes.{read_as}
-use Rattle.js_parsing.proofs.Giving.{fails_escaped}
 use Rattle.js_parsing.proofs.Here.{begins_here, kind_here}
-use Rattle.js_parsing.proofs.NameKinds.{a_name, listed_name, name_apart, name_at, name_read, no_name_here}
+use Rattle.js_parsing.proofs.NameKinds.{a_name, listed_name, name_apart, name_at, name_read}
 use Rattle.js_parsing.proofs.NamedFirsts.{fails_unnamed}
 use Rattle.js_parsing.proofs.MadeNodes.{LabelLies, from_start, leaf_held, two_held, made_lies, one_lies}
 use Rattle.js_parsing.proofs.Moving.{beside_nodes, same_both, same_with, stops_behind, stops_so}
@@ -95,13 +94,13 @@ no_end_name : (k : Kind) → one_of_kinds name_kinds k ≡ true → one_of_kinds
 unfolding apart
 no_end_name k h = name_apart (Eof ∷ []) refl k h
 
-module _ {text : List ℕ} {f : Flags} {p q : Parser} (a : At text f p) (k : one_of_kinds name_kinds p.token.kind ≡ true) (e : escaped_word p.token.kind p.token.escaped ≡ false) (m : Moved text f p q) where
+module _ {text : List ℕ} {f : Flags} {p q : Parser} (a : At text f p) (k : one_of_kinds name_kinds p.token.kind ≡ true) (m : Moved text f p q) where
   abbrev pub key_label : Label
   key_label = label_here identifier_name no_op p q
 
   -- the lexeme that stands here is the one that was passed
   is_it : (y : Lexeme) → Lex text p.prev_token_end y → y ≡ m.lexeme
-  is_it y l = one_read a (name_signless p.token.kind k) l (m.stood, read_as m.lexeme m.tells e (name_read p.token.kind k))
+  is_it y l = one_read a (name_signless p.token.kind k) l (m.stood, read_as m.lexeme m.tells (name_read p.token.kind k))
 
   named_kind : (y : Lexeme) → Lex text p.prev_token_end y → one_of_kinds name_kinds y.kind ≡ true
   named_kind y l = subst (λ (v : Kind). one_of_kinds name_kinds v ≡ true) (m.tells.kind ∙ sym (ap (λ (z : Lexeme). z.kind) (is_it y l))) k
@@ -137,7 +136,7 @@ module _ {text : List ℕ} {f : Flags} {p q : Parser} (a : At text f p) (k : one
 
 module _ {text : List ℕ} {f : Flags} {first keyed p : Parser} {binding : NodeId} (n : NamePassed text f first keyed p binding) where
   name_bound : {X : Test} → Path text f X (symbol BindingIdentifier f) first nothing p (tree (label_here binding_identifier no_op first n.mid) end)
-  name_bound {X} = subst (λ (r : Parser). Path text f X (symbol BindingIdentifier f) first nothing r (tree (label_here binding_identifier no_op first n.mid) end)) (sym n.stays) (renoded p.nodes (bound_path n.at n.kind n.plain n.moved))
+  name_bound {X} = subst (λ (r : Parser). Path text f X (symbol BindingIdentifier f) first nothing r (tree (label_here binding_identifier no_op first n.mid) end)) (sym n.stays) (renoded p.nodes (bound_path n.at n.kind n.moved))
 
   pub at_here : At text f p
   at_here = (name_bound {X = plain full}).at
@@ -277,27 +276,23 @@ module _ {text : List ℕ} {f : Flags} {p : Parser} (a : At text f p) where
   no_shorthand n = fails_node inside_full (behind_ahead {X' = plain full} (λ ts us y e. (refl, refl)) (fails_unnamed a f (λ g. bound_by_name g) [] refl refl refl refl refl n refl))
 
   pub no_shorthand_there : NameHere p false → NoShorthand text f p.prev_token_end
-  no_shorthand_there s = by (escaped_word p.token.kind p.token.escaped) refl
-    where
-      by : (b : Bool) → escaped_word p.token.kind p.token.escaped ≡ b → NoShorthand text f p.prev_token_end
-      by true e = fails_escaped a e
-      by false e = no_shorthand (no_name_here f p (name_at false a s) e)
+  no_shorthand_there s = no_shorthand (name_at false a s)
 
-  module _ (k : may_name f.yield_ f.await_ p.token.kind ≡ true) (e : escaped_word p.token.kind p.token.escaped ≡ false) where
+  module _ (k : may_name f.yield_ f.await_ p.token.kind ≡ true) where
     listed : one_of_kinds name_kinds p.token.kind ≡ true
     listed = listed_name f.yield_ f.await_ p.token.kind k
 
     -- a name, and a colon
     pub no_shorthand_here : {q : Parser} → Moved text f p q → q.token.kind ≡ Colon → NoShorthand text f p.prev_token_end
     unfolding covers apart
-    no_shorthand_here {q} m c = fails_node (inside_plain {F' = next_kinds} ends_itself) (behind_ahead {X' = behind_item} (λ ts us y e. (e.0, refl)) (fails_alt (bound_path a k e m ⟶✗ no_end) (fails_node inside_full (then_any (bound_path a k e m) ⟶✗ fails_at m.at (symbol Init (plus_in f)) (Eq ∷ []) refl (ap (one_of_kinds (Eq ∷ [])) c)))))
+    no_shorthand_here {q} m c = fails_node (inside_plain {F' = next_kinds} ends_itself) (behind_ahead {X' = behind_item} (λ ts us y e. (e.0, refl)) (fails_alt (bound_path a k m ⟶✗ no_end) (fails_node inside_full (then_any (bound_path a k m) ⟶✗ fails_at m.at (symbol Init (plus_in f)) (Eq ∷ []) refl (ap (one_of_kinds (Eq ∷ [])) c)))))
       where
         no_end : Fails rule (Lex text) behind_item end nothing q.prev_token_end
         no_end = fails_nothing (λ ts y l h. false≢true (subst (λ (v : Kind). one_of_kinds (Comma ∷ RParen ∷ RBrack ∷ RCurly ∷ []) v ≡ true) (kind_here m.at c refl y l) h.0))
 
     named : {q : Parser} {key : NodeId} → TakesLeaf node_kind.IdentifierName op_made.None p q key → NameRead text f false p q key
     unfolding apart
-    named {q} {key} t = word_named a (λ i j. false≢true (sym (name_apart (LBrack ∷ []) refl p.token.kind listed) ∙ ap (one_of_kinds (LBrack ∷ [])) i)) (name_apart literal_kinds refl p.token.kind listed) (name_taken text f p q (Ok key) a (or_left _ _ listed) e t)
+    named {q} {key} t = word_named a (λ i j. false≢true (sym (name_apart (LBrack ∷ []) refl p.token.kind listed) ∙ ap (one_of_kinds (LBrack ∷ [])) i)) (name_apart literal_kinds refl p.token.kind listed) (name_taken text f p q (Ok key) a (or_left _ _ listed) t)
 
     pub name_named : {q : Parser} {key : NodeId} → TakesLeaf node_kind.IdentifierName op_made.None p q key → NameRead text f false p q key
     name_named t = named t
@@ -326,7 +321,6 @@ module _ {text : List ℕ} {f : Flags} {p : Parser} (a : At text f p) where
       name_passed {r} {binding} s i d = record {
         at = a;
         kind = k;
-        plain = e;
         mid = leaf.mid;
         moved = leaf.moved;
         stays = d.stays ∙ ap (λ (z : Parser). record z { nodes = r.nodes }) leaf.made.stays;
@@ -359,7 +353,7 @@ module _ {text : List ℕ} {f : Flags} {p : Parser} (a : At text f p) where
             made = subst (λ (y : Label). MadeHere y (Some key ∷ Some value ∷ []) v w id) l z
 
             whole : Path text f behind_item (symbol PatternProperty f) p nothing v (tree (flagged_here binding_property no_op shorthand_flag p v) (tree (label_here identifier_name no_op p leaf.mid) end (tree x.label x.slots end)))
-            whole = by_symbol_as {X' = behind_item} (λ l cs vs y d. (d.0, refl)) (shorthand_alone ⟼ flagged_by a (inside_plain {F' = next_kinds} ends_itself) (key_first a listed e leaf.moved bound_read))
+            whole = by_symbol_as {X' = behind_item} (λ l cs vs y d. (d.0, refl)) (shorthand_alone ⟼ flagged_by a (inside_plain {F' = next_kinds} ends_itself) (key_first a listed leaf.moved bound_read))
 
       -- what it binds isn't derived
       pub bound_stops : (w : Parser) (i : Stop) → Stops p w i (Fails rule (Lex text) behind_item end (bound_by_name f) p.prev_token_end) → Stops p w i (NoItem text (at PatternProperty f) p.prev_token_end)
@@ -370,8 +364,8 @@ pub name_place : {text : List ℕ} {f : Flags} {p q : Parser} {key : NodeId} →
 name_place {text} {f} a t = let x = t text f a in x.moved.tells.end ∙ (x.moved.ends ∙ sym (ap (λ (z : Parser). z.prev_token_end) x.made.stays))
 
 -- a colon stands behind it
-pub no_shorthand_named : {text : List ℕ} {f : Flags} {p q : Parser} {key : NodeId} → At text f p → may_name f.yield_ f.await_ p.token.kind ≡ true → escaped_word p.token.kind p.token.escaped ≡ false → TakesLeaf node_kind.IdentifierName op_made.None p q key → q.token.kind ≡ Colon → NoShorthand text f p.prev_token_end
-no_shorthand_named {text} {f} a k e t c = let x = t text f a in no_shorthand_here a k e x.moved (sym (ap (λ (z : Parser). z.token.kind) x.made.stays) ∙ c)
+pub no_shorthand_named : {text : List ℕ} {f : Flags} {p q : Parser} {key : NodeId} → At text f p → may_name f.yield_ f.await_ p.token.kind ≡ true → TakesLeaf node_kind.IdentifierName op_made.None p q key → q.token.kind ≡ Colon → NoShorthand text f p.prev_token_end
+no_shorthand_named {text} {f} a k t c = let x = t text f a in no_shorthand_here a k x.moved (sym (ap (λ (z : Parser). z.token.kind) x.made.stays) ∙ c)
 
 -- a node was made here
 pub made_at : {q r : Parser} {l : Label} {id : NodeId} → Standing q → MadeHere l [] q r id → Standing r

@@ -58,7 +58,6 @@ BindsName k false = k ≡ binding_identifier → ⊥
 pub record NamePassed (text : List ℕ) (f : Flags) (first keyed q : Parser) (binding : NodeId) : Type 0 where
   pub at : At text f first
   pub kind : may_name f.yield_ f.await_ first.token.kind ≡ true
-  pub plain : escaped_word first.token.kind first.token.escaped ≡ false
   pub mid : Parser
   pub moved : Moved text f first mid
   pub stays : q ≡ record mid { nodes = q.nodes }
@@ -94,7 +93,7 @@ ReadsValue start name old new r = (text : List ℕ) (f : Flags) (first : Parser)
 
 -- A name was passed from some state on, up to the old one, where no colon stands; what is read now is the rest of a shorthand.
 abbrev pub ReadsShorthand : Span → NodeId → Parser → Parser → Result NodeId Stop → Type 0
-ReadsShorthand name key old new r = (text : List ℕ) (f : Flags) (first : Parser) → At text f first → name ≡ first.token.span → may_name f.yield_ f.await_ first.token.kind ≡ true → escaped_word first.token.kind first.token.escaped ≡ false → TakesLeaf node.IdentifierName op_made.None first old key → ItemOutcome text f (at PatternProperty f) first new r
+ReadsShorthand name key old new r = (text : List ℕ) (f : Flags) (first : Parser) → At text f first → name ≡ first.token.span → may_name f.yield_ f.await_ first.token.kind ≡ true → TakesLeaf node.IdentifierName op_made.None first old key → ItemOutcome text f (at PatternProperty f) first new r
 
 -- the parser stops here, whatever was due
 abbrev pub GivesUpThere : Parser → Parser → Stop → Type 0

@@ -19,7 +19,7 @@ use crate::object_pattern::parse_object_pattern;
 use js_base::{Diagnostic, DiagnosticKind, Kind, Span};
 use js_cursor::{ParserImpl, Stop};
 use js_lex::ParserConfig;
-use js_operands::primary::parse_leaf;
+use js_operands::primary::parse_name;
 use js_parsing::context::assignment_with_in;
 use js_parsing::diagnostics::diagnostic_at;
 use js_parsing::lexemes::{advance, name_stands, stands};
@@ -94,7 +94,7 @@ fn parse_binding_identifier<C: ParserConfig>(p: &mut ParserImpl<'_, C>) -> Resul
     if !name_stands(p) {
         return Err(p.set_unexpected());
     }
-    parse_leaf(p, NodeKind::BindingIdentifier, Op::None)
+    parse_name(p, NodeKind::BindingIdentifier)
 }
 
 /// An ArrayBindingPattern (ECMA-262, section 14.3.3).

@@ -11,6 +11,7 @@ ghost use Rattle.js_parsing.specs.Classes.{EndsParse};
 ghost use Rattle.js_parsing.specs.Lists.{ListRead, ListStops, ReadsItem, ReadsOneMore};
 ghost use Rattle.js_parsing.specs.Moves.{MadeHere};
 ghost use Rattle.js_parsing.specs.Nesting.{CanNest, room};
+ghost use Rattle.js_parsing.specs.NodeTexts.{SpellsName};
 ghost use Rattle.js_parsing.specs.Stands.{NameHere, StandsHere};
 ghost use Rattle.js_parsing.specs.States.{Standing};
 ghost use Rattle.js_patterns.specs.ObjectPatterns.{properties_left, property_label, AddsInitialiser, BindsName, GivesUpThere, ReadsNamedRest, ReadsShorthand, ReadsValue};
@@ -20,16 +21,16 @@ ghost use Rattle.js_tree.specs.Nodes.{node_at};
 use crate::binding::{
     RestPlace, check_behind_rest, finish_rest, parse_binding_element, parse_nested_binding,
 };
-use js_base::{Diagnostic, DiagnosticKind, Kind, NoMemory, Span};
+use js_base::{Diagnostic, DiagnosticKind, Kind, NoMemory, Span, Token};
 use js_cursor::{ParserImpl, Stop};
 use js_lex::ParserConfig;
-use js_operands::primary::parse_leaf;
+use js_operands::primary::parse_name;
 use js_operands::property_name::{PropertyName, parse_property_name};
 use js_parsing::context::assignment_with_in;
 use js_parsing::diagnostics::diagnostic_at;
 use js_parsing::lexemes::{advance, name_stands};
 use js_parsing::nested::Nested;
-use js_parsing::nodes::{make_leaf, make_list, make_two};
+use js_parsing::nodes::{make_list, make_name, make_two};
 use js_tree::{NodeFlags, NodeId, NodeKind, Op};
 
 /// An ObjectBindingPattern (ECMA-262, section 14.3.3).
@@ -134,8 +135,8 @@ fn parse_named_property<C: ParserConfig, N: Nested<C>>(
     requires name { NameHere p.old true }
     ensures { ReadsItem (at PatternProperty) p.old p.new result }
 {
-    let name = p.cur_token().span();
-    let key = parse_leaf(p, NodeKind::IdentifierName, Op::None)?;
+    let name = p.cur_token();
+    let key = parse_name(p, NodeKind::IdentifierName)?;
     if !p.at(Kind::Colon) {
         return parse_shorthand(p, nested, name, key);
     }
@@ -143,26 +144,28 @@ fn parse_named_property<C: ParserConfig, N: Nested<C>>(
         key,
         computed: false,
     };
-    parse_property_value(p, nested, name.start, name_read)
+    parse_property_value(p, nested, name.start(), name_read)
 }
 
 /// What a shorthand binds, behind its name: the name itself, and an initialiser or none (ECMA-262, section 14.3.3).
 fn parse_shorthand<C: ParserConfig, N: Nested<C>>(
     p: &mut ParserImpl<'_, C>,
     nested: &N,
-    name: Span,
+    name: Token,
     key: NodeId,
 ) -> Result<NodeId, Stop>
     requires at { Standing p.old }
     requires nests { CanNest (N.can nested.now) (room p.old + 1) }
     requires no_colon { p.old.token.kind ≡ Colon → ⊥ }
-    requires ends { name.end ≡ p.old.prev_token_end }
-    requires ordered { name.start ≤ name.end }
-    ensures { ReadsShorthand name key p.old p.new result }
+    requires ends { name.span.end ≡ p.old.prev_token_end }
+    requires ordered { name.span.start ≤ name.span.end }
+    requires spells { SpellsName p.old.text name }
+    ensures { ReadsShorthand name.span key p.old p.new result }
 {
-    let binding = make_leaf(p, NodeKind::BindingIdentifier, Op::None, name)?;
-    let value = parse_name_initialiser(p, nested, name.start, binding)?;
-    let span = p.end_span(name.start);
+    let start = name.start();
+    let binding = make_name(p, NodeKind::BindingIdentifier, name)?;
+    let value = parse_name_initialiser(p, nested, start, binding)?;
+    let span = p.end_span(start);
     let node = make_property(p, span, shorthand_flags(), key, value)?;
     Ok(node)
 }

@@ -1,7 +1,7 @@
 -- Lists of statements in braces (ECMA-262, 14.2, 15.2).
 use Rattle.std.proofs.Common.{ℕ, ◌≡◌, ◌≤◌, max, List, ◌∷◌, length, Option, Bool, true, false, ◌||◌, refl, sym, ap, subst, arith, ◌∙◌}
 use Rattle.std.specs.Prelude.{Some, Err}
-use Rattle.std.proofs.lemmas.Bool.{false≢true, and_parts}
+use Rattle.std.proofs.lemmas.Bool.{false≢true}
 use Rattle.js_base.specs.declared.diagnostic.Diagnostic.{Diagnostic}
 use Rattle.js_base.specs.declared.diagnostic.DiagnosticKind.TheVariants.{ExpectClosing}
 use Rattle.js_base.specs.declared.kind.Kind.TheVariants as kind
@@ -72,7 +72,7 @@ then_some {pass = w} a b l u v = record {
 
 -- no lexeme that is read stands where none is told
 pub none_told : {text : List ℕ} {f : Flags} {q : Parser} → At text f q → q.token.kind ≡ kind.Undetermined → (y : Lexeme) → Lex text q.prev_token_end y → ⊥
-none_told a e y l = false≢true (sym (ap (one_of_kinds read_kinds) (kind_here a e refl y l)) ∙ (and_parts (one_of_kinds read_kinds y.kind) _ l.1).0)
+none_told a e y l = false≢true (sym (ap (one_of_kinds read_kinds) (kind_here a e refl y l)) ∙ l.1)
 
 -- at a brace a choice is cut down to what begins with it, or with a part of a template that may stand in its place
 pub at_brace : {text : List ℕ} {f : Flags} {q : Parser} {X : Test} {g : G} → At text f q → q.token.kind ≡ kind.RCurly → Goes rule (Lex text) X end g q.prev_token_end (pick first_of X.base g (kind.RCurly ∷ template_tails)) q.prev_token_end (λ us. us) (still 0)

@@ -52,7 +52,7 @@ use Rattle.js_parsing.proofs.Here.{escaped_here, kind_here}
 use Rattle.js_parsing.proofs.MadeNodes.{node_held, one_lies, two_held}
 use Rattle.js_parsing.proofs.Moving.{moves, same_both, same_itself, stops_behind}
 use Rattle.js_parsing.proofs.Paths.{Path, ◌⟼◌, ◌⟶◌, ◌⟶✗◌, at_kind, called, fails_at, label_here, last_token, noded, noded_by, read_of, token}
-use Rattle.js_parsing.proofs.Signs.{NoneIs, plain_sign, stands_not, whole_sign}
+use Rattle.js_parsing.proofs.Signs.{none_seen, NoneIs, plain_sign, stands_not, whole_sign}
 use Rattle.js_parsing.proofs.Verdicts.{either_way, grown_then, verdict_of}
 use Rattle.js_parsing.proofs.Verdicts.{after as grown_behind}
 use Rattle.js_statements.proofs.Labels.{behind_label, on_label}
@@ -85,8 +85,8 @@ module _ {text : List ℕ} {f : Flags} {X : Test} where
 
 module _ {text : List ℕ} {f : Flags} {p : Parser} (a : At text f p) where
   -- a lexeme that is due doesn't stand here
-  pub no_token : {X : Test} {g : G} (k : Kind) → (is_right_angle k || one_of_kinds (kind.Ident ∷ other_goals) k) ≡ false → StandsHere p k false → Fails rule (Lex text) X end (tok k ▸ g) p.prev_token_end
-  no_token k n s = then_fails (fails_lexeme (is k) (λ y l h. stands_not a n s y l (sym (kind_of_same k y.kind (and_parts (same_kind k y.kind) (not y.escaped) h).0))))
+  pub no_token : {X : Test} {g : G} (k : Kind) → (is_right_angle k || one_of_kinds other_goals k) ≡ false → StandsHere p k false → Fails rule (Lex text) X end (tok k ▸ g) p.prev_token_end
+  no_token k n s = then_fails (fails_lexeme (is k) (none_seen (stands_not a n s)))
 
   -- which was told
   pub unexpected : {F : Type 0} (k : Kind) (q : Parser) (e : Stop) → Expects (IsKind k) ExpectToken None p q (Err e) → (StandsHere p k false → F) → Stops p q e F
@@ -265,7 +265,7 @@ module _ {text : List ℕ} {f : Flags} {q : Parser} (a : At text f q) where
   none_here n y l = go (seen (is kind.Semicolon) y) refl
     where
       go : (b : Bool) → seen (is kind.Semicolon) y ≡ b → seen (is kind.Semicolon) y ≡ false
-      go true t = absurd (stands_not a refl (λ i j. n (i, j)) y l (sym (kind_of_same kind.Semicolon y.kind (and_parts (same_kind kind.Semicolon y.kind) (not y.escaped) t).0)))
+      go true t = absurd (none_seen (stands_not a refl (λ i j. n (i, j))) y l t)
       go false t = t
 
 module _ {text : List ℕ} {f : Flags} {X : Test} {g : G} {p q r : Parser} {h : Slots → Slots} where
@@ -416,7 +416,7 @@ module _ {text : List ℕ} {f : Flags} {q r : Parser} {id : NodeId} (s : Stateme
     no_second = record { no = λ ts vs k ls rest x d e. go x d }
       where
         go : {ts vs : Slots} {k : ℕ} {ls rest : Lexemes} → Lexes (Lex text) q.prev_token_end ls → Takes rule (second_tail f) end ts q.prev_token_end ls vs k rest → ⊥
-        go x (is_seq (is_such {l = l} {cs = cs} {us = us} d t) (is_seq (is_lexeme {x = y} c) g)) = n y (stands_behind {ts = tree l cs us} {vs = us} x (is_such {c = has_else} d t) (before_else f l cs us y t c)) (sym (kind_of_same kind.Else y.kind (and_parts (same_kind kind.Else y.kind) (not y.escaped) c).0))
+        go x (is_seq (is_such {l = l} {cs = cs} {us = us} d t) (is_seq (is_lexeme {x = y} c) g)) = none_seen n y (stands_behind {ts = tree l cs us} {vs = us} x (is_such {c = has_else} d t) (before_else f l cs us y t c)) c
 
     first_path : Path text f (behind_tails f) (tails f) q nothing r (λ us. tree s.label s.slots (hole us))
     first_path = left no_second ⟼ (statement_then s (to_slot f q.prev_token_end) ⟝ reads_empty_slot)
@@ -437,7 +437,7 @@ module _ {text : List ℕ} {f : Flags} {q r : Parser} {id : NodeId} (s : Stateme
     shut = go (ends_in_sub s.label.kind && lacks_else s.slots) refl
       where
         go : (b : Bool) → (ends_in_sub s.label.kind && lacks_else s.slots) ≡ b → not (ends_in_sub s.label.kind && lacks_else s.slots) ≡ true
-        go true e = absurd (false≢true (sym (s.closed e m.lexeme (m.stood, read_of m.lexeme (sym m.tells.kind ∙ h.0) (sym m.tells.escaped ∙ h.1) refl)) ∙ rw (sym m.tells.kind ∙ h.0) refl))
+        go true e = absurd (false≢true (sym (s.closed e m.lexeme (m.stood, read_of m.lexeme (sym m.tells.kind ∙ h.0) refl) (sym m.tells.escaped ∙ h.1)) ∙ rw (sym m.tells.kind ∙ h.0) refl))
         go false e = ap not e
 
     else_passed : Path text f (behind_tails f) (tails f) q (symbol Sub f) t (tree s.label s.slots)
@@ -464,14 +464,14 @@ pub record Tails (text : List ℕ) (f : Flags) (q v : Parser) (consequent : Node
   pub same : Same q v
   pub held : HoldsAll v.nodes (length q.nodes) (length v.nodes) (Some consequent ∷ alternate ∷ []) (slots end)
   pub keeps : Keeps q.nodes v.nodes
-  pub closed : (l : Label) (cs : Slots) → lacks_else (tree l cs (slots end)) ≡ true → (y : Lexeme) → Lex text v.prev_token_end y → same_kind kind.Else y.kind ≡ false
+  pub closed : (l : Label) (cs : Slots) → lacks_else (tree l cs (slots end)) ≡ true → (y : Lexeme) → Lex text v.prev_token_end y → y.escaped ≡ false → same_kind kind.Else y.kind ≡ false
 
 -- no lexeme of the kind
-none_is : {text : List ℕ} {s : ℕ} (k : Kind) → NoneIs text s k → (y : Lexeme) → Lex text s y → same_kind k y.kind ≡ false
-none_is k n y l = go (same_kind k y.kind) refl
+none_is : {text : List ℕ} {s : ℕ} (k : Kind) → NoneIs text s k → (y : Lexeme) → Lex text s y → y.escaped ≡ false → same_kind k y.kind ≡ false
+none_is k n y l w = go (same_kind k y.kind) refl
   where
     go : (b : Bool) → same_kind k y.kind ≡ b → same_kind k y.kind ≡ false
-    go true e = absurd (n y l (sym (kind_of_same k y.kind e)))
+    go true e = absurd (n y l (sym (kind_of_same k y.kind e)) w)
     go false e = e
 
 pub tails_taken : {text : List ℕ} {f : Flags} {q r v : Parser} {consequent : NodeId} (s : Statement text f (at Sub f) q r consequent) (alternate : Option NodeId) → TakesAlternate r v (Ok alternate) → Tails text f q v consequent alternate
@@ -483,7 +483,7 @@ tails_taken {text} {f} {q} {r} {v} {consequent} s None (n, e) =
       same = s.same;
       held = HoldsAll-hole (HoldsAll-one consequent s.holds);
       keeps = s.keeps;
-      closed = λ l cs o y i. none_is kind.Else k y i;
+      closed = λ l cs o y i w. none_is kind.Else k y i w;
     })
 tails_taken {text} {f} {q} {r} {v} {consequent} s (Some id) (h, t) =
     let z = t text f s.at in

@@ -117,7 +117,7 @@ module _ {text : List ℕ} {f : Flags} {s : Parser} (a : At text f s) where
   declared_by_let : {X : Test} {g : G} → LetHere true s → Fails rule (Lex text) X end (not_then (is kind.Let) (word_or (kind.LBrack ∷ kind.LCurly ∷ [])) ▸ g) s.prev_token_end
   declared_by_let h = followed a let_word (word_or (kind.LBrack ∷ kind.LCurly ∷ [])) h.here (λ z l. covered (λ k w e. behind_let true k) (word_or (kind.LBrack ∷ kind.LCurly ∷ [])) let_goes_on z.kind z.newline z.escaped (ap (behind_let true) (h.behind text f a z l) ∙ h.goes_on))
 
-  other_word : {X : Test} {g : G} (w v : Kind) → (is_right_angle w || one_of_kinds (kind.Ident ∷ other_goals) w) ≡ false → (v ≡ w → ⊥) → StandsHere s v true → Fails rule (Lex text) X end (op variable_declaration w (tok w ▸ g)) s.prev_token_end
+  other_word : {X : Test} {g : G} (w v : Kind) → (is_right_angle w || one_of_kinds other_goals w) ≡ false → (v ≡ w → ⊥) → StandsHere s v true → Fails rule (Lex text) X end (op variable_declaration w (tok w ▸ g)) s.prev_token_end
   other_word w v r n h = fails_node inside_full (no_token a w r (λ i j. n (sym h.0 ∙ i)))
 
   -- what is bound

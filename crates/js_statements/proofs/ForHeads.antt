@@ -1,7 +1,7 @@
 -- The heads of `for` statements, between their parentheses (ECMA-262, 14.7.4, 14.7.5).
-use Rattle.std.proofs.Common.{ℕ, ◌≡◌, ◌<◌, ◌⊎◌, inl, inr, max, List, [], ◌∷◌, ◌++◌, length, Option, Some, None, Bool, true, false, not, IsTrue, refl, sym, ap, subst, arith, ◌∙◌, ◌||◌}
+use Rattle.std.proofs.Common.{ℕ, ◌≡◌, ◌<◌, ◌⊎◌, inl, inr, max, List, [], ◌∷◌, ◌++◌, length, Option, Some, None, Bool, true, false, IsTrue, refl, sym, ap, subst, arith, ◌∙◌, ◌||◌}
 use Rattle.std.specs.Prelude.{Result, Ok, Err, ◌↔◌}
-use Rattle.std.proofs.lemmas.Bool.{false≢true, and_parts}
+use Rattle.std.proofs.lemmas.Bool.{false≢true}
 use Rattle.js_base.specs.declared.diagnostic.Diagnostic.{Diagnostic}
 use Rattle.js_base.specs.declared.diagnostic.DiagnosticKind.TheVariants.{ExpectToken}
 use Rattle.js_base.specs.declared.kind.Kind.{Kind}
@@ -44,7 +44,7 @@ use Rattle.js_statements.specs.declared.for_statement.Ending.TheVariants as endi
 use Rattle.js_statements.specs.ForHeads.{AtEnd, EndsPart, FirstTaken, HeadTaken, NoFirst, NoFirstPart, NoHead, NoParensHead, NoPart, NoRest, ParensHeadTaken, PartTaken, RestTaken, TakesFirst, TakesHead, TakesRest, behind_head, behind_rest, behind_slot, end_kind, first_part, head_part, rest_part}
 use Rattle.js_parsing.proofs.Moving.{same_both, same_itself, stops_behind}
 use Rattle.js_parsing.proofs.Paths.{Path, ◌⟶◌, ◌⟶✗◌, fails_at, last_called, last_token, skips, token, walked_both, walked_one}
-use Rattle.js_parsing.proofs.Signs.{plain_sign, stands_not}
+use Rattle.js_parsing.proofs.Signs.{plain_sign, stands_not, none_seen}
 use Rattle.js_parsing.proofs.Verdicts.{and_then, behind_none, either_way, grown_then, verdict_of}
 use Rattle.js_parsing.proofs.Verdicts.{after as grown_behind}
 use Rattle.js_statements.proofs.CompoundStatements.{no_token, unexpected}
@@ -210,11 +210,11 @@ module _ {text : List ℕ} {f : Flags} {p : Parser} (a : At text f p) where
   no_empty k h n = record { no = λ ts vs j ls rest l d e. go l d e.0 }
     where
       go : {ts vs : Slots} {j : ℕ} {ls rest : Lexemes} → Lexes (Lex text) p.prev_token_end ls → Takes rule empty_slot end ts p.prev_token_end ls vs j rest → IsTrue (seen (is k) (here rest)) → ⊥
-      go {ls = ls} l is_empty_slot q = stands_not a (angle h) (λ i j. n i) (here ls) (here_at (Lex text) ls l) (sym (kind_of_same k (here ls).kind (and_parts (same_kind k (here ls).kind) (not (here ls).escaped) q).0))
+      go {ls = ls} l is_empty_slot q = none_seen (stands_not a (angle h) (λ i j. n i)) (here ls) (here_at (Lex text) ls l) q
         where
-          angle : EndsPart k → (is_right_angle k || one_of_kinds (kind.Ident ∷ other_goals) k) ≡ false
-          angle (inl i) = ap (λ (v : Kind). is_right_angle v || one_of_kinds (kind.Ident ∷ other_goals) v) i
-          angle (inr i) = ap (λ (v : Kind). is_right_angle v || one_of_kinds (kind.Ident ∷ other_goals) v) i
+          angle : EndsPart k → (is_right_angle k || one_of_kinds other_goals k) ≡ false
+          angle (inl i) = ap (λ (v : Kind). is_right_angle v || one_of_kinds other_goals v) i
+          angle (inr i) = ap (λ (v : Kind). is_right_angle v || one_of_kinds other_goals v) i
 
   pub part_unread : (k : Kind) → EndsPart k → (p.token.kind ≡ k → ⊥) → Underived text (at Expression f) p.prev_token_end → NoPart text k f p.prev_token_end
   part_unread k h n z = fails_alt (weaken_fails_on z (on_end k (at Expression f) (part_ends k h))) (no_empty k h n)

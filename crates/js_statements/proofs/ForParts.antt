@@ -45,7 +45,7 @@ use Rattle.js_statements.specs.LetStatements.{behind_let, LetIsName}
 use Rattle.js_parsing.proofs.Ahead.{pass_over}
 use Rattle.js_parsing.proofs.Moving.{stops_so}
 use Rattle.js_parsing.proofs.Paths.{Path, ◌⟼◌, by_symbol_as, last_called}
-use Rattle.js_parsing.proofs.Signs.{stands_not}
+use Rattle.js_parsing.proofs.Signs.{stands_not, NoneIs, none_seen}
 use Rattle.js_parsing.proofs.Verdicts.{either_way, verdict_of}
 use Rattle.js_parsing.proofs.Verdicts.{after as grown_behind}
 use Rattle.js_statements.proofs.CompoundStatements.{no_token}
@@ -83,15 +83,15 @@ use Rattle.js_statements.proofs.WordLookaheads.{IsWord, Leads, async_word, at_on
 
 -- ---- whatever is read before a lexeme that doesn't stand there
 
-pub stretch_not : {text : List ℕ} {g : G} {s s' : ℕ} {h : Slots → Slots} {pass : Lexemes → Lexemes} (k : Kind) → Stretch text (plain (is k)) g s nothing s' h pass → ((y : Lexeme) → Lex text s' y → y.kind ≡ k → ⊥) → Fails rule (Lex text) (plain (is k)) end g s
+pub stretch_not : {text : List ℕ} {g : G} {s s' : ℕ} {h : Slots → Slots} {pass : Lexemes → Lexemes} (k : Kind) → Stretch text (plain (is k)) g s nothing s' h pass → NoneIs text s' k → Fails rule (Lex text) (plain (is k)) end g s
 stretch_not {text} {g} {s} {s'} k z n = record { no = λ ts vs j ls rest l d e. go ts vs j ls rest l d e }
   where
     go : (ts vs : Slots) (j : ℕ) (ls rest : Lexemes) → Lexes (Lex text) s ls → Takes rule g end ts s ls vs j rest → Admits (plain (is k)) ts (here rest) → ⊥
     go ts vs j ls rest l d e =
         let y = z.goes.only ts vs j ls rest l d e in
-        n (here rest) (here_at (Lex text) rest (subst (λ (v : Lexemes). Lexes (Lex text) s' v) (ends y.4).2 y.3)) (sym (kind_of_same k (here rest).kind (and_parts (same_kind k (here rest).kind) (not (here rest).escaped) e.0).0))
+        none_seen n (here rest) (here_at (Lex text) rest (subst (λ (v : Lexemes). Lexes (Lex text) s' v) (ends y.4).2 y.3)) e.0
 
-ending_angle : (e : Ending) → (is_right_angle (end_kind e) || one_of_kinds (kind.Ident ∷ other_goals) (end_kind e)) ≡ false
+ending_angle : (e : Ending) → (is_right_angle (end_kind e) || one_of_kinds other_goals (end_kind e)) ≡ false
 ending_angle ending.Semicolon = refl
 ending_angle ending.In = refl
 ending_angle ending.Of = refl
@@ -122,11 +122,18 @@ in_or_of k h = by (same_kind kind.In k) refl h
 
 -- neither stands there
 through_not : {text : List ℕ} {f : Flags} {q : Parser} → At text f q → ThroughHere q false → (y : Lexeme) → Lex text q.prev_token_end y → IsTrue (seen goes_through y) → ⊥
-through_not a n y l h = by (in_or_of y.kind (and_parts (one_of_kinds (kind.In ∷ kind.Of ∷ []) y.kind) (not y.escaped) h).0)
+through_not a n y l h = by (in_or_of y.kind parts.0)
   where
+    parts : (one_of_kinds (kind.In ∷ kind.Of ∷ []) y.kind ≡ true) × (not y.escaped ≡ true)
+    parts = and_parts (one_of_kinds (kind.In ∷ kind.Of ∷ []) y.kind) (not y.escaped) h
+
+    plain : (b : Bool) → not b ≡ true → b ≡ false
+    plain true i = absurd (false≢true i)
+    plain false i = refl
+
     by : (y.kind ≡ kind.In) ⊎ (y.kind ≡ kind.Of) → ⊥
-    by (inl e) = stands_not a refl n.0 y l e
-    by (inr e) = stands_not a refl n.1 y l e
+    by (inl e) = stands_not a refl n.0 y l e (plain y.escaped parts.1)
+    by (inr e) = stands_not a refl n.1 y l e (plain y.escaped parts.1)
 
 pub through_at : (q r : Parser) → r.token ≡ q.token → ThroughHere q true → ThroughHere r true
 through_at q r e (inl h) = inl (ap (λ (z : Token). z.kind) e ∙ h.0, ap (λ (z : Token). z.escaped) e ∙ h.1)
@@ -171,7 +178,7 @@ module _ {text : List ℕ} {f : Flags} (is_await : Bool) {p : Parser} (a : At te
   name_here : LetIsName text true p.prev_token_end
   name_here = n.2 text f a
 
-  no_declared : {X : Test} {g : G} (w : Kind) → (is_right_angle w || one_of_kinds (kind.Ident ∷ other_goals) w) ≡ false → StandsHere p w false → Fails rule (Lex text) X end (op variable_declaration w (tok w ▸ g)) p.prev_token_end
+  no_declared : {X : Test} {g : G} (w : Kind) → (is_right_angle w || one_of_kinds other_goals w) ≡ false → StandsHere p w false → Fails rule (Lex text) X end (op variable_declaration w (tok w ▸ g)) p.prev_token_end
   no_declared w r s = fails_node inside_full (no_token a w r s)
 
   no_let_word : {X : Test} (g : G) → covers (starts first g full) (λ k w e. behind_let true k) ≡ true → Fails rule (Lex text) X end (op variable_declaration kind.Let (tok kind.Let ▸ g)) p.prev_token_end
@@ -514,7 +521,7 @@ module _ {text : List ℕ} {f : Flags} {p q : Parser} {id : NodeId} (a : At text
             let z = found x.answer.at (uncut x.answer.at (ap (same_kind kind.RAngle) h.0 ∙ no_sign k g)) (ap is_last h.0 ∙ l) in
             let w : z.0.kind ≡ k = sym z.2.kind ∙ h.0 in
             let e : z.0.escaped ≡ false = sym z.2.escaped ∙ h.1 in
-            (z.0, (z.1, read_of z.0 w e r), and_from (one_of_kinds (kind.In ∷ kind.Of ∷ []) z.0.kind) (not z.0.escaped) (ap (one_of_kinds (kind.In ∷ kind.Of ∷ [])) w ∙ m) (ap not e))
+            (z.0, (z.1, read_of z.0 w r), and_from (one_of_kinds (kind.In ∷ kind.Of ∷ []) z.0.kind) (not z.0.escaped) (ap (one_of_kinds (kind.In ∷ kind.Of ∷ [])) w ∙ m) (ap not e))
           where
             no_sign : (k : Kind) → is_right_angle k ≡ false → same_kind kind.RAngle k ≡ false
             no_sign k g = by (same_kind kind.RAngle k) refl

@@ -50,7 +50,7 @@ use Rattle.js_parsing.proofs.MadeNodes.{node_held, one_lies}
 use Rattle.js_parsing.proofs.Moving.{same_both, same_itself}
 use Rattle.js_parsing.proofs.Parts.{part_path}
 use Rattle.js_parsing.proofs.Paths.{Path, ◌⟼◌, at_kind, by_symbol_as, flagged_by, flagged_here, walked_to}
-use Rattle.js_parsing.proofs.Escapes.{read_plain}
+use Rattle.js_parsing.proofs.Escapes.{keyword_none}
 use Rattle.js_parsing.proofs.Told.{told_at, told_same}
 use Rattle.js_parsing.proofs.Verdicts.{after as grown_behind, verdict_of}
 use Rattle.js_statements.proofs.Statements.{by_such_statement, item_left, labels_fail, never_open, no_expression, no_lexical, no_symbol, sub_left}
@@ -63,7 +63,7 @@ module _ {text : List ℕ} {f : Flags} {p : Parser} (a : At text f p) (h : Stand
   on_line z l =
       let w = n text f a in
       let e : z ≡ w.0 = one_function w.1 w.2 l in
-      subst (λ (y : Lexeme). IsTrue (seen function_on_line y)) (sym e) (rw (w.2, w.3, read_plain w.0 w.1.1 w.2 refl) refl)
+      subst (λ (y : Lexeme). IsTrue (seen function_on_line y)) (sym e) (rw (w.2, w.3, w.4) refl)
 
   -- no colon stands there, so it is no label
   no_label_there : (X : Test) → Fails rule (Lex text) X end (symbol Labeled f) p.prev_token_end
@@ -86,7 +86,7 @@ module _ {text : List ℕ} {f : Flags} {p : Parser} (a : At text f p) (h : Stand
 
   listed_there : {X : Test} → Goes rule (Lex text) X end (rule (at ListItem f)) p.prev_token_end (symbol AFunction f) p.prev_token_end (λ us. us) (still 0)
   listed_there {X} = subst (λ (g : G). Goes rule (Lex text) X end (rule (at ListItem f)) p.prev_token_end g p.prev_token_end (λ us. us) (still 0)) (item_left f) (lives (rule (at ListItem f)))
-      ▹ right no_statement_there ▹ right (elsewhere a let_word (word_or (kind.LCurly ∷ [])) let_elsewhere ▹✗ no_expression_there) ▹ left (no_lexical a (ap (one_of_kinds statement_kinds) h.0) (no_let_here a let_elsewhere true))
+      ▹ right no_statement_there ▹ right (elsewhere a let_word (word_or (kind.LCurly ∷ [])) let_elsewhere ▹✗ no_expression_there) ▹ left (no_lexical a (keyword_none p.token statement_kinds (ap (one_of_kinds statement_kinds) h.0) refl) (no_let_here a let_elsewhere true))
 
   body_there : {X : Test} → Goes rule (Lex text) X end (rule (at Sub f)) p.prev_token_end (function_line Declaration false false f) p.prev_token_end (λ us. us) (still 0)
   body_there {X} = subst (λ (g : G). Goes rule (Lex text) X end (rule (at Sub f)) p.prev_token_end g p.prev_token_end (λ us. us) (still 0)) (sub_left f) (lives (rule (at Sub f))) ▹ right no_statement_there ▹ right no_expression_there

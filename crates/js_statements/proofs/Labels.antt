@@ -48,7 +48,7 @@ use Rattle.js_statements.proofs.Statements.{by_statement, no_function, no_functi
 use Rattle.js_statements.specs.LetStatements.{behind_let, LetIsName}
 use Rattle.js_statements.proofs.WordLookaheads.{AsyncIsName, let_word, not_followed, ◌⇒✗◌}
 use Rattle.js_statements.proofs.Strings.{name_look, name_node, name_expression}
-use Rattle.js_parsing.proofs.Escapes.{read_as, read_plain}
+use Rattle.js_parsing.proofs.Escapes.{read_as, read_plain, keyword_none}
 use Rattle.js_parsing.proofs.Verdicts.{either_way, verdict_of, grown_then}
 use Rattle.js_parsing.proofs.Verdicts.{after as grown_behind}
 use Rattle.js_operands.proofs.Operands.{name_signless}
@@ -155,7 +155,7 @@ module _ {text : List ℕ} {f : Flags} {p q : Parser} (a : At text f p) (x : Ans
       let w = name_whole a is_listed in
       let z = found a w.0 w.1 in
       let k : may_name f.yield_ f.await_ z.0.kind ≡ true = subst (λ (v : Kind). may_name f.yield_ f.await_ v ≡ true) z.2.kind is_name in
-      (z.0, (z.1, read_as z.0 z.2 i.plain (name_read p.token.kind is_listed)), k, sym z.2.end ∙ i.place)
+      (z.0, (z.1, read_as z.0 z.2 (name_read p.token.kind is_listed)), k, sym z.2.end ∙ i.place)
 
   looks_so : IsTrue (seen (name_look f) name.0)
   looks_so = name_passes f name.0 name.2
@@ -165,7 +165,7 @@ module _ {text : List ℕ} {f : Flags} {p q : Parser} (a : At text f p) (x : Ans
   colon =
       let z = found x.at (uncut x.at (ap (same_kind RAngle) i.colon)) (rw (i.colon) refl) in
       let k : z.0.kind ≡ Colon = sym z.2.kind ∙ i.colon in
-      (z.0, (z.1, read_of z.0 k (sym z.2.escaped ∙ plain_sign Colon x.at i.colon refl refl colon_plain) refl), k)
+      (z.0, (z.1, read_of z.0 k refl), k)
 
   -- a name before a colon is an expression, so it was read as one
   derived : Underived text (at Expression f) p.prev_token_end → ⊥
@@ -174,7 +174,7 @@ module _ {text : List ℕ} {f : Flags} {p q : Parser} (a : At text f p) (x : Ans
       let y = name.0 in let z = colon.0 in
       let l : Lex text y.to z = subst (λ (e : ℕ). Lex text e z) (sym name.3) colon.1 in
       let cs = label_of name_node (next y (last z)) y.to (last z) in
-      n.no (tree cs end end) end y.to (next y (last z)) (last z) (name.1, l) (name_expression looks_so) (admits (at Expression f) (tree cs end end) z (covered (is Colon) (looser 1 f.in_ after_expression) (colon_ends f.in_) z.kind z.newline z.escaped (and_from _ _ (rw (colon.2) refl) (ap not (read_plain z colon.1.1 colon.2 refl)))))
+      n.no (tree cs end end) end y.to (next y (last z)) (last z) (name.1, l) (name_expression looks_so) (admits (at Expression f) (tree cs end end) z (covered (is Colon) (looser 1 f.in_ after_expression) (colon_ends f.in_) z.kind z.newline z.escaped (and_from _ _ (rw (colon.2) refl) (ap not (read_plain z colon.1 colon.2 refl)))))
 
   -- and nothing else was passed
   only_name : Stretch text (after (at Expression f)) (such (at Expression f) always) p.prev_token_end nothing q.prev_token_end (tree x.label x.slots) x.pass → x.pass (last colon.0) ≡ next name.0 (last colon.0)
@@ -183,7 +183,7 @@ module _ {text : List ℕ} {f : Flags} {p q : Parser} (a : At text f p) (x : Ans
       let y = name.0 in let z = colon.0 in
       let l : Lex text y.to z = subst (λ (e : ℕ). Lex text e z) (sym name.3) colon.1 in
       let cs = label_of name_node (next y (last z)) y.to (last z) in
-      let w = u.goes.only (tree cs end end) end y.to (next y (last z)) (last z) (name.1, l) (name_expression looks_so) (admits (at Expression f) (tree cs end end) z (covered (is Colon) (looser 1 f.in_ after_expression) (colon_ends f.in_) z.kind z.newline z.escaped (and_from _ _ (rw (colon.2) refl) (ap not (read_plain z colon.1.1 colon.2 refl))))) in
+      let w = u.goes.only (tree cs end end) end y.to (next y (last z)) (last z) (name.1, l) (name_expression looks_so) (admits (at Expression f) (tree cs end end) z (covered (is Colon) (looser 1 f.in_ after_expression) (colon_ends f.in_) z.kind z.newline z.escaped (and_from _ _ (rw (colon.2) refl) (ap not (read_plain z colon.1 colon.2 refl))))) in
       ap x.pass (sym (ends w.4).2) ∙ sym w.5
 
   name_passed : (ls : Lexemes) → x.pass ls ≡ next name.0 ls
@@ -225,8 +225,8 @@ module _ {text : List ℕ} {f : Flags} {p q : Parser} (a : At text f p) (x : Ans
   -- it is no expression with a semicolon
   to_placed : (b : Bool) → Goes rule (Lex text) (after_statement (placed b f)) end (rule (placed b f)) p.prev_token_end (symbol AStatement f) p.prev_token_end (λ us. us) (still 0)
   unfolding apart covers
-  to_placed true = subst (λ (g : G). Goes rule (Lex text) (after_statement (at ListItem f)) end (rule (at ListItem f)) p.prev_token_end g p.prev_token_end (λ us. us) (still 0)) (item_left f) (lives (rule (at ListItem f))) ▹ left (fails_alt (not_followed a let_word (word_or (LCurly ∷ [])) (λ y z l h m t. false≢true (sym (label_named true y z l h m) ∙ covered (word_or (LCurly ∷ [])) (λ k w e. behind_let true k) refl z.kind z.newline z.escaped t)) ⇒✗ no_expression_ends true a (name_apart (LCurly ∷ Function ∷ []) refl p.token.kind is_listed) label_async (label_named true) x (before_colon x.at (goes_on (row_of x.label x.slots)) i.colon)) (fails_alt (no_function a (name_apart statement_kinds refl p.token.kind is_listed) label_async) (no_lexical a (name_apart statement_kinds refl p.token.kind is_listed) (label_named true))))
-  to_placed false = subst (λ (g : G). Goes rule (Lex text) (after_statement (at Sub f)) end (rule (at Sub f)) p.prev_token_end g p.prev_token_end (λ us. us) (still 0)) (sub_left f) (lives (rule (at Sub f))) ▹ left (fails_alt (no_expression_ends false a (name_apart (LCurly ∷ Function ∷ []) refl p.token.kind is_listed) label_async (label_named false) x (before_colon x.at (goes_on (row_of x.label x.slots)) i.colon)) (no_function_body a (name_apart statement_kinds refl p.token.kind is_listed)))
+  to_placed true = subst (λ (g : G). Goes rule (Lex text) (after_statement (at ListItem f)) end (rule (at ListItem f)) p.prev_token_end g p.prev_token_end (λ us. us) (still 0)) (item_left f) (lives (rule (at ListItem f))) ▹ left (fails_alt (not_followed a let_word (word_or (LCurly ∷ [])) (λ y z l h m t. false≢true (sym (label_named true y z l h m) ∙ covered (word_or (LCurly ∷ [])) (λ k w e. behind_let true k) refl z.kind z.newline z.escaped t)) ⇒✗ no_expression_ends true a (keyword_none p.token (LCurly ∷ Function ∷ []) (name_apart (LCurly ∷ Function ∷ []) refl p.token.kind is_listed) refl) label_async (label_named true) x (before_colon x.at (goes_on (row_of x.label x.slots)) i.colon)) (fails_alt (no_function a (keyword_none p.token statement_kinds (name_apart statement_kinds refl p.token.kind is_listed) refl) label_async) (no_lexical a (keyword_none p.token statement_kinds (name_apart statement_kinds refl p.token.kind is_listed) refl) (label_named true))))
+  to_placed false = subst (λ (g : G). Goes rule (Lex text) (after_statement (at Sub f)) end (rule (at Sub f)) p.prev_token_end g p.prev_token_end (λ us. us) (still 0)) (sub_left f) (lives (rule (at Sub f))) ▹ left (fails_alt (no_expression_ends false a (keyword_none p.token (LCurly ∷ Function ∷ []) (name_apart (LCurly ∷ Function ∷ []) refl p.token.kind is_listed) refl) label_async (label_named false) x (before_colon x.at (goes_on (row_of x.label x.slots)) i.colon)) (no_function_body a (keyword_none p.token statement_kinds (name_apart statement_kinds refl p.token.kind is_listed) refl)))
 
   -- what is in the node can't be read
   labeled_fails : (b : Bool) → Fails rule (Lex text) (behind_label f) end (labeled_slots f) p.prev_token_end → NoStatement text (placed b f) p.prev_token_end

@@ -9,6 +9,7 @@ use Rattle.js_base.specs.declared.kind.Kind.{Kind}
 use Rattle.js_base.specs.declared.kind.Kind.TheVariants.{Async, Colon, Const, LBrack, LCurly, Let, Undetermined}
 use Rattle.js_base.specs.declared.token.Token.{Token}
 use Rattle.js_base.specs.Kinds.{same_kind, one_of_kinds}
+use Rattle.js_base.proofs.KindLemmas.{kind_of_same}
 use Rattle.js_grammar.specs.Conditions.{ends_in_sub}
 use Rattle.js_grammar.specs.Trees.{end}
 use Rattle.js_grammar.specs.Grammar.{Lexeme, seen, is, ◌▸◌}
@@ -41,7 +42,7 @@ use Rattle.js_parsing.proofs.Dead.{lives}
 use Rattle.js_parsing.proofs.Giving.{kept_one}
 use Rattle.js_parsing.proofs.Moving.{same_both, stops_so}
 use Rattle.js_parsing.proofs.Paths.{◌⟼◌, at_kind, by_symbol_as, walked_to}
-use Rattle.js_parsing.proofs.Escapes.{no_name_where, read_unnamed}
+use Rattle.js_parsing.proofs.Escapes.{keyword_none, read_plain}
 use Rattle.js_parsing.specs.Told.{unrelated_at}
 use Rattle.js_parsing.proofs.Told.{told_at, told_same}
 use Rattle.js_parsing.proofs.Signs.{span_is}
@@ -89,7 +90,7 @@ module _ {text : List ℕ} {f : Flags} {p : Parser} (a : At text f p) {b : Bool}
   -- before `[` no expression statement begins so
   let_expression : same_kind LBrack h.kind ≡ true → {X : Test} → Fails rule (Lex text) X end (symbol ExprStmt f) p.prev_token_end
   unfolding rule rule_of apart
-  let_expression k = fails_rule {X' = plain full} (λ l cs vs y e. (refl, refl)) (fails_node inside_full (pass_over (looks (other (is_one_of no_expression)) (λ y l. subst (λ (k : Kind). not (one_of_kinds no_expression k && not y.escaped) ≡ true) (sym (kind_here a h.here.0 refl y l)) refl)) ▹✗ (elsewhere a async_word function_on_line no_async ▹✗ followed a let_word (is LBrack) h.here (λ z l. let m = ap (same_kind LBrack) (kind_behind z l) ∙ k in and_from _ _ m (ap not (read_unnamed z l.1 (no_name_where (same_kind LBrack) z.kind m refl)))))))
+  let_expression k = fails_rule {X' = plain full} (λ l cs vs y e. (refl, refl)) (fails_node inside_full (pass_over (looks (other (is_one_of no_expression)) (λ y l. subst (λ (k : Kind). not (one_of_kinds no_expression k && not y.escaped) ≡ true) (sym (kind_here a h.here.0 refl y l)) refl)) ▹✗ (elsewhere a async_word function_on_line no_async ▹✗ followed a let_word (is LBrack) h.here (λ z l. let m = ap (same_kind LBrack) (kind_behind z l) ∙ k in and_from _ _ m (ap not (read_plain z l (sym (kind_of_same LBrack z.kind m)) refl))))))
 
 -- in a list
 module _ {text : List ℕ} {f : Flags} {p : Parser} (a : At text f p) (h : LetHere true p) where
@@ -101,7 +102,7 @@ module _ {text : List ℕ} {f : Flags} {p : Parser} (a : At text f p) (h : LetHe
       by false k = followed a let_word (word_or (LCurly ∷ [])) h.here (λ z l. or_word h.kind h.goes_on k z (kind_behind a h z l))
 
   let_listed : {X : Test} → Goes rule (Lex text) X end (rule (at ListItem f)) p.prev_token_end (symbol Lexical f) p.prev_token_end (λ us. us) (still 0)
-  let_listed {X} = subst (λ (g : G). Goes rule (Lex text) X end (rule (at ListItem f)) p.prev_token_end g p.prev_token_end (λ us. us) (still 0)) (item_left f) (lives (rule (at ListItem f))) ▹ right (let_statement a h) ▹ right no_expression_item ▹ right (no_function a (ap (one_of_kinds statement_kinds) h.here.0) (no_async_here a (no_async a h)))
+  let_listed {X} = subst (λ (g : G). Goes rule (Lex text) X end (rule (at ListItem f)) p.prev_token_end g p.prev_token_end (λ us. us) (still 0)) (item_left f) (lives (rule (at ListItem f))) ▹ right (let_statement a h) ▹ right no_expression_item ▹ right (no_function a (keyword_none p.token statement_kinds (ap (one_of_kinds statement_kinds) h.here.0) refl) (no_async_here a (no_async a h)))
 
   let_alone : {X : Test} → Goes rule (Lex text) X end (rule (at Lexical f)) p.prev_token_end (declaration declared.Let f) p.prev_token_end (λ us. us) (still 0)
   unfolding rule rule_of covers
@@ -109,7 +110,7 @@ module _ {text : List ℕ} {f : Flags} {p : Parser} (a : At text f p) (h : LetHe
 
 -- as a body
 no_let_body : {text : List ℕ} {f : Flags} {p : Parser} → At text f p → LetHere false p → NoStatement text (at Sub f) p.prev_token_end
-no_let_body {text} {f} {p} a h = no_symbol (subst (λ (g : G). Goes rule (Lex text) (after_statement (at Sub f)) end (rule (at Sub f)) p.prev_token_end g p.prev_token_end (λ us. us) (still 0)) (sub_left f) (lives (rule (at Sub f))) ▹✗ fails_alt (let_statement a h) (fails_alt (let_expression a h h.goes_on) (no_function_body a (ap (one_of_kinds statement_kinds) h.here.0))))
+no_let_body {text} {f} {p} a h = no_symbol (subst (λ (g : G). Goes rule (Lex text) (after_statement (at Sub f)) end (rule (at Sub f)) p.prev_token_end g p.prev_token_end (λ us. us) (still 0)) (sub_left f) (lives (rule (at Sub f))) ▹✗ fails_alt (let_statement a h) (fails_alt (let_expression a h h.goes_on) (no_function_body a (keyword_none p.token statement_kinds (ap (one_of_kinds statement_kinds) h.here.0) refl))))
 
 -- ---- of both words
 

@@ -1,4 +1,5 @@
 -- Directives and statements, one behind the other.
+use Rattle.js_parsing.proofs.Escapes.{keyword_none}
 use Rattle.js_parsing.proofs.MadeNodes.{held_label, one_lies, LabelLies, from_start}
 use Rattle.std.proofs.Common.{ℕ, ◌≡◌, ◌<◌, max, List, [], ◌∷◌, ◌++◌, length, Bool, true, false, not, ◌&&◌, ◌||◌, cond, IsTrue, Option, Some, refl, sym, ap, subst, arith, ◌∙◌}
 use Rattle.std.specs.Prelude.{◌↔◌}
@@ -34,7 +35,7 @@ use Rattle.js_tree.specs.Holding.{Holds, HoldsAll, Keeps}
 use Rattle.js_tree.proofs.HoldingLemmas.{HoldsAll-none, HoldsAll-next, Holds-below, Keeps-refl, Keeps-trans, Keeps-made}
 use Rattle.js_cursor.specs.Moves.{is_last}
 use Rattle.js_cursor.specs.Parsers.{Parser}
-use Rattle.js_parsing.specs.Lexemes.{Lex, name_kinds, nowhere}
+use Rattle.js_parsing.specs.Lexemes.{Lex, name_kinds, nowhere, keyword_kind}
 use Rattle.js_parsing.specs.States.{At, Same, NodesLie}
 use Rattle.js_parsing.specs.Nesting.{room}
 use Rattle.js_parsing.specs.Moves.{MadeHere, plain_label}
@@ -256,8 +257,8 @@ module _ {text : List ℕ} {f : Flags} {p : Parser} (a : At text f p) (s : p.tok
   not_eof Body = ap (ends_at Body) s
   not_eof Clause = ap (ends_at Clause) s
 
-  pub no_own_kind : one_of_kinds statement_kinds p.token.kind ≡ false
-  no_own_kind = ap (one_of_kinds statement_kinds) s
+  pub no_own_kind : one_of_kinds statement_kinds (keyword_kind p.token) ≡ false
+  no_own_kind = keyword_none p.token statement_kinds (ap (one_of_kinds statement_kinds) s) refl
 
   no_let : LetIsName text true p.prev_token_end
   no_let = no_let_here a (λ k e. let q : Str ≡ Let = sym s ∙ k in absurd (cc)) true

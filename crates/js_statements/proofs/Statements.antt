@@ -47,7 +47,7 @@ use Rattle.js_cursor.specs.Parsers.{Parser}
 use Rattle.js_cursor.specs.Moves.{MayEnd, EndsOr, GivesUp, IsUnexpected, OnlyMemory, ends_statement}
 use Rattle.js_cursor.specs.declared.stop.Stop.{Stop}
 use Rattle.js_cursor.specs.declared.stop.Stop.TheVariants.{Fatal, NoMemory}
-use Rattle.js_parsing.specs.Lexemes.{Lex, escaped_word, may_name, name_kinds, other_goals, read_kinds, signs_of, slashes, template_tails, Plain}
+use Rattle.js_parsing.specs.Lexemes.{Lex, may_name, name_kinds, other_goals, read_kinds, signs_of, slashes, template_tails, Plain, keyword_kind, read_word}
 use Rattle.js_parsing.specs.States.{At, Same, NodesLie}
 use Rattle.js_parsing.specs.Moves.{IsWholeHere, Moved, MadeHere, LeafTaken, TakesLeaf, plain_label, unpassable}
 use Rattle.js_parsing.specs.Answers.{Underived, Answer, Numbered, Stops, beside}
@@ -56,15 +56,15 @@ use Rattle.js_declarations.specs.Declarations.{stops_row}
 use Rattle.js_parsing.proofs.Verdicts.{verdict_of, either_way}
 use Rattle.js_parsing.proofs.Moving.{moves, same_both, same_itself, same_with, beside_nodes}
 use Rattle.js_parsing.proofs.NameKinds.{name_whole, names_at, test_named}
-use Rattle.js_parsing.proofs.Here.{kind_here, newline_here, plain_token, told, uncut, unsettled}
+use Rattle.js_parsing.proofs.Here.{kind_here, newline_here, plain_token, told, uncut, unsettled, escaped_here}
 use Rattle.js_parsing.proofs.Signs.{closing_there}
 use Rattle.js_parsing.proofs.Dead.{live, lives}
 use Rattle.js_parsing.proofs.MadeNodes.{leaf_held, one_held, one_lies, LabelLies, from_start}
 use Rattle.js_parsing.proofs.Paths.{begins_by, reads, Path, ◌⟼◌, ◌⟶◌, ◌⟶✗◌, at_kind, not_here, fails_at, last_token, noded, noded_by, by_symbol_as, label_here}
-use Rattle.js_parsing.proofs.Escapes.{read_plain, read_word_plain, token_read, unescaped_word}
+use Rattle.js_parsing.proofs.Escapes.{read_plain, keyword_plain, plain_or_word}
 use Rattle.js_parsing.proofs.Tight.{plain_so}
 use Rattle.js_statements.proofs.Strings.{name_look, name_node, name_expression}
-use Rattle.js_parsing.proofs.Giving.{gives_up, gives_up_here}
+use Rattle.js_parsing.proofs.Giving.{gives_up, gives_up_here, fails_at_word}
 use Rattle.js_parsing.proofs.Classes.{here_ends}
 use Rattle.js_base.specs.declared.diagnostic.DiagnosticKind.TheVariants.{ExpectToken}
 use Rattle.js_parsing.proofs.Slashes.{sign_there}
@@ -82,7 +82,7 @@ a ⟝ b = record { at = a.at; further = a.further; pass = a.pass; walked = a.wal
 
 -- what goes on with no expression on a new line, and is no semicolon and no link: before it one may be left out
 abbrev on_a_line : Row → Look
-on_a_line r k w e = not (escaped_word k e) && ((looser 1 true r k w e || beside k w e) && (w && (not (one_of_kinds link_kinds k) && not (same_kind Semicolon k))))
+on_a_line r k w e = (not e || read_word k) && ((looser 1 true r k w e || beside k w e) && (w && (not (one_of_kinds link_kinds k) && not (same_kind Semicolon k))))
 
 line_omits : (r : Row) → covers (on_a_line r) (may_omit (goes_on r)) ≡ true
 unfolding covers
@@ -257,9 +257,9 @@ module _ {text : List ℕ} {f : Flags} {q : Parser} (a : At text f q) where
       let e : y.kind ≡ RegExp = sym (kind_of_same RegExp y.kind i) in
       let z = sign_there l.0 h in
       let a_slash : one_of_kinds slashes z.lexeme.kind ≡ true = subst (λ (k : Kind). one_of_kinds (signs_of k) z.lexeme.kind ≡ true) e z.is in
-      let n : z.lexeme.escaped ≡ false = z.escaped ∙ read_plain y l.1 e refl in
+      let n : z.lexeme.escaped ≡ false = z.escaped ∙ read_plain y l e refl in
       let k = and_parts (one_of_kinds read_kinds z.lexeme.kind) _ (covered (λ k w e. one_of_kinds slashes k) slash_is slash_read z.lexeme.kind false false a_slash) in
-      let p : Plain text q.prev_token_end z.lexeme = (z.stands.lex, and_from _ _ (and_from _ _ k.0 (ap not (unescaped_word z.lexeme.kind z.lexeme.escaped n))) k.1) in
+      let p : Plain text q.prev_token_end z.lexeme = (z.stands.lex, and_from _ _ k.0 k.1) in
       let o = covered (λ k w e. slash_on_line k w e && S r k w e) (pattern_omits r) (c r) z.lexeme.kind z.lexeme.newline z.lexeme.escaped (and_from _ _ (and_from _ _ a_slash (and_from _ _ (ap not n) (z.newline ∙ (newline_here a y l ∙ w)))) (s z.lexeme p)) in
       subst (λ (j : Kind). may_omit (goes_on r) j y.newline y.escaped ≡ true) (sym e) (subst (λ (b : Bool). may_omit (goes_on r) RegExp b y.escaped ≡ true) z.newline (subst (λ (b : Bool). may_omit (goes_on r) RegExp z.lexeme.newline b ≡ true) z.escaped o))
 
@@ -270,7 +270,7 @@ module _ {text : List ℕ} {f : Flags} {q : Parser} (a : At text f q) where
     where
       go : (b : Bool) → one_of_kinds other_goals y.kind ≡ b → IsTrue (seen (may_omit (goes_on r)) y)
       go true e = pattern_omitted stays slash_omits r s w y l e (same_kind RegExp y.kind) refl
-      go false e = covered (on_a_line r) (may_omit (goes_on r)) (line_omits r) y.kind y.newline y.escaped (and_from _ _ (ap not (read_word_plain y l.1)) (and_from _ _ (s y (l.0, plain_so y l.1 e)) (and_from _ _ (newline_here a y l ∙ w) (and_from _ _ (unlinked_at v y l) (ap not (no_semicolon n y l))))))
+      go false e = covered (on_a_line r) (may_omit (goes_on r)) (line_omits r) y.kind y.newline y.escaped (and_from _ _ (plain_or_word y l) (and_from _ _ (s y (l.0, plain_so y l.1 e)) (and_from _ _ (newline_here a y l ∙ w) (and_from _ _ (unlinked_at v y l) (ap not (no_semicolon n y l))))))
 
   -- on a new line, where nothing goes on
   pub omits_stopped : (r : Row) → ((y : Lexeme) → Plain text q.prev_token_end y → IsTrue (seen (stops_row r) y)) → (q.token.is_on_new_line ≡ true → one_of_kinds link_kinds q.token.kind ≡ false) → MayEnd q → (q.token.kind ≡ Semicolon → ⊥) → (y : Lexeme) → Lex text q.prev_token_end y → IsTrue (seen (may_omit (goes_on r)) y)
@@ -452,7 +452,7 @@ module _ {text : List ℕ} {f : Flags} {p q : Parser} (a : At text f p) (x : Ans
           go false e = absurd (not_here x.at (Colon ∷ []) refl (rw e refl) z h (or_left (same_kind Colon z.kind) false (and_parts (same_kind Colon z.kind) _ c).0))
 
       label : Lexes (Lex text) q.prev_token_end (next z rest) → y.to ≡ q.prev_token_end → IsLabel p.token q
-      label h e = let k = told a (name_whole a token_kind).0 (name_signless p.token.kind token_kind) y l in record { colon = colon_kind h.0; name = sym (names_at x.at (λ (b : Bool). b) p.token.kind) ∙ subst (λ (v : Kind). may_name f.yield_ f.await_ v ≡ true) (sym k.kind) (test_named f y l.1 t); plain = token_read k l.1; place = k.end ∙ e }
+      label h e = let k = told a (name_whole a token_kind).0 (name_signless p.token.kind token_kind) y l in record { colon = colon_kind h.0; name = sym (names_at x.at (λ (b : Bool). b) p.token.kind) ∙ subst (λ (v : Kind). may_name f.yield_ f.await_ v ≡ true) (sym k.kind) (test_named f y l.1 t); place = k.end ∙ e }
 
   pub no_label : (X : Test) → Fails rule (Lex text) X end (symbol Labeled f) p.prev_token_end
   no_label X = labels_fail (λ y z rest l i t c. two_stand y z rest l i.0 i t c)
@@ -467,15 +467,15 @@ unfolding covers apart
 no_label_at {f = f} a n X = fails_at a {X = X} (symbol Labeled f) name_kinds refl n
 
 -- nor a declaration of a function, as a body
-pub no_function_body : {text : List ℕ} {f : Flags} {p : Parser} {X : Test} → At text f p → one_of_kinds statement_kinds p.token.kind ≡ false → Fails rule (Lex text) X end (function_of function_declaration (symbol BindingIdentifier f) false false f) p.prev_token_end
+pub no_function_body : {text : List ℕ} {f : Flags} {p : Parser} {X : Test} → At text f p → one_of_kinds statement_kinds (keyword_kind p.token) ≡ false → Fails rule (Lex text) X end (function_of function_declaration (symbol BindingIdentifier f) false false f) p.prev_token_end
 unfolding covers apart
-no_function_body {f = f} a n = weaken_fails_on (fails_at a {X = plain full} (function_of function_declaration (symbol BindingIdentifier f) false false f) statement_kinds refl n) (record { admits = λ ts vs k ls rest d e. (refl, refl) })
+no_function_body {f = f} a n = weaken_fails_on (fails_at_word {X = plain full} (function_of function_declaration (symbol BindingIdentifier f) false false f) statement_kinds a refl refl n) (record { admits = λ ts vs k ls rest d e. (refl, refl) })
 
 -- nor one in a list
-module _ {text : List ℕ} {f : Flags} {p : Parser} (a : At text f p) (n : one_of_kinds statement_kinds p.token.kind ≡ false) (v : AsyncIsName text p.prev_token_end) where
+module _ {text : List ℕ} {f : Flags} {p : Parser} (a : At text f p) (n : one_of_kinds statement_kinds (keyword_kind p.token) ≡ false) (v : AsyncIsName text p.prev_token_end) where
   none_of_either : (s : Bool) → Fails rule (Lex text) (plain full) end (function_line Declaration false s f) p.prev_token_end
   unfolding covers apart
-  none_of_either true = fails_at a {X = plain full} (function_line Declaration false true f) statement_kinds refl n
+  none_of_either true = fails_at_word {X = plain full} (function_line Declaration false true f) statement_kinds a refl refl n
   none_of_either false = no_function_body a n
 
   no_async_line : (s : Bool) → Fails rule (Lex text) (plain full) end (function_line Declaration true s f) p.prev_token_end
@@ -493,25 +493,25 @@ module _ {text : List ℕ} {f : Flags} {p : Parser} (a : At text f p) (n : one_o
       any false s = none_of_either s
 
 -- no declaration stands here
-pub no_lexical : {text : List ℕ} {f : Flags} {p : Parser} {X : Test} → At text f p → one_of_kinds statement_kinds p.token.kind ≡ false → LetIsName text true p.prev_token_end → Fails rule (Lex text) X end (symbol Lexical f) p.prev_token_end
+pub no_lexical : {text : List ℕ} {f : Flags} {p : Parser} {X : Test} → At text f p → one_of_kinds statement_kinds (keyword_kind p.token) ≡ false → LetIsName text true p.prev_token_end → Fails rule (Lex text) X end (symbol Lexical f) p.prev_token_end
 unfolding covers apart rule rule_of
-no_lexical {text} {f} {p} a n u = fails_rule {X' = plain full} (λ l cs vs y e. (refl, refl)) (fails_alt (record { no = λ ts vs k ls rest l d e. go ts vs k ls rest l d }) (fails_at a {X = plain full} (op_node variable_declaration 'const' (ended by_edge (declarators 'const' f))) statement_kinds refl n))
+no_lexical {text} {f} {p} a n u = fails_rule {X' = plain full} (λ l cs vs y e. (refl, refl)) (fails_alt (record { no = λ ts vs k ls rest l d e. go ts vs k ls rest l d }) (fails_at_word {X = plain full} (op_node variable_declaration 'const' (ended by_edge (declarators 'const' f))) statement_kinds a refl refl n))
   where
     go : (ts vs : Slots) (k : ℕ) (ls rest : Lexemes) → Lexes (Lex text) p.prev_token_end ls → Takes rule (op_node variable_declaration 'let' (ended by_edge (declarators 'let' f))) end ts p.prev_token_end ls vs k rest → ⊥
     go ts vs k ls rest l (is_node (is_ended {cs = cs} {j = j} {mid = mid} q (is_seq (is_lexeme {x = y} {ls = more} c) d) d')) =
         let none : Fails rule (Lex text) (plain full) end (commas false (declarator false f)) y.to = fails_here firsts {X = plain full} (λ z m h. false≢true (sym (u y z l.0 c m) ∙ covered (starts first (commas false (declarator false f)) full) (λ k w e. behind_let true k) refl z.kind z.newline z.escaped h)) in
         none.no cs end j more mid l.1 d (refl, refl)
 
-module _ {text : List ℕ} {f : Flags} {p : Parser} (a : At text f p) (n : one_of_kinds statement_kinds p.token.kind ≡ false) (nl : (X : Test) → Fails rule (Lex text) X end (symbol Labeled f) p.prev_token_end) (v : AsyncIsName text p.prev_token_end) where
-  none : (g : G) → begins_by g full statement_kinds ≡ true → Fails rule (Lex text) (plain full) end g p.prev_token_end
-  none g c = fails_at a {X = plain full} g statement_kinds c n
+module _ {text : List ℕ} {f : Flags} {p : Parser} (a : At text f p) (n : one_of_kinds statement_kinds (keyword_kind p.token) ≡ false) (nl : (X : Test) → Fails rule (Lex text) X end (symbol Labeled f) p.prev_token_end) (v : AsyncIsName text p.prev_token_end) where
+  none : (g : G) → begins_by g full statement_kinds ≡ true → apart (λ k w e. starts first g full k w e && one_of_kinds statement_kinds k) (λ k w e. e) ≡ true → Fails rule (Lex text) (plain full) end g p.prev_token_end
+  none g c d = fails_at_word {X = plain full} g statement_kinds a c d n
 
   no_statement : {X : Test} → Fails rule (Lex text) X end (symbol AStatement f) p.prev_token_end
   unfolding covers apart
   no_statement = fails_rule {X' = plain full} (λ l cs vs y e. (refl, refl)) (subst (λ (g : G). Goes rule (Lex text) (plain full) end (rule (at AStatement f)) p.prev_token_end g p.prev_token_end (λ us. us) (still 0)) (statement_left f) (lives (rule (at AStatement f)))
-      ▹✗ fails_alt (none (symbol Block f) refl) (fails_alt (none (symbol Empty f) refl) (fails_alt (none (symbol Var f) refl) (fails_alt (none (symbol If f) refl) (fails_alt (none (symbol Do f) refl) (fails_alt (none (symbol While f) refl) (fails_alt (none (symbol With f) refl)
-      (fails_alt (none (symbol For f) refl) (fails_alt (none (symbol ForIn f) refl) (fails_alt (none (symbol ForOf f) refl) (fails_alt (none (symbol Continue f) refl) (fails_alt (none (symbol Break f) refl) (fails_alt (none (when f.return_ (symbol Return f)) refl) (fails_alt (none (symbol Throw f) refl)
-      (fails_alt (none (symbol Switch f) refl) (fails_alt (none (symbol Try f) refl) (fails_alt (none (symbol Debugger f) refl) (nl (plain full)))))))))))))))))))
+      ▹✗ fails_alt (none (symbol Block f) refl refl) (fails_alt (none (symbol Empty f) refl refl) (fails_alt (none (symbol Var f) refl refl) (fails_alt (none (symbol If f) refl refl) (fails_alt (none (symbol Do f) refl refl) (fails_alt (none (symbol While f) refl refl) (fails_alt (none (symbol With f) refl refl)
+      (fails_alt (none (symbol For f) refl refl) (fails_alt (none (symbol ForIn f) refl refl) (fails_alt (none (symbol ForOf f) refl refl) (fails_alt (none (symbol Continue f) refl refl) (fails_alt (none (symbol Break f) refl refl) (fails_alt (none (when f.return_ (symbol Return f)) refl refl) (fails_alt (none (symbol Throw f) refl refl)
+      (fails_alt (none (symbol Switch f) refl refl) (fails_alt (none (symbol Try f) refl refl) (fails_alt (none (symbol Debugger f) refl refl) (nl (plain full)))))))))))))))))))
 
   pub to_statement : (b : Bool) → LetIsName text b p.prev_token_end → Leads text (after_statement (placed b f)) (rule (placed b f)) p.prev_token_end (symbol ExprStmt f)
   unfolding apart covers
@@ -538,18 +538,22 @@ begins_none : covers (λ k w e. one_of_kinds no_expression k && one_of_kinds rea
 unfolding covers
 begins_none = refl
 
-to_expression : {text : List ℕ} {f : Flags} {p : Parser} → At text f p → one_of_kinds (LCurly ∷ 'function' ∷ []) p.token.kind ≡ false → AsyncIsName text p.prev_token_end → LetIsName text false p.prev_token_end → Leads text (plain no_link) (if_next (other (is_one_of no_expression)) ▸ not_then (is 'async') function_on_line ▸ not_then (is 'let') (is LBrack) ▸ ended by_edge (symbol Expression f)) p.prev_token_end (ended by_edge (symbol Expression f))
+to_expression : {text : List ℕ} {f : Flags} {p : Parser} → At text f p → one_of_kinds (LCurly ∷ 'function' ∷ []) (keyword_kind p.token) ≡ false → AsyncIsName text p.prev_token_end → LetIsName text false p.prev_token_end → Leads text (plain no_link) (if_next (other (is_one_of no_expression)) ▸ not_then (is 'async') function_on_line ▸ not_then (is 'let') (is LBrack) ▸ ended by_edge (symbol Expression f)) p.prev_token_end (ended by_edge (symbol Expression f))
 unfolding apart
 to_expression {text} {f} {p} a c v u = at_once (pass_over (looks (other (is_one_of no_expression)) (λ y l. go y l (one_of_kinds no_expression y.kind) refl)))
     ⇒ not_followed a async_word function_on_line v
     ⇒ not_followed a let_word (is LBrack) (λ y z l q m h. false≢true (sym (u y z l q m) ∙ (and_parts (same_kind LBrack z.kind) (not z.escaped) h).0))
   where
+    at_word : (y : Lexeme) → Lex text p.prev_token_end y → one_of_kinds no_expression y.kind ≡ true → (b : Bool) → p.token.escaped ≡ b → seen (other (is_one_of no_expression)) y ≡ true
+    at_word y l e true i = rw (e, escaped_here a y l ∙ i) refl
+    at_word y l e false i = absurd (not_here a (LCurly ∷ 'function' ∷ []) refl (sym (ap (one_of_kinds (LCurly ∷ 'function' ∷ [])) (keyword_plain p.token i)) ∙ c) y l (covered (λ k w e. one_of_kinds no_expression k && one_of_kinds read_kinds k) (λ k w e. one_of_kinds (LCurly ∷ 'function' ∷ []) k) begins_none y.kind y.newline y.escaped (and_from _ _ e l.1)))
+
     go : (y : Lexeme) → Lex text p.prev_token_end y → (b : Bool) → one_of_kinds no_expression y.kind ≡ b → seen (other (is_one_of no_expression)) y ≡ true
-    go y l true e = absurd (not_here a (LCurly ∷ 'function' ∷ []) refl c y l (covered (λ k w e. one_of_kinds no_expression k && one_of_kinds read_kinds k) (λ k w e. one_of_kinds (LCurly ∷ 'function' ∷ []) k) begins_none y.kind y.newline y.escaped (and_from _ _ e (and_parts (one_of_kinds read_kinds y.kind) _ l.1).0)))
+    go y l true e = at_word y l e p.token.escaped refl
     go y l false e = rw e refl
 
 -- an expression that was read, where no statement ends behind it
-pub no_expression_ends : {text : List ℕ} {f : Flags} {p q : Parser} (b : Bool) → At text f p → one_of_kinds (LCurly ∷ 'function' ∷ []) p.token.kind ≡ false → AsyncIsName text p.prev_token_end → LetIsName text b p.prev_token_end → (x : Answer text f (at Expression f) p q) → Fails rule (Lex text) (plain no_link) end (semicolon (goes_on (row_of x.label x.slots))) q.prev_token_end → Fails rule (Lex text) (after_statement (placed b f)) end (symbol ExprStmt f) p.prev_token_end
+pub no_expression_ends : {text : List ℕ} {f : Flags} {p q : Parser} (b : Bool) → At text f p → one_of_kinds (LCurly ∷ 'function' ∷ []) (keyword_kind p.token) ≡ false → AsyncIsName text p.prev_token_end → LetIsName text b p.prev_token_end → (x : Answer text f (at Expression f) p q) → Fails rule (Lex text) (plain no_link) end (semicolon (goes_on (row_of x.label x.slots))) q.prev_token_end → Fails rule (Lex text) (after_statement (placed b f)) end (symbol ExprStmt f) p.prev_token_end
 unfolding rule rule_of covers
 no_expression_ends {f = f} {p = p} b a c v u x m = fails_rule {X' = plain no_link} (λ l cs vs y e. ((and_parts _ _ e.0).0, refl)) (fails_node (inside_plain refl) (to_expression a c v (named_in_body b u) ⇒✗ (to_semicolon (λ ds i j ls mid d. d) (expression_path x) ⟶✗ m)))
 
@@ -557,7 +561,7 @@ no_expression_ends {f = f} {p = p} b a c v u x m = fails_rule {X' = plain no_lin
 
 -- what ends in no other statement
 pub never_open : {text : List ℕ} {s : ℕ} (l : Label) (cs : Slots) → ends_in_sub l.kind ≡ false → Closed text s l cs
-never_open l cs h = λ o y i. absurd (false≢true (sym h ∙ (and_parts (ends_in_sub l.kind) (lacks_else cs) o).0))
+never_open l cs h = λ o y i w. absurd (false≢true (sym h ∙ (and_parts (ends_in_sub l.kind) (lacks_else cs) o).0))
 
 -- what was read as the symbol, and a node for it
 pub by_such_statement : {text : List ℕ} {f : Flags} {n : Symbol} {p q w : Parser} {l : Label} {cs : Slots} {id : NodeId} → Path text f (after_statement n) (such n always) p nothing q (tree l cs) → Closed text q.prev_token_end l cs → Same p q → w ≡ record q { nodes = w.nodes } → Holds w.nodes (length p.nodes) (length w.nodes) id.0 l cs → Keeps p.nodes w.nodes → (l.span ≡ record { from = p.token.span.start; to = q.prev_token_end }) → (LabelLies q.text l → NodesLie q.text q.nodes → NodesLie q.text w.nodes) → Statement text f n p w id
@@ -604,10 +608,10 @@ module _ {text : List ℕ} {f : Flags} {p : Parser} (a : At text f p) where
   empty_outcome b q (Err Fatal) e m = absurd m
   empty_outcome b q (Err NoMemory) e m = tt
 
-  module _ (n : one_of_kinds statement_kinds p.token.kind ≡ false) (nl : (X : Test) → Fails rule (Lex text) X end (symbol Labeled f) p.prev_token_end) (v : AsyncIsName text p.prev_token_end) where
+  module _ (n : one_of_kinds statement_kinds (keyword_kind p.token) ≡ false) (nl : (X : Test) → Fails rule (Lex text) X end (symbol Labeled f) p.prev_token_end) (v : AsyncIsName text p.prev_token_end) where
     pub statement_path : (b : Bool) {q r : Parser} → LetIsName text b p.prev_token_end → f.in_ ≡ true → (x : Answer text f (at Expression f) p q) → EndsStatement q r → Path text f (after_statement (placed b f)) (rule (placed b f)) p nothing r (tree (label_here expression_statement no_op p r) (tree x.label x.slots end))
     unfolding rule rule_of covers
-    statement_path b u i x e = leads_to a (to_statement a n nl v b u) (by_symbol_as {X' = plain no_link} (λ l cs vs y d. ((and_parts _ _ d.0).0, refl)) (noded_by a (inside_plain refl) (leads_to a (to_expression a (not_braced p.token.kind n) v (named_in_body b u)) (ended_path i x e))))
+    statement_path b u i x e = leads_to a (to_statement a n nl v b u) (by_symbol_as {X' = plain no_link} (λ l cs vs y d. ((and_parts _ _ d.0).0, refl)) (noded_by a (inside_plain refl) (leads_to a (to_expression a (not_braced (keyword_kind p.token) n) v (named_in_body b u)) (ended_path i x e))))
 
     pub statement_answers : (b : Bool) {q r w : Parser} {child id : NodeId} (s : Span) → LetIsName text b p.prev_token_end → f.in_ ≡ true → (x : Numbered text f (at Expression f) p q child) → EndsStatement q r → s.start ≡ p.token.span.start → s.end ≡ r.prev_token_end → MadeHere (plain_label node.ExpressionStatement op.None s) (Some child ∷ []) r w id → Statement text f (placed b f) p w id
     statement_answers k {q} {r} {w} {child} {id} s u i x e b c d =
@@ -620,11 +624,11 @@ module _ {text : List ℕ} {f : Flags} {p : Parser} (a : At text f p) where
 
     pub statement_fails : (b : Bool) → LetIsName text b p.prev_token_end → Underived text (at Expression f) p.prev_token_end → NoStatement text (placed b f) p.prev_token_end
     unfolding rule rule_of covers
-    statement_fails b u x = no_symbol (to_statement a n nl v b u ⇒✗ fails_rule {X' = plain no_link} (λ l cs vs y e. ((and_parts _ _ e.0).0, refl)) (fails_node (inside_plain refl) (to_expression a (not_braced p.token.kind n) v (named_in_body b u) ⇒✗ fails_ended x (λ cs j ls mid l d h. expression_ended f no_link d (here ls) h))))
+    statement_fails b u x = no_symbol (to_statement a n nl v b u ⇒✗ fails_rule {X' = plain no_link} (λ l cs vs y e. ((and_parts _ _ e.0).0, refl)) (fails_node (inside_plain refl) (to_expression a (not_braced (keyword_kind p.token) n) v (named_in_body b u) ⇒✗ fails_ended x (λ cs j ls mid l d h. expression_ended f no_link d (here ls) h))))
 
     pub statement_unended : (b : Bool) {q : Parser} → LetIsName text b p.prev_token_end → Answer text f (at Expression f) p q → NoEnd q → NoStatement text (placed b f) p.prev_token_end
     unfolding rule rule_of covers
-    statement_unended b u x m = no_symbol (to_statement a n nl v b u ⇒✗ no_expression_ends b a (not_braced p.token.kind n) v u x (unended x.at (goes_on (row_of x.label x.slots)) m))
+    statement_unended b u x m = no_symbol (to_statement a n nl v b u ⇒✗ no_expression_ends b a (not_braced (keyword_kind p.token) n) v u x (unended x.at (goes_on (row_of x.label x.slots)) m))
 
 -- `in` is an operator by the parameters
 pub in_of : {text : List ℕ} {f : Flags} {p : Parser} → At text f p → has_flag in_flag p.ctx ≡ true → f.in_ ≡ true

@@ -1,7 +1,7 @@
 -- The `switch` statement (ECMA-262, 14.12): a clause, clauses one behind the other, and the whole.
 use Rattle.std.proofs.Common.{ℕ, ◌≡◌, ◌≤◌, ◌<◌, ◌⊎◌, inl, inr, max, List, [], ◌∷◌, ◌++◌, length, Option, Some, None, Bool, true, false, not, ◌&&◌, ◌||◌, IsTrue, IsCharBoundary, refl, sym, ap, subst, arith, ◌∙◌}
 use Rattle.std.specs.Prelude.{◌↔◌, Ok, Err}
-use Rattle.std.proofs.lemmas.Bool.{false≢true, and_parts}
+use Rattle.std.proofs.lemmas.Bool.{false≢true, and_parts, and_from}
 use Rattle.js_base.specs.declared.diagnostic.Diagnostic.{Diagnostic}
 use Rattle.js_base.specs.declared.diagnostic.DiagnosticKind.TheVariants.{ExpectSwitchClause, ExpectToken}
 use Rattle.js_base.specs.declared.kind.Kind.{Kind}
@@ -12,6 +12,8 @@ use Rattle.js_base.specs.declared.token.Token.{Token}
 use Rattle.js_base.specs.Kinds.{same_kind, one_of_kinds}
 use Rattle.js_base.specs.Texts.{words}
 use Rattle.js_base.proofs.KindLemmas.{kind_of_same}
+use Rattle.js_grammar.specs.FirstSets.{first}
+use Rattle.js_grammar.proofs.First.{starts}
 use Rattle.js_grammar.specs.Trees.{Label, Slots, end, hole, tree, no_op, switch_statement}
 use Rattle.js_grammar.specs.Grammar.{nothing, never, ◌▸◌}
 use Rattle.js_grammar.specs.Marks.{BeginsWith, Mark, of_kinds, the_start, the_end}
@@ -22,10 +24,10 @@ use Rattle.js_grammar.specs.Productions.{Statement as AStatement}
 use Rattle.js_grammar.specs.Productions.{sym as symbol}
 use Rattle.js_grammar.specs.Table.{rule, rule_of}
 use Rattle.js_grammar.proofs.Lexemes.{first_or}
-use Rattle.js_grammar.proofs.Looks.{covers, apart}
+use Rattle.js_grammar.proofs.Looks.{covers, apart, not_both}
 use Rattle.js_grammar.proofs.Calculus.{Between, ◌▹◌, ◌▹✗◌, by_plain, inside_plain, more_of, then_by, part_fails, fails_never, fails_node, fails_rule}
 use Rattle.js_grammar.proofs.FirstClaims.{firsts}
-use Rattle.js_grammar.proofs.FirstRules.{by_first}
+use Rattle.js_grammar.proofs.FirstRules.{by_first, fails_here}
 use Rattle.js_grammar.proofs.FollowLaws.{surely}
 use Rattle.js_lex.specs.States.{goal_of}
 use Rattle.js_tree.specs.declared.id.NodeId.{NodeId}
@@ -41,17 +43,18 @@ use Rattle.js_cursor.specs.Places.{IsAt, goal}
 use Rattle.js_cursor.specs.declared.stop.Stop.{Stop}
 use Rattle.js_cursor.specs.declared.stop.Stop.TheVariants.{Fatal, NoMemory}
 use Rattle.js_cursor.proofs.Standing.{mark_here}
+use Rattle.js_parsing.proofs.Here.{escaped_here}
 use Rattle.js_parsing.specs.Answers.{Answers, Grown, Numbered, Stops, Underived, unclean}
 use Rattle.js_parsing.specs.Classes.{EndsParse}
-use Rattle.js_parsing.specs.Lexemes.{Lex, escaped_word, spot}
+use Rattle.js_parsing.specs.Lexemes.{Lex, spot}
 use Rattle.js_parsing.specs.Moves.{IsWholeHere, Moved, Moves, MadeHere, plain_label}
 use Rattle.js_parsing.specs.Stands.{StandsHere}
 use Rattle.js_parsing.specs.States.{At, NodesLie, Same, flags_of}
 use Rattle.js_parsing.specs.Statements.{placed, after_statement, NoStatement, Statement}
 use Rattle.js_parsing.specs.Told.{unrelated_at}
 use Rattle.js_patterns.proofs.BehindRests.{mark_later}
-use Rattle.js_parsing.proofs.Escapes.{no_name_where, word_plain}
-use Rattle.js_parsing.proofs.Giving.{fails_escaped, fails_none, gives_up, kept_one}
+use Rattle.js_parsing.proofs.Escapes.{kind_escaped}
+use Rattle.js_parsing.proofs.Giving.{fails_none, gives_up, kept_one, fails_unescaped}
 use Rattle.js_parsing.proofs.MadeNodes.{made_lies, node_held, one_lies}
 use Rattle.js_parsing.proofs.Moving.{beside_nodes, same_both, same_itself, same_with, stops_behind, stops_so}
 use Rattle.js_parsing.proofs.Paths.{Path, ◌⟶◌, ◌⟶✗◌, ◌⟼◌, at_kind, by_symbol_as, called, fails_at, label_here, last_token, noded, noded_by, token, walked_to}
@@ -221,21 +224,21 @@ pub undue_here : (q : Parser) → (ends_at list.Clause q.token.kind && not q.tok
 undue_here q h d = false≢true (sym h ∙ due_true q d)
 
 -- where nothing is due, none of these stands without an escape
-not_due : {text : List ℕ} {f : Flags} {q : Parser} {X : Test} {g : G} → At text f q → (ClauseDue q → ⊥) → (one_of_kinds (kind.Case ∷ kind.Default ∷ kind.RCurly ∷ []) q.token.kind ≡ false → Fails rule (Lex text) X end g q.prev_token_end) → Fails rule (Lex text) X end g q.prev_token_end
-not_due {text} {f} {q} {X} {g} a n h = by (escaped_word q.token.kind q.token.escaped) refl
+not_due : {text : List ℕ} {f : Flags} {q : Parser} {X : Test} {g : G} → At text f q → (ClauseDue q → ⊥) → (q.token.escaped ≡ true → Fails rule (Lex text) X end g q.prev_token_end) → (one_of_kinds (kind.Case ∷ kind.Default ∷ kind.RCurly ∷ []) q.token.kind ≡ false → Fails rule (Lex text) X end g q.prev_token_end) → Fails rule (Lex text) X end g q.prev_token_end
+not_due {text} {f} {q} {X} {g} a n u h = by q.token.escaped refl
   where
-    kinds : escaped_word q.token.kind q.token.escaped ≡ false → (c : Bool) → one_of_kinds (kind.Case ∷ kind.Default ∷ kind.RCurly ∷ []) q.token.kind ≡ c → Fails rule (Lex text) X end g q.prev_token_end
-    kinds e true k = absurd (n (due_at q (word_plain q.token.kind q.token.escaped (no_name_where (one_of_kinds (kind.Case ∷ kind.Default ∷ kind.RCurly ∷ [])) q.token.kind k refl) e) k))
+    kinds : q.token.escaped ≡ false → (c : Bool) → one_of_kinds (kind.Case ∷ kind.Default ∷ kind.RCurly ∷ []) q.token.kind ≡ c → Fails rule (Lex text) X end g q.prev_token_end
+    kinds e true k = absurd (n (due_at q e k))
     kinds e false k = h k
 
-    by : (c : Bool) → escaped_word q.token.kind q.token.escaped ≡ c → Fails rule (Lex text) X end g q.prev_token_end
-    by true e = fails_escaped a e
+    by : (e : Bool) → q.token.escaped ≡ e → Fails rule (Lex text) X end g q.prev_token_end
+    by true e = u e
     by false e = kinds e (one_of_kinds (kind.Case ∷ kind.Default ∷ kind.RCurly ∷ []) q.token.kind) refl
 
 module _ {text : List ℕ} {f : Flags} {q : Parser} (a : At text f q) where
   no_clauses_here : (ClauseDue q → ⊥) → NoList text list.Block (clauses_of f) q.prev_token_end
   unfolding rule rule_of covers apart
-  no_clauses_here n = not_due a n (λ k. fails_at a {X = plain (at_end list.Block)} (clauses_of f) (kind.Case ∷ kind.Default ∷ kind.RCurly ∷ []) refl k)
+  no_clauses_here n = not_due a n (λ e. fails_unescaped {X = plain (at_end list.Block)} (clauses_of f) a refl e) (λ k. fails_at a {X = plain (at_end list.Block)} (clauses_of f) (kind.Case ∷ kind.Default ∷ kind.RCurly ∷ []) refl k)
 
   open_at_eof : q.token.kind ≡ kind.Eof → NoList text list.Clause (statements list.Clause f) q.prev_token_end
   unfolding rule rule_of covers
@@ -243,7 +246,8 @@ module _ {text : List ℕ} {f : Flags} {q : Parser} (a : At text f q) where
 
   -- the list is open
   list_open : ends_list list.Clause q.token.kind ≡ true → (ClauseDue q → ⊥) → NoList text list.Clause (statements list.Clause f) q.prev_token_end
-  list_open e n = not_due a n (λ k. second (same_kind kind.Eof q.token.kind) refl (subst (λ (c : Bool). (c || is_last q.token.kind) ≡ true) k e))
+  unfolding apart
+  list_open e n = not_due a n (λ i. fails_here firsts (λ y l h. not_both (starts first (statements list.Clause f) (at_end list.Clause)) (λ k w e. ends_list list.Clause k && e) refl y.kind y.newline y.escaped h (and_from _ _ (ap (ends_list list.Clause) (kind_escaped a i y l) ∙ e) (escaped_here a y l ∙ i)))) (λ k. second (same_kind kind.Eof q.token.kind) refl (subst (λ (c : Bool). (c || is_last q.token.kind) ≡ true) k e))
     where
       third : (c : Bool) → same_kind kind.Undetermined q.token.kind ≡ c → c ≡ true → NoList text list.Clause (statements list.Clause f) q.prev_token_end
       third true k i = fails_none (none_told a (sym (kind_of_same kind.Undetermined q.token.kind k)))

@@ -1,7 +1,7 @@
 -- The `try` statement (ECMA-262, 14.15): its clauses, and the whole.
-use Rattle.std.proofs.Common.{ℕ, ◌≡◌, ◌≤◌, ◌<◌, max, List, [], ◌∷◌, length, Option, Some, None, Bool, true, false, not, ◌||◌, IsCharBoundary, refl, sym, ap, subst, arith, ◌∙◌}
+use Rattle.std.proofs.Common.{ℕ, ◌≡◌, ◌≤◌, ◌<◌, max, List, [], ◌∷◌, length, Option, Some, None, Bool, true, false, ◌||◌, IsCharBoundary, refl, sym, ap, subst, arith, ◌∙◌}
 use Rattle.std.specs.Prelude.{Ok, Err}
-use Rattle.std.proofs.lemmas.Bool.{false≢true, and_parts}
+use Rattle.std.proofs.lemmas.Bool.{false≢true}
 use Rattle.js_base.specs.declared.diagnostic.Diagnostic.{Diagnostic}
 use Rattle.js_base.specs.declared.kind.Kind.{Kind}
 use Rattle.js_base.specs.declared.kind.Kind.TheVariants as kind
@@ -18,7 +18,6 @@ use Rattle.js_grammar.specs.Productions.{Catch as ACatch}
 use Rattle.js_grammar.specs.Productions.{Statement as AStatement}
 use Rattle.js_grammar.specs.Productions.{sym as symbol}
 use Rattle.js_grammar.specs.Table.{rule, rule_of}
-use Rattle.js_base.proofs.KindLemmas.{kind_of_same}
 use Rattle.js_grammar.proofs.Looks.{covers, covered, apart}
 use Rattle.js_grammar.proofs.Calculus.{Between, Heads, fails_lexeme, ◌▹◌, ◌▹✗◌, by_plain, here_at, left, right, then_by, part_fails, fails_alt, fails_node, fails_rule, inside_full, inside_plain, reads_empty_slot, weaken_on, weaken_fails_on}
 use Rattle.js_grammar.proofs.FirstClaims.{firsts}
@@ -41,19 +40,18 @@ use Rattle.js_cursor.specs.declared.stop.Stop.{Stop}
 use Rattle.js_cursor.specs.declared.stop.Stop.TheVariants.{Fatal, NoMemory}
 use Rattle.js_parsing.specs.Answers.{Numbered, Stops, Underived, unclean}
 use Rattle.js_parsing.specs.Classes.{IsEarly}
-use Rattle.js_parsing.specs.Lexemes.{Lex, escaped_word, other_goals, spot, nowhere}
+use Rattle.js_parsing.specs.Lexemes.{Lex, other_goals, spot, nowhere}
 use Rattle.js_parsing.specs.Moves.{Moved, MadeHere, plain_label}
 use Rattle.js_parsing.specs.Stands.{StandsHere}
 use Rattle.js_parsing.specs.States.{At, Same, NodesLie}
 use Rattle.js_parsing.specs.Statements.{placed, after_statement, NoStatement, Statement}
 use Rattle.js_parsing.proofs.Edges.{last_edge}
-use Rattle.js_parsing.proofs.Escapes.{plain_word}
-use Rattle.js_parsing.proofs.Giving.{fails_escaped, kept_one}
+use Rattle.js_parsing.proofs.Giving.{kept_one, fails_unescaped}
 use Rattle.js_parsing.proofs.Here.{kind_here, unsettled}
 use Rattle.js_parsing.proofs.MadeNodes.{node_held, one_lies, made_lies}
 use Rattle.js_parsing.proofs.Moving.{beside_nodes, same_both, same_itself, same_with, stops_behind, stops_so}
 use Rattle.js_parsing.proofs.Paths.{Path, ◌⟼◌, ◌⟶◌, ◌⟶✗◌, at_kind, fails_at, label_here, last_called, last_token, noded, noded_by, by_symbol_as, token, walked_to}
-use Rattle.js_parsing.proofs.Signs.{other_kind, plain_sign, stands_not}
+use Rattle.js_parsing.proofs.Signs.{none_seen, other_kind, plain_sign, stands_not}
 use Rattle.js_parsing.proofs.Told.{told_at, told_same}
 use Rattle.js_parsing.proofs.Verdicts.{grown_then, verdict_of}
 use Rattle.js_parsing.proofs.Verdicts.{after as grown_behind}
@@ -109,8 +107,8 @@ part_memory g k p q Fatal m = absurd m
 part_memory g k p q NoMemory m = tt
 
 -- the lexeme that is due last doesn't stand here
-pub no_last : {text : List ℕ} {f : Flags} {p : Parser} → At text f p → (k : Kind) → (is_right_angle k || one_of_kinds (kind.Ident ∷ other_goals) k) ≡ false → StandsHere p k false → NoPart text (tok k) p.prev_token_end
-no_last a k n s = fails_lexeme (is k) (λ y l h. stands_not a n s y l (sym (kind_of_same k y.kind (and_parts (same_kind k y.kind) (not y.escaped) h).0)))
+pub no_last : {text : List ℕ} {f : Flags} {p : Parser} → At text f p → (k : Kind) → (is_right_angle k || one_of_kinds other_goals k) ≡ false → StandsHere p k false → NoPart text (tok k) p.prev_token_end
+no_last a k n s = fails_lexeme (is k) (none_seen (stands_not a n s))
 
 -- ---- a Block
 
@@ -300,11 +298,11 @@ module _ {text : List ℕ} {f : Flags} {p : Parser} (a : At text f p) where
   -- no clause begins here
   no_catch_here : StandsHere p kind.Catch false → Fails rule (Lex text) (plain no_clause) end (with_catch f) p.prev_token_end
   unfolding covers apart
-  no_catch_here n = by (escaped_word p.token.kind p.token.escaped) refl
+  no_catch_here n = by p.token.escaped refl
     where
-      by : (b : Bool) → escaped_word p.token.kind p.token.escaped ≡ b → Fails rule (Lex text) (plain no_clause) end (with_catch f) p.prev_token_end
-      by true e = fails_escaped a e
-      by false e = fails_at a {X = plain no_clause} (with_catch f) (kind.Catch ∷ []) refl (other_kind kind.Catch p.token.kind (λ k. n k (plain_word p.token k refl e)))
+      by : (e : Bool) → p.token.escaped ≡ e → Fails rule (Lex text) (plain no_clause) end (with_catch f) p.prev_token_end
+      by true e = fails_unescaped {X = plain no_clause} (with_catch f) a refl e
+      by false e = fails_at a {X = plain no_clause} (with_catch f) (kind.Catch ∷ []) refl (other_kind kind.Catch p.token.kind (λ k. n k e))
 
   no_finally_here : {X : Test} → StandsHere p kind.Finally false → Fails rule (Lex text) X end (finally_of f) p.prev_token_end
   no_finally_here n = no_token a kind.Finally refl n

@@ -1,8 +1,8 @@
 -- What stands at a word and behind it, and the lookaheads of statements that ask for that (ECMA-262, 14.2, 14.5, 14.7.5).
-use Rattle.std.proofs.Common.{◌∷◌, ℕ, suc, ◌≡◌, ◌≤◌, ◌⊎◌, inl, inr, max, List, Bool, true, false, not, ◌&&◌, ◌||◌, IsTrue, refl, sym, ap, subst, arith, ◌∙◌}
+use Rattle.std.proofs.Common.{ℕ, suc, ◌≡◌, ◌≤◌, ◌⊎◌, inl, inr, max, List, Bool, true, false, not, ◌&&◌, ◌||◌, IsTrue, refl, sym, ap, subst, arith, ◌∙◌}
 use Rattle.std.proofs.lemmas.Bool.{false≢true, not-true, and_from, and_parts}
 use Rattle.js_base.specs.declared.kind.Kind.{Kind}
-use Rattle.js_base.specs.declared.kind.Kind.TheVariants.{Async, Eof, Function, Ident, LBrack, Let, RAngle}
+use Rattle.js_base.specs.declared.kind.Kind.TheVariants.{Async, Eof, Function, LBrack, Let, RAngle}
 use Rattle.js_base.specs.Kinds.{same_kind, one_of_kinds}
 use Rattle.js_base.proofs.KindLemmas.{kind_of_same}
 use Rattle.js_grammar.specs.Trees.{Slots, end}
@@ -21,7 +21,7 @@ use Rattle.js_parsing.specs.States.{At}
 use Rattle.js_operands.specs.Functions.{FunctionNext, NoFunctionHere}
 use Rattle.js_parsing.proofs.Here.{escaped_here, kind_here, settled_kind, told, uncut, unsettled}
 use Rattle.js_parsing.proofs.Paths.{Path}
-use Rattle.js_parsing.proofs.Signs.{stands_not}
+use Rattle.js_parsing.proofs.Signs.{none_seen, stands_not}
 use Rattle.js_parsing.proofs.Verdicts.{verdict_of}
 use Rattle.js_statements.specs.LetStatements.{behind_let, LetIsName}
 
@@ -60,7 +60,7 @@ leads_to a l y = record {
 -- A word is told where it stands: no other goal reads another lexeme there, and more stands behind it.
 pub record IsWord (w : Kind) : Type 0 where
   pub settled : one_of_kinds unsettled w ≡ false
-  pub plain : (is_right_angle w || one_of_kinds (Ident ∷ other_goals) w) ≡ false
+  pub plain : (is_right_angle w || one_of_kinds other_goals w) ≡ false
   pub goes_on : same_kind Eof w ≡ false
 
 pub let_word : IsWord Let
@@ -82,7 +82,7 @@ module _ {text : List ℕ} {f : Flags} {p : Parser} (a : At text f p) {w : Kind}
   is_word h y l = and_from _ _ (ap (same_kind w) (kind_here a h.0 c.settled y l) ∙ same_self w) (ap not (escaped_here a y l ∙ h.1))
 
   pub no_word : StandsHere p w false → (y : Lexeme) → Lex text p.prev_token_end y → IsTrue (seen (is w) y) → ⊥
-  no_word n y l q = stands_not a c.plain n y l (sym (kind_of_same w y.kind (and_parts (same_kind w y.kind) (not y.escaped) q).0))
+  no_word n y l q = none_seen (stands_not a c.plain n) y l q
 
   pub ends_at : StandsHere p w true → (y : Lexeme) → Lex text p.prev_token_end y → y.to ≡ p.token.span.end
   ends_at h y l = let s = settled_kind w c.settled in sym (told a (uncut a (ap (same_kind RAngle) h.0 ∙ s.0)) (ap (one_of_kinds signs) h.0 ∙ s.1) y l).end
@@ -159,7 +159,7 @@ async_named {text} {f} {p} a n y z l q m h = by n.1
     behind : FunctionNext p false → (b : Bool) × StandsHere p Async b → ⊥
     behind s (true, k) =
         let i = and_parts (same_kind Function z.kind && not z.escaped) _ h in
-        s text f a z (subst (λ (v : ℕ). Lex text v z) (ends_at a async_word k y l) m) (sym (kind_of_same Function z.kind (and_parts (same_kind Function z.kind) _ i.0).0)) (not-true z.newline i.1)
+        s text f a z (subst (λ (v : ℕ). Lex text v z) (ends_at a async_word k y l) m) (sym (kind_of_same Function z.kind (and_parts (same_kind Function z.kind) _ i.0).0)) (not-true z.escaped (and_parts (same_kind Function z.kind) _ i.0).1) (not-true z.newline i.1)
     behind s (false, k) = no_word a async_word k y l q
 
     by : StandsHere p Async false ⊎ FunctionNext p false → ⊥

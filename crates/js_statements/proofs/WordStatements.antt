@@ -8,6 +8,7 @@ use Rattle.js_base.specs.declared.kind.Kind.TheVariants as kind
 use Rattle.js_base.specs.declared.source_type.SourceType.{SourceType}
 use Rattle.js_base.specs.declared.span.Span.{Span}
 use Rattle.js_base.specs.Kinds.{same_kind, one_of_kinds}
+use Rattle.js_base.specs.Contexts.{has_flag, yield_flag, await_flag}
 use Rattle.js_grammar.specs.Trees.{Slots, end, hole, tree, append, Label, no_op, debugger_statement, label_identifier, throw_statement}
 use Rattle.js_grammar.specs.Grammar.{Lexeme, Lexemes, Look, here, seen, may_omit, ended, semicolon, empty_slot, next, nothing, such, Takes, is_seq, is_lexeme, is_look, ◌▸◌}
 use Rattle.js_grammar.specs.Conditions.{ends_in_sub}
@@ -40,15 +41,15 @@ use Rattle.js_cursor.specs.Places.{goal}
 use Rattle.js_cursor.specs.declared.stop.Stop.{Stop}
 use Rattle.js_cursor.specs.declared.stop.Stop.TheVariants.{Fatal, NoMemory}
 use Rattle.js_parsing.specs.Answers.{Grown, Underived, Numbered, Stops, unclean}
-use Rattle.js_parsing.specs.Lexemes.{Lex, Walked, escaped_word, name_kinds, read_kinds, read_word, nowhere, spot}
+use Rattle.js_parsing.specs.Lexemes.{Lex, Walked, name_kinds, read_kinds, read_word, nowhere, spot, may_name}
 use Rattle.js_parsing.specs.Stands.{NameHere, StandsHere}
 use Rattle.js_parsing.proofs.NamedFirsts.{fails_unnamed}
-use Rattle.js_parsing.proofs.NameKinds.{listed_here, name_at, a_name, no_name_here}
+use Rattle.js_parsing.proofs.NameKinds.{listed_here, name_at, a_name}
 use Rattle.js_parsing.specs.Moves.{IsWholeHere, LeafTaken, Moved, MadeHere, plain_label}
 use Rattle.js_parsing.specs.States.{At, Same}
 use Rattle.js_parsing.specs.Statements.{placed, no_link, after_statement, NoStatement, Statement, EndsStatement, NoEnd}
 use Rattle.js_statements.specs.WordStatements.{ChecksOperand, JumpsHere, TakesLabel, late_operand}
-use Rattle.js_parsing.proofs.Giving.{kept_one, fails_escaped, gives_up_here}
+use Rattle.js_parsing.proofs.Giving.{kept_one, gives_up_here}
 use Rattle.js_parsing.proofs.Here.{found, newline_here, uncut}
 use Rattle.js_statements.proofs.Labels.{path_made}
 use Rattle.js_operands.proofs.Members.{word_whole}
@@ -190,15 +191,15 @@ module _ {text : List ℕ} {f : Flags} {q : Parser} (a : At text f q) where
   -- no name stands here
   no_name : {X : Test} → NameHere q false → Fails rule (Lex text) X end (no_newline ▸ symbol LabelIdentifier f) q.prev_token_end
   unfolding covers apart
-  no_name {X} n = by (escaped_word q.token.kind q.token.escaped) refl
-    where
-      by : (b : Bool) → escaped_word q.token.kind q.token.escaped ≡ b → Fails rule (Lex text) X end (no_newline ▸ symbol LabelIdentifier f) q.prev_token_end
-      by true e = fails_escaped a e
-      by false e = fails_unnamed a f (λ g. no_newline ▸ symbol LabelIdentifier g) [] refl refl refl refl refl (no_name_here f q (name_at false a n) e) refl
+  no_name {X} n = fails_unnamed a f (λ g. no_newline ▸ symbol LabelIdentifier g) [] refl refl refl refl refl (name_at false a n) refl
 
   -- nor a label, where the statement may end
   no_label : {X : Test} → MayEnd q → Fails rule (Lex text) X end (no_newline ▸ symbol LabelIdentifier f) q.prev_token_end
-  no_label (inl e) = no_name (λ k n. no_name_ends q.token.kind (listed_here q (k, n)) e)
+  no_label (inl e) = no_name (go (may_name (has_flag yield_flag q.ctx) (has_flag await_flag q.ctx) q.token.kind) refl)
+    where
+      go : (b : Bool) → may_name (has_flag yield_flag q.ctx) (has_flag await_flag q.ctx) q.token.kind ≡ b → NameHere q false
+      go true h = absurd (no_name_ends q.token.kind (listed_here q h) e)
+      go false h = h
   no_label (inr w) = part_fails {X' = plain full} (fails_look (λ k w e. not w) (λ y l h. false≢true (sym (ap not (newline_here a y l ∙ w)) ∙ h))) (record { admits = λ ts us vs j k ls mid rest d e h. (refl, refl) })
 
   -- where it may not, the slot isn't empty
@@ -214,7 +215,7 @@ module _ {text : List ℕ} {f : Flags} {q : Parser} (a : At text f q) where
 
   label_read : {X : Test} {r : Parser} → NameHere q true → Moved text f q r → Path text f X (symbol LabelIdentifier f) q nothing r (tree (label_here label_identifier no_op q r) end)
   unfolding rule rule_of
-  label_read h m = by_symbol_as {X' = plain full} (λ l cs vs y d. (refl, refl)) (let i = name_at true a h in noded a (name_leaf a i.0 i.1 m))
+  label_read h m = by_symbol_as {X' = plain full} (λ l cs vs y d. (refl, refl)) (noded a (name_leaf a (name_at true a h) m))
 
 module _ {text : List ℕ} {f : Flags} {p q : Parser} (k : Kind) (a : At text f p) (e : p.token.kind ≡ k) (n : p.token.escaped ≡ false) (i : one_of_kinds read_kinds k ≡ true) (m : Moved text f p q) where
   word_passed : {X : Test} {g : G} → Path text f X (tok k ▸ g) p g q (λ us. us)

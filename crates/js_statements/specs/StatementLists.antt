@@ -1,5 +1,5 @@
 -- What is taken of directives and statements, one behind the other, up to what ends the list (ECMA-262, 11.2.1, 14.2, 14.12, 15.2, 16.1).
-use Rattle.std.specs.Prelude.{ℕ, ◌≡◌, ◌<◌, ◌≤◌, ◌||◌, Bool, true, false, List, [], ◌∷◌, length, Option}
+use Rattle.std.specs.Prelude.{ℕ, ◌≡◌, ◌<◌, ◌≤◌, ◌&&◌, ◌||◌, Bool, true, false, not, List, [], ◌∷◌, length, Option}
 use Rattle.js_base.specs.declared.kind.Kind.{Kind}
 use Rattle.js_base.specs.declared.kind.Kind.TheVariants.{Case, Default, Eof, RCurly}
 use Rattle.js_base.specs.Kinds.{same_kind, one_of_kinds}
@@ -34,7 +34,7 @@ ends_at Body k = same_kind RCurly k
 ends_at Clause k = one_of_kinds (Case ∷ Default ∷ RCurly ∷ []) k
 
 abbrev pub at_end : StatementList → Look
-at_end l k w e = ends_at l k
+at_end l k w e = ends_at l k && not e
 
 -- that lexeme, or the text's end, or what begins no lexeme
 abbrev pub ends_list : StatementList → Kind → Bool

@@ -1,10 +1,11 @@
 //! Statements that hold other ones: `if`, `do`, `while` and `with` (ECMA-262, sections 14.6, 14.7.2, 14.7.3 and 14.11).
 
-ghost use Rattle.std.specs.Prelude.{◌≡◌, true};
+ghost use Rattle.std.specs.Prelude.{◌≡◌, true, false};
 ghost use Rattle.js_base.specs.Contexts.{has_flag, in_flag};
 ghost use Rattle.js_base.specs.declared.kind.Kind.TheVariants.{Do, If, While, With};
 ghost use Rattle.js_parsing.specs.Stands.{StandsHere};
 ghost use Rattle.js_parsing.specs.Nesting.{CanNest, room};
+ghost use Rattle.js_parsing.specs.NodeTexts.{is_textual};
 ghost use Rattle.js_parsing.specs.States.{Standing};
 ghost use Rattle.js_parsing.specs.Statements.{TakesAnywhere};
 ghost use Rattle.js_statements.specs.CompoundStatements.{HeadsHere, TakesAlternate, TakesParens};
@@ -116,6 +117,7 @@ fn parse_headed_statement<C: ParserConfig, N: Nested<C>>(
     requires nests { CanNest (N.can nested.now) (room p.old) }
     requires allows_in { has_flag in_flag p.old.ctx ≡ true }
     requires word { HeadsHere kind p.old }
+    requires kind { is_textual kind ≡ false }
     ensures { TakesAnywhere p.old p.new result }
 {
     let start = p.cur_start();

@@ -1,6 +1,6 @@
 //! `for` statements (ECMA-262, sections 14.7.4 and 14.7.5).
 
-ghost use Rattle.std.specs.Prelude.{◌≡◌, ◌+◌, ◌≤◌, true, [], IfOk, MatchResult};
+ghost use Rattle.std.specs.Prelude.{◌≡◌, ◌+◌, ◌≤◌, true, false, [], IfOk, MatchResult};
 ghost use Rattle.js_base.specs.Contexts.{has_flag, in_flag};
 ghost use Rattle.js_base.specs.declared.kind.Kind.TheVariants.{For};
 ghost use Rattle.js_cursor.specs.Moves.{OnlyMemory};
@@ -9,6 +9,7 @@ ghost use Rattle.js_grammar.specs.Marks.{Mark};
 ghost use Rattle.js_grammar.specs.Productions.{await_flag, flag};
 ghost use Rattle.js_parsing.specs.Moves.{MadeHere};
 ghost use Rattle.js_parsing.specs.Nesting.{CanNest, room};
+ghost use Rattle.js_parsing.specs.NodeTexts.{is_textual};
 ghost use Rattle.js_parsing.specs.Stands.{StandsHere};
 ghost use Rattle.js_parsing.specs.States.{Standing};
 ghost use Rattle.js_parsing.specs.Statements.{TakesAnywhere};
@@ -41,7 +42,8 @@ pub enum Ending {
 impl Ending {
     /// The kind of the statement's node.
     fn node_kind(self) -> NodeKind
-        ensures { result ≡ node_of self }
+        ensures kind { result ≡ node_of self }
+        ensures plain { is_textual result ≡ false }
     {
         match self {
             Ending::Semicolon => NodeKind::ForStatement,
@@ -146,6 +148,7 @@ fn make_for<C: ParserConfig>(
     is_await: bool,
     children: Vec<Option<NodeId>>,
 ) -> Result<NodeId, NoMemory>
+    requires { is_textual kind ≡ false }
     ensures { IfOk result (λ id. MadeHere (for_label kind is_await span) children.items p.old p.new id) }
 {
     let flags = await_flags(is_await);

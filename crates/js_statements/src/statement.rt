@@ -7,7 +7,9 @@ ghost use Rattle.js_base.specs.declared.kind.Kind.TheVariants.{Colon, Const, Sem
 ghost use Rattle.js_grammar.specs.Productions.{at, ListItem, Sub};
 ghost use Rattle.js_operands.specs.Functions.{NoFunctionHere};
 ghost use Rattle.js_parsing.specs.Answers.{Stops};
+ghost use Rattle.js_parsing.specs.Lexemes.{keyword_kind};
 ghost use Rattle.js_parsing.specs.Nesting.{CanNest, room};
+ghost use Rattle.js_parsing.specs.NodeTexts.{SpellsName};
 ghost use Rattle.js_parsing.specs.Stands.{StandsHere};
 ghost use Rattle.js_parsing.specs.States.{Standing};
 ghost use Rattle.js_parsing.specs.Statements.{EndsStatement, IsLabel, LabelsStatement, NoEnd, TakesAnywhere, TakesStatement, link_kinds, statement_kinds};
@@ -34,9 +36,9 @@ use js_expressions::sequence::parse_sequence_expression;
 use js_lex::ParserConfig;
 use js_operands::function::function_stands;
 use js_operands::primary::parse_leaf;
-use js_parsing::lexemes::{advance, escaped_word_stands, is_escaped_word, is_name_here};
+use js_parsing::lexemes::{advance, escaped_word_stands, is_name_here};
 use js_parsing::nested::Nested;
-use js_parsing::nodes::{make_leaf, make_one, make_two};
+use js_parsing::nodes::{make_name, make_one, make_two};
 use js_tree::{NodeId, NodeKind, Op};
 
 /// A StatementListItem (ECMA-262, section 14.2): a Statement, a declaration of a function, or a LexicalDeclaration.
@@ -91,7 +93,7 @@ fn parse_any_statement<C: ParserConfig, N: Nested<C>>(
     ensures { TakesUndeclared p.old p.new result }
 {
     if escaped_word_stands(p) {
-        return Err(p.set_unexpected());
+        return parse_expression_or_labeled_statement(p, nested);
     }
     match p.cur_kind() {
         Kind::Semicolon => parse_empty_statement(p),
@@ -131,7 +133,7 @@ fn parse_expression_or_labeled_statement<C: ParserConfig, N: Nested<C>>(
     requires at { Standing p.old }
     requires nests { CanNest (N.can nested.now) (room p.old) }
     requires allows_in { has_flag in_flag p.old.ctx ≡ true }
-    requires other { one_of_kinds statement_kinds p.old.token.kind ≡ false }
+    requires other { one_of_kinds statement_kinds (keyword_kind p.old.token) ≡ false }
     requires no_function { NoFunctionHere p.old }
     ensures { TakesUndeclared p.old p.new result }
 {
@@ -139,7 +141,7 @@ fn parse_expression_or_labeled_statement<C: ParserConfig, N: Nested<C>>(
     let first = p.cur_token();
     let expression = parse_sequence_expression(p, nested)?;
     if is_label(p, first) {
-        return parse_labeled_statement_rest(p, nested, first.span());
+        return parse_labeled_statement_rest(p, nested, first);
     }
     end_statement(p)?;
     let span = p.end_span(start);
@@ -151,19 +153,21 @@ fn parse_expression_or_labeled_statement<C: ParserConfig, N: Nested<C>>(
 fn parse_labeled_statement_rest<C: ParserConfig, N: Nested<C>>(
     p: &mut ParserImpl<'_, C>,
     nested: &N,
-    name: Span,
+    name: Token,
 ) -> Result<NodeId, Stop>
     requires at { Standing p.old }
     requires nests { CanNest (N.can nested.now) (room p.old) }
     requires allows_in { has_flag in_flag p.old.ctx ≡ true }
     requires colon { p.old.token.kind ≡ Colon }
-    requires start { name.start ≤ p.old.prev_token_end }
-    ensures { LabelsStatement name p.old p.new result }
+    requires start { name.span.start ≤ p.old.prev_token_end }
+    requires spells { SpellsName p.old.text name }
+    ensures { LabelsStatement name.span p.old p.new result }
 {
-    let label = make_leaf(p, NodeKind::LabelIdentifier, Op::None, name)?;
+    let start = name.start();
+    let label = make_name(p, NodeKind::LabelIdentifier, name)?;
     advance(p)?;
     let body = nested.statement(p)?;
-    let span = p.end_span(name.start);
+    let span = p.end_span(start);
     let node = make_two(p, NodeKind::LabeledStatement, Op::None, span, label, body)?;
     Ok(node)
 }
@@ -172,10 +176,7 @@ fn parse_labeled_statement_rest<C: ParserConfig, N: Nested<C>>(
 fn is_label<C: ParserConfig>(p: &ParserImpl<'_, C>, first: Token) -> bool
     ensures { IsTrue result ↔ IsLabel first p.now }
 {
-    p.at(Kind::Colon)
-        && is_name_here(p, first.kind())
-        && !is_escaped_word(first)
-        && first.end() == p.prev_token_end()
+    p.at(Kind::Colon) && is_name_here(p, first.kind()) && first.end() == p.prev_token_end()
 }
 
 /// The semicolon of a statement, or none where the grammar permits that (12.10).

@@ -1,11 +1,12 @@
 //! Directives and statements, one behind the other, and what stands in braces (ECMA-262, sections 11.2.1, 14.2, 14.12, 15.2
 //! and 16.1).
 
-ghost use Rattle.std.specs.Prelude.{◌≡◌, ◌<◌, ◌+◌, ◌↔◌, IsTrue, true, cond, length, MatchResult};
+ghost use Rattle.std.specs.Prelude.{◌≡◌, ◌<◌, ◌+◌, ◌↔◌, IsTrue, true, false, cond, length, MatchResult};
 ghost use Rattle.js_base.specs.Contexts.{has_flag, in_flag};
 ghost use Rattle.js_base.specs.declared.kind.Kind.TheVariants.{Str};
 ghost use Rattle.js_tree.specs.Nodes.{node_at};
 ghost use Rattle.js_tree.specs.declared.kind.NodeKind.TheVariants.{Directive, ExpressionStatement, StringLiteral};
+ghost use Rattle.js_parsing.specs.NodeTexts.{is_textual};
 ghost use Rattle.js_parsing.specs.Nesting.{CanNest, room};
 ghost use Rattle.js_statements.specs.StatementLists.{AllRefused, AllTaken, DirectivesTaken, OpeningRefused, OpeningTaken, ends_at, ends_list, has_directives};
 ghost use Rattle.js_parsing.specs.States.{Standing};
@@ -132,7 +133,8 @@ fn parse_opening<C: ParserConfig, N: Nested<C>>(
 
 /// The node of a statement that begins with a string.
 fn opening_kind(is_directive: bool) -> NodeKind
-    ensures { result ≡ cond is_directive Directive ExpressionStatement }
+    ensures kind { result ≡ cond is_directive Directive ExpressionStatement }
+    ensures plain { is_textual result ≡ false }
 {
     if is_directive {
         NodeKind::Directive

@@ -1,13 +1,14 @@
 //! Statements that begin with a word and end with a semicolon: `break`, `continue`, `return`, `throw` and `debugger` (ECMA-262,
 //! sections 14.8, 14.9, 14.10, 14.14 and 14.16).
 
-ghost use Rattle.std.specs.Prelude.{◌≡◌, true, IfOk};
+ghost use Rattle.std.specs.Prelude.{◌≡◌, true, false, IfOk};
 ghost use Rattle.js_base.specs.Contexts.{has_flag, in_flag};
 ghost use Rattle.js_base.specs.declared.kind.Kind.TheVariants.{Break, Continue, Debugger, Return, Throw};
 ghost use Rattle.js_grammar.specs.Marks.{Mark};
 ghost use Rattle.js_cursor.specs.Places.{IsAt, goal};
 ghost use Rattle.js_parsing.specs.Stands.{StandsHere};
 ghost use Rattle.js_parsing.specs.Nesting.{CanNest, room};
+ghost use Rattle.js_parsing.specs.NodeTexts.{is_textual};
 ghost use Rattle.js_parsing.specs.States.{Standing};
 ghost use Rattle.js_parsing.specs.Statements.{TakesAnywhere};
 ghost use Rattle.js_statements.specs.WordStatements.{ChecksOperand, ChecksReturn, JumpsHere, TakesArgument, TakesLabel, late_operand, stray_return};
@@ -17,7 +18,7 @@ use js_base::{DiagnosticKind, Kind, NoMemory, Span};
 use js_cursor::{ParserImpl, Stop};
 use js_expressions::sequence::parse_sequence_expression;
 use js_lex::ParserConfig;
-use js_operands::primary::parse_leaf;
+use js_operands::primary::parse_name;
 use js_parsing::diagnostics::diagnostic_at;
 use js_parsing::lexemes::{advance, name_stands};
 use js_parsing::nested::Nested;
@@ -62,6 +63,7 @@ pub fn parse_continue_statement<C: ParserConfig>(p: &mut ParserImpl<'_, C>) -> R
 fn parse_jump<C: ParserConfig>(p: &mut ParserImpl<'_, C>, kind: NodeKind) -> Result<NodeId, Stop>
     requires at { Standing p.old }
     requires word { JumpsHere kind p.old }
+    requires kind { is_textual kind ≡ false }
     ensures { TakesAnywhere p.old p.new result }
 {
     let start = p.cur_start();
@@ -84,7 +86,7 @@ fn parse_optional_label<C: ParserConfig>(p: &mut ParserImpl<'_, C>) -> Result<Op
     if !name_stands(p) {
         return Err(p.set_unexpected());
     }
-    let label = parse_leaf(p, NodeKind::LabelIdentifier, Op::None)?;
+    let label = parse_name(p, NodeKind::LabelIdentifier)?;
     Ok(Some(label))
 }
 

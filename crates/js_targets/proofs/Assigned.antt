@@ -18,10 +18,11 @@ use Rattle.js_grammar.specs.Productions.{sym as symbol, Yield as Yield'}
 use Rattle.js_grammar.specs.Table.{rule, rule_of}
 use Rattle.js_grammar.specs.Follow.{after, looser}
 use Rattle.js_grammar.proofs.Looks.{covers, covered, apart, same_self, not_both}
-use Rattle.js_grammar.proofs.Calculus.{Between, inside_full, ◌▹◌, both, stay, left, right, then_by, part_fails, weaken_fails_on, fails_node, fails_alt, fails_lexeme, fails_when}
+use Rattle.js_grammar.proofs.Calculus.{Between, inside_full, ◌▹◌, both, stay, left, right, then_by, part_fails, weaken_fails_on, fails_node, fails_alt, fails_lexeme, fails_when, fails_under, fails_rule}
 use Rattle.js_grammar.proofs.FollowLaws.{admits, passes_on, same_read}
 use Rattle.js_cursor.specs.Parsers.{Parser}
 use Rattle.js_cursor.specs.Moves.{is_last}
+use Rattle.js_parsing.proofs.Giving.{fails_unescaped}
 use Rattle.js_parsing.specs.Answers.{Underived, Answer}
 use Rattle.js_parsing.specs.States.{At}
 use Rattle.js_parsing.specs.Lexemes.{Lex, other_goals, read_kinds}
@@ -126,6 +127,11 @@ no_yield {text} {f} {p} a n = go (same_kind Yield p.token.kind) refl
     go : (b : Bool) → same_kind Yield p.token.kind ≡ b → NoYield text f p.prev_token_end
     go true e = fails_when (n (sym (kind_of_same Yield p.token.kind e)))
     go false e = fails_at a (when f.yield_ (symbol Yield' f)) (Yield ∷ []) refl (other_kind Yield p.token.kind (λ k. false≢true (sym e ∙ subst (λ (v : Kind). same_kind Yield v ≡ true) (sym k) refl)))
+
+-- nor where the word there has an escape
+pub no_yield_escaped : {text : List ℕ} {f : Flags} {p : Parser} → At text f p → p.token.escaped ≡ true → NoYield text f p.prev_token_end
+unfolding rule rule_of apart
+no_yield_escaped {f = f} a e = fails_under (fails_rule {X' = plain full} (λ l cs vs y d. (refl, refl)) (fails_unescaped (rule (at Yield' f)) a refl e))
 
 pub assignment_left : (f : Flags) → live (rule (at Assignment f)) ≡ alt (such (at Conditional f) always) (alt (such (at Arrow' f) always) (alt (when f.yield_ (symbol Yield' f)) (alt (branches assign_operators (assign_part f)) (array_part f))))
 unfolding rule rule_of apart

@@ -1,6 +1,6 @@
 -- What literals are converted to, node by node (ECMA-262, 13.15.5).
 use Rattle.std.proofs.Common.{ℕ, ◌≡◌, ◌<◌, ◌≤◌, inl, inr, zero, suc, ◌+◌, nat_eq, Bool, true, false, cond, ◌||◌, List, [], ◌∷◌, ◌++◌, length, drop, Option, Some, None, refl, sym, ap, subst, arith, ◌∙◌, append-nil, append_assoc}
-use Rattle.std.specs.Prelude.{slice_get, Result, Ok, Err, IfOk}
+use Rattle.std.specs.Prelude.{chars, slice_get, Result, Ok, Err, IfOk}
 use Rattle.std.proofs.Math.Seq.{drop-cons}
 use Rattle.std.proofs.lemmas.Bool.{false≢true, or_left, or_right, eqb-true, eq-eqb}
 use Rattle.std.proofs.lemmas.List.{get_or_append_left}
@@ -24,6 +24,9 @@ use Rattle.js_targets.proofs.LiteralsAsTargets.{before_of, no_end, is_end, eleme
 use Rattle.js_targets.proofs.TargetsAsLiterals.{target_kind}
 use Rattle.js_targets.proofs.CoveredNodes.{empty_parens}
 use Rattle.js_targets.proofs.ReusedNodes.{Children, children_of, in_left, in_right, distinct_left, distinct_right, distinct_apart, slotted_on, slotted_none, slotted_hole, slotted_wider, slotted_old, slotted_node, reused_own}
+use Rattle.js_tree.specs.Sources.{text_of}
+use Rattle.js_parsing.specs.NodeTexts.{NodeFits}
+use Rattle.js_parsing.proofs.NodeTexts.{untextual}
 use Rattle.js_parsing.specs.States.{NodesLie}
 use Rattle.js_parsing.proofs.MadeNodes.{LabelLies}
 use Rattle.js_base.specs.Spans.{LiesIn}
@@ -265,8 +268,8 @@ node_kept {os} {ns} {id} k h = ap (λ (xs : List Node). node_at xs id) k.whole �
 pub noded_lies : (os : List Node) {ns ms : List Node} {l : Label} {ids : List (Option NodeId)} (id : NodeId) {made : NodeId} → Noded ns ms l ids made → id.0 < length os → l.span ≡ (label (node_at os id)).span → (text : List ℕ) → NodesLie text os → NodesLie text ns → NodesLie text ms
 noded_lies os {ns} {ms} id n b e text h k =
     let g = n.made in
-    let place : LabelLies text (label n.node) = subst (λ (v : Span). LiesIn (record { start = v.from; end = v.to }) text) (sym (ap (λ (m : Label). m.span) n.label_is ∙ e)) (All-get_or (λ (m : Node). LiesIn m.span text) os id.0 empty_program b h) in
-    All-same (λ (m : Node). LiesIn m.span text) ms (ns ++ n.node ∷ []) g.nodes (All-push (λ (m : Node). LiesIn m.span text) ns n.node k place)
+    let place : LabelLies text (label n.node) = subst (λ (v : Span). LiesIn (record { start = v.from; end = v.to }) text) (sym (ap (λ (m : Label). m.span) n.label_is ∙ e)) (All-get_or (NodeFits text) os id.0 empty_program b h).lies in
+    All-same (NodeFits text) ms (ns ++ n.node ∷ []) g.nodes (All-push (NodeFits text) ns n.node k (record { lies = place; texted = untextual n.node.kind n.node.name (chars (text_of n.node text)) n.plain }))
 
 -- a whole literal, of its elements
 pub literal_made : {os ns ms : List Node} {id made : NodeId} {noted notes : Noted} {ids : List (Option NodeId)} {k : Label} (o : Bool) → o ≡ is_object (label (node_at os id)).kind → (OfNode os id (λ l cs rs. Converts os ns rs noted notes (places_in (in_literal o) cs) ids (elements_in (in_literal o) cs))) → Noded ns ms k ids made → k ≡ relabelled (pattern_kind o) (label (node_at os id)) → OfNode os id (λ l cs rs. Converts os ms rs noted notes (places_in (in_literal (is_object l.kind)) cs) (Some made ∷ []) (slot_of (literal_tree l (elements_in (in_literal (is_object l.kind)) cs))))

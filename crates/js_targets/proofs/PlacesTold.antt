@@ -89,7 +89,7 @@ module _ {text : List ℕ} {e : ℕ} {t : Token} (g : GivesBehind text e t) wher
           let s = subst (λ (z : Lexeme). Tells z t) (cut_same x.lexeme q) x.tells in
           let i : x.lexeme.kind ≡ Comma = sym s.kind ∙ k in
           let n : x.lexeme.escaped ≡ false = plain_of Comma x.stands.lex.word x.lexeme.escaped (subst (λ (v : Kind). x.lexeme.escaped ≡ is_escaped v x.stands.lex.word) i x.stands.lex.escaped) comma_plain in
-          record { comma = x.lexeme; stands = (x.stands.lex, read_of x.lexeme i n refl); is = i; start = s.start; end = s.end }
+          record { comma = x.lexeme; stands = (x.stands.lex, read_of x.lexeme i refl); is = i; start = s.start; end = s.end }
 
   pub open_behind : (t.kind ≡ Comma → ⊥) → Open text e
   open_behind n y l k = n (comma_seen y l k)

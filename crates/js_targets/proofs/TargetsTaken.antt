@@ -114,7 +114,7 @@ module _ {text : List ℕ} {f : Flags} {p q : Parser} {left : NodeId} (a : At te
           let g = assigns q.token.kind u in
           let z = found x.answer.at c g.no_end in
           let n : z.0.escaped ≡ false = plain_of q.token.kind z.1.word z.0.escaped (subst (λ (v : Kind). z.0.escaped ≡ is_escaped v z.1.word) (sym z.2.kind) z.1.escaped) g.unescaped in
-          let r = read_of z.0 (sym z.2.kind) n g.is_read in
+          let r = read_of z.0 (sym z.2.kind) g.is_read in
           (z.0, (z.1, r), assign_behind f.in_ z.0 (and_from (one_of_kinds assign_operators z.0.kind) (not z.0.escaped) (subst (λ (v : Kind). one_of_kinds assign_operators v ≡ true) z.2.kind u) (ap not n)))
 
       word : (w : Kind) → is_last w ≡ false → one_of_kinds read_kinds w ≡ true → one_of_kinds (In ∷ Of ∷ assign_operators) w ≡ true → has_flag in_flag q.ctx ≡ false → StandsHere q w true → (y : Lexeme) × Lex text q.prev_token_end y × IsTrue (seen (behind_target f.in_) y)
@@ -123,7 +123,7 @@ module _ {text : List ℕ} {f : Flags} {p q : Parser} {left : NodeId} (a : At te
           let kind : z.0.kind ≡ w = sym z.2.kind ∙ h.0 in
           let e : z.0.escaped ≡ false = sym z.2.escaped ∙ h.1 in
           let b : f.in_ ≡ false = sym (ap (λ (g : Flags). g.in_) x.answer.at.flags_are) ∙ n in
-          (z.0, (z.1, read_of z.0 kind e r), subst (λ (v : Bool). IsTrue (seen (behind_target v) z.0)) (sym b) (and_from (one_of_kinds (In ∷ Of ∷ assign_operators) z.0.kind) (not z.0.escaped) (ap (one_of_kinds (In ∷ Of ∷ assign_operators)) kind ∙ m) (ap not e)))
+          (z.0, (z.1, read_of z.0 kind r), subst (λ (v : Bool). IsTrue (seen (behind_target v) z.0)) (sym b) (and_from (one_of_kinds (In ∷ Of ∷ assign_operators) z.0.kind) (not z.0.escaped) (ap (one_of_kinds (In ∷ Of ∷ assign_operators)) kind ∙ m) (ap not e)))
 
       by : EndsTarget q → (y : Lexeme) × Lex text q.prev_token_end y × IsTrue (seen (behind_target f.in_) y)
       by (inl e) = equals e

@@ -14,6 +14,7 @@ use Rattle.js_tree.specs.declared.id.NodeId.{NodeId}
 use Rattle.js_tree.specs.Nodes.{Node, label}
 use Rattle.js_tree.specs.Holding.{Holds, Stands, StandsAll, Keeps, Made, AreDistinct}
 use Rattle.js_grammar.specs.Trees.{Span as TreeSpan, NodeKind, Op, no_op, of, Label, Slots, end, hole, tree, Tree, identifier_reference, static_member_expression, computed_member_expression, private_field_expression, parenthesized_expression, array_expression, object_expression, object_property, elision, spread_element, assignment_expression, array_assignment_target, object_assignment_target, assignment_target_rest, assignment_target_with_default, assignment_target_property_identifier, assignment_target_property_property, append}
+use Rattle.js_parsing.specs.NodeTexts.{is_textual}
 use Rattle.js_parsing.specs.States.{NodesLie}
 
 abbrev pub is_parens : NodeKind → Bool
@@ -374,9 +375,10 @@ one_node None = None
 abbrev pub OfNode : List Node → NodeId → (Label → Slots → List ℕ → Type 0) → Type 0
 OfNode ns id P = (l : Label) (cs : Slots) (rs : List ℕ) → Stands ns id.0 l cs rs → AreDistinct rs → P l cs rs
 
--- a node was made, which has this label and these children
+-- a node was made, which has this label and these children, and is no name and no string
 pub record Noded (os ns : List Node) (l : Label) (ids : List (Option NodeId)) (id : NodeId) : Type 0 where
   pub node : Node
   pub made : Made node os ns id
   pub label_is : label node ≡ l
   pub children : node.children ≡ ids
+  pub plain : is_textual node.kind ≡ false

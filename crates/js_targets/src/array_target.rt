@@ -6,6 +6,7 @@ ghost use Rattle.js_grammar.specs.Trees.{assignment_target_with_default, end, tr
 ghost use Rattle.js_grammar.specs.Productions.{has_flag, shorthand_flag};
 ghost use Rattle.js_tree.specs.declared.kind.NodeKind.TheVariants as node;
 ghost use Rattle.js_tree.specs.declared.op.Op.TheVariants as op;
+ghost use Rattle.js_parsing.specs.NodeTexts.{is_textual};
 ghost use Rattle.js_parsing.specs.Moves.{plain_label};
 ghost use Rattle.js_tree.specs.Labels.{kind_of, op_of, label_of};
 ghost use Rattle.js_tree.specs.Nodes.{label, node_at};
@@ -31,13 +32,14 @@ use js_parsing::nodes::no_flags;
 use js_tree::{NodeFlags, NodeId, NodeKind, Op, ParserAstBuilder};
 use std::alloc::Global;
 
-/// A node of a target.
+/// A node of a target, which is no name and no string.
 fn make_target(
     ast: &mut ParserAstBuilder,
     kind: NodeKind,
     span: Span,
     children: Vec<Option<NodeId>>,
 ) -> Result<NodeId, NoMemory>
+    requires { is_textual kind ≡ false }
     ensures { IfOk result (λ id. Noded ast.old ast.new (plain_label kind op.None span) children.items id) }
 {
     ast.node(kind, span, Op::None, no_flags(), None, children)

@@ -1,6 +1,6 @@
 //! Reads standard input, takes it apart into lexemes, and prints how many bytes and tokens there are; with the word
-//! `parse` it makes the tree of the text, and prints how many nodes there are; with `tokens`, `trivia` or `counts` it prints
-//! what a parse keeps beside the tree, or how much of it there is.
+//! `parse` it makes the tree of the text, and prints how many nodes there are; with `tokens`, `trivia`, `names` or `counts` it prints
+//! what a parse keeps beside the tree, the names in it, or how much of all this there is.
 //!
 //! With a number as its last argument it does so that often, and prints how fast each pass was and how much memory the
 //! process took at most. Where lexemes alone are read, slashes and braces are read as regular expressions and template
@@ -11,7 +11,7 @@ mod kept;
 mod pass;
 mod tree;
 
-use crate::kept::{keep, tell_counts, tell_tokens, tell_trivia};
+use crate::kept::{keep, tell_counts, tell_names, tell_tokens, tell_trivia};
 use crate::pass::{Pass, lex};
 use crate::tree::{Read, parse};
 use js_base::MAX_LEN;
@@ -32,6 +32,8 @@ enum Part {
     Tokens,
     /// Its tree, and the comments and the white space that are kept.
     Trivia,
+    /// Its tree, and the names in it.
+    Names,
     /// Its tree, and how much is kept.
     Counts,
 }
@@ -56,6 +58,7 @@ fn words_of<R: Env + AllocGlobal>(rt: &R) -> io::Result<Asked> {
             "parse" => asked.part = Part::Tree,
             "tokens" => asked.part = Part::Tokens,
             "trivia" => asked.part = Part::Trivia,
+            "names" => asked.part = Part::Names,
             "counts" => asked.part = Part::Counts,
             number => asked.passes = number.parse::<u32>().ok(),
         }
@@ -128,6 +131,7 @@ fn tell<R: Print + AllocGlobal>(rt: &R, text: &str, part: Part) -> io::Result<()
         Part::Tree => tell_tree(rt, text),
         Part::Tokens => tell_tokens(rt, &kept_of(rt, text)?),
         Part::Trivia => tell_trivia(rt, &kept_of(rt, text)?),
+        Part::Names => tell_names(rt, &kept_of(rt, text)?, text),
         Part::Counts => tell_counts(rt, &kept_of(rt, text)?),
     }
 }

@@ -8,4 +8,4 @@ returns-then-not-branch g c =
     (unmoved b.0, λ text f a. no_arrow_behind a (listed_here c.args.p.now c.requires.name) (b.1 text f a))
 
 pub returns : goal.returns
-returns g c = name_found c.requires.at (behind_so _ _ c.if-not-branch.false c.in_ok-is_arrow_behind.ensures) c.requires.name.1 c.in_ok-parameters.ensures
+returns g c = name_found c.requires.at (behind_so _ _ c.if-not-branch.false c.in_ok-is_arrow_behind.ensures) c.in_ok-parameters.ensures

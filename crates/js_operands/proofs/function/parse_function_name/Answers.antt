@@ -6,7 +6,7 @@ use Rattle.js_grammar.specs.Marks.{Mark}
 use Rattle.js_cursor.specs.Places.{goal as goal_at}
 use Rattle.js_operands.specs.declared.function.FunctionForm.{FunctionForm}
 use Rattle.js_operands.specs.Functions.{NamesFunction, TakesName}
-use Rattle.js_operands.proofs.Functions.{name_refused, nameless_marked, names_so}
+use Rattle.js_operands.proofs.Functions.{name_refused, nameless_marked, names_so, names_word}
 use Rattle.js_operands.proofs.function.parse_function_name.Goals as goal
 
 pub returns-in-Expression : goal.returns-in-Expression
@@ -17,3 +17,6 @@ returns-then-not-at g c = name_refused c.args.form c.args.is_async c.args.is_gen
 
 pub error-requires-clause-mark : goal.error-requires-clause-mark
 error-requires-clause-mark g c = subst (λ (d : Diagnostic). Mark (goal_at c.args.p.now) c.args.p.now.text d) (sym c.diagnostic_at.ensures) (nameless_marked _ c.requires (c.at.ensures.0 c.if-not-at.false) (c.span-span.ensures ∙ ap (λ (t : Token). t.span) c.cur_token.ensures))
+
+pub parse_name-requires-clause-word : goal.parse_name-requires-clause-word
+parse_name-requires-clause-word g c = names_word c.args.form c.args.is_async c.args.is_generator c.args.p.now (names_so c.args.form c.args.is_async c.args.is_generator c.args.p.now c.if-function_name_stands.true c.function_name_stands.ensures)

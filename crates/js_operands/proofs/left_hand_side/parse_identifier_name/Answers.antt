@@ -1,17 +1,17 @@
 use Rattle.std.proofs.Common.{ap, sym, ◌∙◌}
 use Rattle.js_parsing.specs.Lexemes.{read_word}
-use Rattle.js_parsing.proofs.Giving.{gives_up_here, fails_escaped}
+use Rattle.js_parsing.proofs.Giving.{gives_up_here}
 use Rattle.js_operands.proofs.Members.{no_name, word_whole, name_taken}
 use Rattle.js_operands.proofs.left_hand_side.parse_identifier_name.Goals as goal
 
-pub returns-then-escaped_word_stands : goal.returns-then-escaped_word_stands
-returns-then-escaped_word_stands g c = λ text f a. gives_up_here _ _ c.set_unexpected.result a c.set_unexpected.ensures (fails_escaped a (sym c.escaped_word_stands.ensures ∙ c.if-escaped_word_stands.true))
-
 pub returns-then-not-is_read_word : goal.returns-then-not-is_read_word
-returns-then-not-is_read_word g c = λ text f a. gives_up_here _ _ c.set_unexpected-then-not-is_read_word.result a c.set_unexpected-then-not-is_read_word.ensures (no_name a (sym (ap read_word c.cur_kind.ensures) ∙ (sym c.is_read_word.ensures ∙ c.if-not-is_read_word.true)))
+returns-then-not-is_read_word g c = λ text f a. gives_up_here _ _ c.set_unexpected.result a c.set_unexpected.ensures (no_name a (sym (ap read_word c.cur_kind.ensures) ∙ (sym c.is_read_word.ensures ∙ c.if-not-is_read_word.true)))
 
-pub parse_leaf-requires-clause-whole : goal.parse_leaf-requires-clause-whole
-parse_leaf-requires-clause-whole g c = word_whole c.requires (sym (ap read_word c.cur_kind.ensures) ∙ (sym c.is_read_word.ensures ∙ c.if-not-is_read_word.false))
+pub parse_name-requires-clause-whole : goal.parse_name-requires-clause-whole
+parse_name-requires-clause-whole g c = word_whole c.requires (sym (ap read_word c.cur_kind.ensures) ∙ (sym c.is_read_word.ensures ∙ c.if-not-is_read_word.false))
 
 pub returns : goal.returns
-returns g c = λ text f a. name_taken text f _ _ c.parse_leaf.result a (sym (ap read_word c.cur_kind.ensures) ∙ (sym c.is_read_word.ensures ∙ c.if-not-is_read_word.false)) (sym c.escaped_word_stands.ensures ∙ c.if-escaped_word_stands.false) c.parse_leaf.ensures
+returns g c = λ text f a. name_taken text f _ _ c.parse_name.result a (sym (ap read_word c.cur_kind.ensures) ∙ (sym c.is_read_word.ensures ∙ c.if-not-is_read_word.false)) c.parse_name.ensures
+
+pub parse_name-requires-clause-word : goal.parse_name-requires-clause-word
+parse_name-requires-clause-word g c = sym (ap read_word c.cur_kind.ensures) ∙ (sym c.is_read_word.ensures ∙ c.if-not-is_read_word.false)

@@ -73,13 +73,11 @@ returns-in_err-name t c = λ text f a.
     let m = c.in_ok-advance.ensures text f a in
     rw (p.1, p.2) (no_optional_name a c.requires.sign m (stands_so c.advance.new.p LParen c.if-stands.false c.stands.ensures) (stands_so c.advance.new.p LBrack c.if-stands-2.false c.stands-2.ensures) _ _ (c.in_err-name.ensures text f m.at))
 
-pub make_member-requires : goal.make_member-requires
-make_member-requires t c = record {
-  start =
-      let m = c.in_ok-advance.ensures _ _ c.requires.at in
-      let x = (c.in_ok-name.ensures _ _ m.at).answer in
-      let a = m.further in let b = x.further in let d = m.at.behind in let e = c.requires.at.behind in let s = c.requires.start in omega arith;
-}
+pub make_member-requires-clause-start : goal.make_member-requires-clause-start
+make_member-requires-clause-start t c =
+    let m = c.in_ok-advance.ensures _ _ c.requires.at in
+    let x = (c.in_ok-name.ensures _ _ m.at).answer in
+    let a = m.further in let b = x.further in let d = m.at.behind in let e = c.requires.at.behind in let s = c.requires.start in omega arith
 
 pub returns : goal.returns
 returns t c = λ text f a.

@@ -3,8 +3,8 @@ use Rattle.js_tree.specs.declared.id.NodeId.{NodeId}
 use Rattle.js_parsing.specs.Arguments.{Arguments}
 use Rattle.js_operands.proofs.left_hand_side.parse_with_arguments.Goals as goal
 
-pub make_with_arguments-requires : goal.make_with_arguments-requires
-make_with_arguments-requires t c = record { start = let x = c.in_ok-arguments.ensures _ _ c.requires.at in let a = x.further in let b = c.requires.at.behind in let s = c.requires.start in omega arith }
+pub make_with_arguments-requires-clause-start : goal.make_with_arguments-requires-clause-start
+make_with_arguments-requires-clause-start t c = let x = c.in_ok-arguments.ensures _ _ c.requires.at in let a = x.further in let b = c.requires.at.behind in let s = c.requires.start in omega arith
 
 pub returns : goal.returns
 returns t c = record {

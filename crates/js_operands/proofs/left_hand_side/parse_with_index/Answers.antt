@@ -42,12 +42,12 @@ returns-in_err-expect_closing t c =
     let p = err_from_is_err_and c.from_residual-in_err-expect_closing.result c.from_residual-in_err-expect_closing.ensures.1 in
     rw (p.1, p.2) (λ text f a. let m = c.in_ok-advance.ensures text f a in unclosed_stops a c.requires.open m (c.in_ok-index.ensures text f m.at) _ _ _ c.in_err-expect_closing.ensures)
 
-pub make_member-requires : goal.make_member-requires
-make_member-requires t c =
+pub make_member-requires-clause-start : goal.make_member-requires-clause-start
+make_member-requires-clause-start t c =
     let m = c.in_ok-advance.ensures _ _ c.requires.at in
     let x = c.in_ok-index.ensures _ _ m.at in
     let d = index_closed c.requires.at c.requires.open m x c.in_ok-expect_closing.ensures.0 c.in_ok-expect_closing.ensures.1 in
-    record { start = let a = m.further in let b = x.answer.further in let e = d.further in let g = m.at.behind in let h = x.answer.at.behind in let i = c.requires.at.behind in let s = c.requires.start in omega arith }
+    let a = m.further in let b = x.answer.further in let e = d.further in let g = m.at.behind in let h = x.answer.at.behind in let i = c.requires.at.behind in let s = c.requires.start in omega arith
 
 pub returns : goal.returns
 returns t c = record {

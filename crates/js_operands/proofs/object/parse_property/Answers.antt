@@ -2,30 +2,22 @@ use Rattle.std.proofs.Common.{[], ◌∷◌, ap, sym, refl, ◌∙◌}
 use Rattle.js_base.specs.declared.kind.Kind.TheVariants.{Dot3, Star}
 use Rattle.js_grammar.specs.Productions.{at, Property}
 use Rattle.js_parsing.specs.Lexemes.{read_word}
-use Rattle.js_parsing.proofs.Escapes.{plain_here}
-use Rattle.js_parsing.proofs.Giving.{fails_escaped, gives_up_here}
 use Rattle.js_parsing.proofs.NameKinds.{or_kind}
-use Rattle.js_operands.proofs.PropertyForms.{dots_only}
+use Rattle.js_operands.proofs.PropertyForms.{dots_only, dots_stand, star_stands}
 use Rattle.js_operands.proofs.Wholes.{item_by}
 use Rattle.js_operands.proofs.object.parse_property.Goals as goal
-
-pub returns-then-escaped_word_stands : goal.returns-then-escaped_word_stands
-returns-then-escaped_word_stands g c = λ text f a. gives_up_here _ _ c.set_unexpected.result a c.set_unexpected.ensures (fails_escaped a (sym c.escaped_word_stands.ensures ∙ c.if-escaped_word_stands.true))
 
 pub parse_word_property-requires-clause-word : goal.parse_word_property-requires-clause-word
 parse_word_property-requires-clause-word g c = sym (ap read_word c.cur_kind.ensures) ∙ (sym c.is_read_word.ensures ∙ c.if-is_read_word.true)
 
-pub parse_word_property-requires-clause-plain : goal.parse_word_property-requires-clause-plain
-parse_word_property-requires-clause-plain g c = sym c.escaped_word_stands.ensures ∙ c.if-escaped_word_stands.false
-
 pub parse_spread_element-requires-clause-sign : goal.parse_spread_element-requires-clause-sign
-parse_spread_element-requires-clause-sign g c = plain_here c.args.p.now (sym c.cur_kind-2.ensures ∙ c.in-Dot3.is) refl c.escaped_word_stands.ensures c.if-escaped_word_stands.false
+parse_spread_element-requires-clause-sign g c = dots_stand c.requires.at (sym c.cur_kind-2.ensures ∙ c.in-Dot3.is)
 
 pub returns-in-Dot3 : goal.returns-in-Dot3
 returns-in-Dot3 g c = λ text f a. item_by text f c.args.p.now (at Property f) _ c.parse_spread_element.result (dots_only a (sym c.cur_kind-2.ensures ∙ c.in-Dot3.is)) (c.parse_spread_element.ensures text f a)
 
 pub parse_generator_method-requires-clause-sign : goal.parse_generator_method-requires-clause-sign
-parse_generator_method-requires-clause-sign g c = plain_here c.args.p.now (sym c.cur_kind-2.ensures ∙ c.in-Star.is) refl c.escaped_word_stands.ensures c.if-escaped_word_stands.false
+parse_generator_method-requires-clause-sign g c = star_stands c.requires.at (sym c.cur_kind-2.ensures ∙ c.in-Star.is)
 
 pub parse_other_property-requires-clause-no_word : goal.parse_other_property-requires-clause-no_word
 parse_other_property-requires-clause-no_word g c = sym (ap read_word c.cur_kind.ensures) ∙ (sym c.is_read_word.ensures ∙ c.if-is_read_word.false)

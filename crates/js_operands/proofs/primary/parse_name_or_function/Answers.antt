@@ -1,4 +1,4 @@
-use Rattle.std.proofs.Common.{ap, arith, sym, subst, true}
+use Rattle.std.proofs.Common.{◌≡◌, ap, arith, sym, subst, true}
 use Rattle.std.specs.Prelude.{MatchResult}
 use Rattle.js_grammar.specs.Productions.{at, Primary}
 use Rattle.js_tree.specs.declared.kind.NodeKind.TheVariants as node
@@ -6,11 +6,13 @@ use Rattle.js_tree.specs.declared.op.Op.TheVariants as op
 use Rattle.js_cursor.specs.Moves.{OnlyMemory}
 use Rattle.js_cursor.specs.Parsers.{Parser}
 use Rattle.js_parsing.specs.Answers.{Outcome}
+use Rattle.js_parsing.specs.Lexemes.{read_word}
 use Rattle.js_parsing.specs.Moves.{IsWholeHere, TakesLeaf}
 use Rattle.js_parsing.specs.Nesting.{room}
 use Rattle.js_parsing.proofs.Nesting.{nests_later}
 use Rattle.js_parsing.specs.States.{At, Standing}
 use Rattle.js_parsing.proofs.NameKinds.{listed_here, name_at, name_whole}
+use Rattle.js_parsing.proofs.NodeTexts.{name_word}
 use Rattle.js_operands.proofs.AsyncWords.{begun_at, found_so}
 use Rattle.js_operands.proofs.Operands.{name_outcome}
 use Rattle.js_operands.proofs.primary.parse_name_or_function.Goals as goal
@@ -29,14 +31,17 @@ returns-then-branch g c = λ text f a.
     let s = (found_so c.args.p.now c.function_stands.new.p c.if-branch.true c.in_ok-function_stands.ensures) in
     subst (λ (v : Parser). Outcome text f (at Primary f) v c.parse_function_expression.new.p c.parse_function_expression.result) s.0 (c.parse_function_expression.ensures text f (subst (λ (v : Parser). At text f v) (sym s.0) a))
 
-pub parse_leaf-requires-clause-at : goal.parse_leaf-requires-clause-at
-parse_leaf-requires-clause-at g c = subst (λ (v : Parser). Standing v) (sym (found_so c.args.p.now c.function_stands.new.p c.if-branch.false c.in_ok-function_stands.ensures).0) c.requires.at
+pub parse_name-requires-clause-at : goal.parse_name-requires-clause-at
+parse_name-requires-clause-at g c = subst (λ (v : Parser). Standing v) (sym (found_so c.args.p.now c.function_stands.new.p c.if-branch.false c.in_ok-function_stands.ensures).0) c.requires.at
 
-pub parse_leaf-requires-clause-whole : goal.parse_leaf-requires-clause-whole
-parse_leaf-requires-clause-whole g c = subst (λ (v : Parser). IsWholeHere v) (sym (found_so c.args.p.now c.function_stands.new.p c.if-branch.false c.in_ok-function_stands.ensures).0) (name_whole c.requires.at (listed_here c.args.p.now c.requires.name))
+pub parse_name-requires-clause-whole : goal.parse_name-requires-clause-whole
+parse_name-requires-clause-whole g c = subst (λ (v : Parser). IsWholeHere v) (sym (found_so c.args.p.now c.function_stands.new.p c.if-branch.false c.in_ok-function_stands.ensures).0) (name_whole c.requires.at (listed_here c.args.p.now c.requires.name))
+
+pub parse_name-requires-clause-word : goal.parse_name-requires-clause-word
+parse_name-requires-clause-word g c = subst (λ (v : Parser). read_word v.token.kind ≡ true) (sym (found_so c.args.p.now c.function_stands.new.p c.if-branch.false c.in_ok-function_stands.ensures).0) (name_word c.args.p.now.token.kind (listed_here c.args.p.now c.requires.name))
 
 pub returns : goal.returns
 returns g c = λ text f a.
     let s = found_so c.args.p.now c.function_stands.new.p c.if-branch.false c.in_ok-function_stands.ensures in
     let n = name_at true a c.requires.name in
-    name_outcome c.parse_leaf.new.p c.parse_leaf.result a n.0 n.1 s.1 (subst (λ (v : Parser). MatchResult c.parse_leaf.result (λ id. TakesLeaf node.IdentifierReference op.None v c.parse_leaf.new.p id) OnlyMemory) s.0 c.parse_leaf.ensures)
+    name_outcome c.parse_name.new.p c.parse_name.result a n s.1 (subst (λ (v : Parser). MatchResult c.parse_name.result (λ id. TakesLeaf node.IdentifierReference op.None v c.parse_name.new.p id) OnlyMemory) s.0 c.parse_name.ensures)

@@ -2,4 +2,4 @@ use Rattle.js_operands.proofs.Operands.{number_outcome}
 use Rattle.js_operands.proofs.primary.parse_number.Goals as goal
 
 pub returns : goal.returns
-returns t c = λ text f a. number_outcome text f _ _ _ _ _ c.parse_leaf.result c.requires.number c.cur_kind-kind.ensures c.number_node.ensures c.number_op.ensures a c.requires.plain c.parse_leaf.ensures
+returns t c = λ text f a. number_outcome text f _ _ _ _ _ c.parse_leaf.result c.requires.number c.cur_kind-kind.ensures c.number_node.ensures.node c.number_op.ensures a c.requires.plain c.parse_leaf.ensures

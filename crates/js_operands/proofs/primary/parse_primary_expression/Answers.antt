@@ -5,16 +5,16 @@ use Rattle.js_base.specs.declared.kind.Kind.TheVariants.{This, Null, True, False
 use Rattle.js_tree.specs.declared.kind.NodeKind.TheVariants as node
 use Rattle.js_tree.specs.declared.op.Op.TheVariants as op
 use Rattle.js_parsing.proofs.Escapes.{plain_here, word_plain, no_name_where}
-use Rattle.js_parsing.proofs.Giving.{gives_up_here, fails_escaped}
-use Rattle.js_parsing.proofs.NameKinds.{name_at, name_so, no_name_here}
-use Rattle.js_operands.proofs.Operands.{leaf_outcome, this_path, null_path, true_path, false_path, string_path, primary_fails, none_of_these}
+use Rattle.js_parsing.proofs.Giving.{gives_up_here}
+use Rattle.js_parsing.proofs.NameKinds.{name_at, name_so}
+use Rattle.js_operands.proofs.Operands.{escaped_fails, leaf_outcome, this_path, null_path, true_path, false_path, string_path, primary_fails, none_of_these}
 use Rattle.js_parsing.specs.Lexemes.{slashes}
 use Rattle.js_operands.specs.Templates.{heads}
 use Rattle.js_operands.proofs.RegularExpressions.{no_pattern_here}
 use Rattle.js_operands.proofs.primary.parse_primary_expression.Goals as goal
 
 pub returns-then-escaped_word_stands : goal.returns-then-escaped_word_stands
-returns-then-escaped_word_stands t c = λ text f a. gives_up_here _ _ c.set_unexpected.result a c.set_unexpected.ensures (fails_escaped a (sym c.escaped_word_stands.ensures ∙ c.if-escaped_word_stands.true))
+returns-then-escaped_word_stands t c = λ text f a. gives_up_here _ _ c.set_unexpected.result a c.set_unexpected.ensures (escaped_fails a (name_at false a (name_so c.args.p.now c.if-name_stands.false c.name_stands.ensures)) (sym c.escaped_word_stands.ensures ∙ c.if-escaped_word_stands.true))
 
 pub parse_name_or_function-requires-clause-name : goal.parse_name_or_function-requires-clause-name
 parse_name_or_function-requires-clause-name t c = name_so c.args.p.now c.if-name_stands.true c.name_stands.ensures
@@ -26,7 +26,7 @@ pub returns-in-Null : goal.returns-in-Null
 returns-in-Null t c = λ text f a. leaf_outcome text f _ _ node.NullLiteral op.None Null c.parse_leaf-in-Null.result refl null_path a (sym c.cur_kind-2.ensures ∙ c.in-Null.is) (plain_here c.args.p.now (sym c.cur_kind-2.ensures ∙ c.in-Null.is) refl c.escaped_word_stands.ensures c.if-escaped_word_stands.false).1 c.parse_leaf-in-Null.ensures
 
 pub returns-in-Str : goal.returns-in-Str
-returns-in-Str t c = λ text f a. leaf_outcome text f _ _ node.StringLiteral op.None Str c.parse_leaf-in-Str.result refl string_path a (sym c.cur_kind-2.ensures ∙ c.in-Str.is) (plain_here c.args.p.now (sym c.cur_kind-2.ensures ∙ c.in-Str.is) refl c.escaped_word_stands.ensures c.if-escaped_word_stands.false).1 c.parse_leaf-in-Str.ensures
+returns-in-Str t c = λ text f a. leaf_outcome text f _ _ node.StringLiteral op.None Str c.parse_string.result refl string_path a (sym c.cur_kind-2.ensures ∙ c.in-Str.is) (plain_here c.args.p.now (sym c.cur_kind-2.ensures ∙ c.in-Str.is) refl c.escaped_word_stands.ensures c.if-escaped_word_stands.false).1 c.parse_string.ensures
 
 pub returns-in-True : goal.returns-in-True
 returns-in-True t c = λ text f a. elim c.in-True.is [
@@ -47,7 +47,7 @@ parse_template-requires-clause-template t c = elim c.in-NoSubstitutionTemplate.i
 ]
 
 pub returns-in_default : goal.returns-in_default
-returns-in_default t c = λ text f a. gives_up_here _ _ c.set_unexpected-in_default.result a c.set_unexpected-in_default.ensures (primary_fails a (no_name_here f c.args.p.now (name_at false a (name_so c.args.p.now c.if-name_stands.false c.name_stands.ensures)) (sym c.escaped_word_stands.ensures ∙ c.if-escaped_word_stands.false)) (none_of_these _ (λ e. c.in_default.not-This (c.cur_kind-2.ensures ∙ e)) (λ e. c.in_default.not-Null (c.cur_kind-2.ensures ∙ e)) (λ e. c.in_default.not-True (c.cur_kind-2.ensures ∙ e)) (λ e. c.in_default.not-False (c.cur_kind-2.ensures ∙ e)) (λ e. c.in_default.not-Str (c.cur_kind-2.ensures ∙ e)) (no_pattern_here a) (λ e. c.in_default.not-Slash (c.cur_kind-2.ensures ∙ e)) (λ e. c.in_default.not-SlashEq (c.cur_kind-2.ensures ∙ e)) (λ e. c.in_default.not-NoSubstitutionTemplate (c.cur_kind-2.ensures ∙ e)) (λ e. c.in_default.not-TemplateHead (c.cur_kind-2.ensures ∙ e)) (λ e. c.in_default.not-LParen (c.cur_kind-2.ensures ∙ e)) (λ e. c.in_default.not-LBrack (c.cur_kind-2.ensures ∙ e)) (λ e. c.in_default.not-Function (c.cur_kind-2.ensures ∙ e)) (λ e. c.in_default.not-LCurly (c.cur_kind-2.ensures ∙ e)) (λ e. c.in_default.not-Percent (c.cur_kind-2.ensures ∙ e)) (sym (ap (one_of_kinds number_kinds) c.cur_kind.ensures) ∙ (sym c.is_number.ensures ∙ c.if-is_number.false))))
+returns-in_default t c = λ text f a. gives_up_here _ _ c.set_unexpected-in_default.result a c.set_unexpected-in_default.ensures (primary_fails a (name_at false a (name_so c.args.p.now c.if-name_stands.false c.name_stands.ensures)) (none_of_these _ (λ e. c.in_default.not-This (c.cur_kind-2.ensures ∙ e)) (λ e. c.in_default.not-Null (c.cur_kind-2.ensures ∙ e)) (λ e. c.in_default.not-True (c.cur_kind-2.ensures ∙ e)) (λ e. c.in_default.not-False (c.cur_kind-2.ensures ∙ e)) (λ e. c.in_default.not-Str (c.cur_kind-2.ensures ∙ e)) (no_pattern_here a) (λ e. c.in_default.not-Slash (c.cur_kind-2.ensures ∙ e)) (λ e. c.in_default.not-SlashEq (c.cur_kind-2.ensures ∙ e)) (λ e. c.in_default.not-NoSubstitutionTemplate (c.cur_kind-2.ensures ∙ e)) (λ e. c.in_default.not-TemplateHead (c.cur_kind-2.ensures ∙ e)) (λ e. c.in_default.not-LParen (c.cur_kind-2.ensures ∙ e)) (λ e. c.in_default.not-LBrack (c.cur_kind-2.ensures ∙ e)) (λ e. c.in_default.not-Function (c.cur_kind-2.ensures ∙ e)) (λ e. c.in_default.not-LCurly (c.cur_kind-2.ensures ∙ e)) (λ e. c.in_default.not-Percent (c.cur_kind-2.ensures ∙ e)) (sym (ap (one_of_kinds number_kinds) c.cur_kind.ensures) ∙ (sym c.is_number.ensures ∙ c.if-is_number.false))))
 
 pub parse_function_expression-requires-clause-word : goal.parse_function_expression-requires-clause-word
 parse_function_expression-requires-clause-word t c = inl (plain_here c.args.p.now (sym c.cur_kind-2.ensures ∙ c.in-Function.is) refl c.escaped_word_stands.ensures c.if-escaped_word_stands.false)

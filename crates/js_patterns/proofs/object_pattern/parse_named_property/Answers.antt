@@ -7,11 +7,12 @@ use Rattle.js_parsing.proofs.Giving.{memory_stops}
 use Rattle.js_parsing.proofs.Moving.{standing}
 use Rattle.js_parsing.proofs.NameKinds.{listed_here, name_at, name_whole}
 use Rattle.js_parsing.proofs.Nesting.{nests_later, later_room}
+use Rattle.js_parsing.proofs.NodeTexts.{name_word, spells_later}
 use Rattle.js_patterns.proofs.ObjectPatterns.{name_named, name_place, no_shorthand_named}
 use Rattle.js_patterns.proofs.object_pattern.parse_named_property.Goals as goal
 
-pub parse_leaf-requires-clause-whole : goal.parse_leaf-requires-clause-whole
-parse_leaf-requires-clause-whole g c = name_whole c.requires.at (listed_here c.args.p.now c.requires.name)
+pub parse_name-requires-clause-whole : goal.parse_name-requires-clause-whole
+parse_name-requires-clause-whole g c = name_whole c.requires.at (listed_here c.args.p.now c.requires.name)
 
 pub returns-in_err-key : goal.returns-in_err-key
 returns-in_err-key g c = λ text f a.
@@ -19,11 +20,11 @@ returns-in_err-key g c = λ text f a.
     rw (p.1, p.2) (memory_stops _ _ _ _ c.in_err-key.ensures)
 
 pub parse_shorthand-requires-clause-at : goal.parse_shorthand-requires-clause-at
-parse_shorthand-requires-clause-at g c = standing (name_named c.requires.at c.requires.name.0 c.requires.name.1 c.in_ok-key.ensures).at
+parse_shorthand-requires-clause-at g c = standing (name_named c.requires.at c.requires.name c.in_ok-key.ensures).at
 
 pub parse_shorthand-requires-clause-nests : goal.parse_shorthand-requires-clause-nests
 parse_shorthand-requires-clause-nests g c =
-    let x = name_named c.requires.at c.requires.name.0 c.requires.name.1 c.in_ok-key.ensures in
+    let x = name_named c.requires.at c.requires.name c.in_ok-key.ensures in
     let s = later_room (let a = x.further in let b = c.requires.at.behind in omega arith) x.same in
     nests_later c.requires.nests (omega arith)
 
@@ -31,31 +32,37 @@ pub parse_shorthand-requires-clause-no_colon : goal.parse_shorthand-requires-cla
 parse_shorthand-requires-clause-no_colon g c = λ k. false≢true (sym c.if-not-at.true ∙ c.at.ensures.1 k)
 
 pub parse_shorthand-requires-clause-ends : goal.parse_shorthand-requires-clause-ends
-parse_shorthand-requires-clause-ends g c = ap (λ (s : Span). s.end) (c.span-name.ensures ∙ ap (λ (t : Token). t.span) c.cur_token.ensures) ∙ name_place c.requires.at c.in_ok-key.ensures
+parse_shorthand-requires-clause-ends g c = ap (λ (s : Span). s.end) (ap (λ (t : Token). t.span) c.cur_token-name.ensures) ∙ name_place c.requires.at c.in_ok-key.ensures
 
 pub parse_shorthand-requires-clause-ordered : goal.parse_shorthand-requires-clause-ordered
 parse_shorthand-requires-clause-ordered g c =
-    let x = (name_named c.requires.at c.requires.name.0 c.requires.name.1 c.in_ok-key.ensures).further in
+    let x = (name_named c.requires.at c.requires.name c.in_ok-key.ensures).further in
     let y = name_place c.requires.at c.in_ok-key.ensures in
-    let s = c.span-name.ensures ∙ ap (λ (t : Token). t.span) c.cur_token.ensures in
+    let s = ap (λ (t : Token). t.span) c.cur_token-name.ensures in
     let b = ap (λ (s : Span). s.start) s in let d = ap (λ (s : Span). s.end) s in omega arith
 
 pub returns-then-not-at : goal.returns-then-not-at
-returns-then-not-at g c = λ text f a. c.parse_shorthand.ensures text f _ a (c.span-name.ensures ∙ ap (λ (t : Token). t.span) c.cur_token.ensures) (name_at true a c.requires.name).0 c.requires.name.1 c.in_ok-key.ensures
+returns-then-not-at g c = λ text f a. c.parse_shorthand.ensures text f _ a (ap (λ (t : Token). t.span) c.cur_token-name.ensures) (name_at true a c.requires.name) c.in_ok-key.ensures
 
 pub parse_property_value-requires-clause-at : goal.parse_property_value-requires-clause-at
-parse_property_value-requires-clause-at g c = standing (name_named c.requires.at c.requires.name.0 c.requires.name.1 c.in_ok-key.ensures).at
+parse_property_value-requires-clause-at g c = standing (name_named c.requires.at c.requires.name c.in_ok-key.ensures).at
 
 pub parse_property_value-requires-clause-nests : goal.parse_property_value-requires-clause-nests
 parse_property_value-requires-clause-nests g c =
-    let x = name_named c.requires.at c.requires.name.0 c.requires.name.1 c.in_ok-key.ensures in
+    let x = name_named c.requires.at c.requires.name c.in_ok-key.ensures in
     let s = later_room (let a = x.further in let b = c.requires.at.behind in omega arith) x.same in
     nests_later c.requires.nests (omega arith)
 
 pub parse_property_value-requires-clause-before : goal.parse_property_value-requires-clause-before
 parse_property_value-requires-clause-before g c =
-    let x = (name_named c.requires.at c.requires.name.0 c.requires.name.1 c.in_ok-key.ensures).further in
-    let b = ap (λ (s : Span). s.start) (c.span-name.ensures ∙ ap (λ (t : Token). t.span) c.cur_token.ensures) in omega arith
+    let x = (name_named c.requires.at c.requires.name c.in_ok-key.ensures).further in
+    let u = c.start.ensures in let b = ap (λ (t : Token). t.span.start) c.cur_token-name.ensures in omega arith
 
 pub returns : goal.returns
-returns g c = λ text f a. c.parse_property_value.ensures text f _ a (ap (λ (s : Span). s.start) (c.span-name.ensures ∙ ap (λ (t : Token). t.span) c.cur_token.ensures)) (name_named a (name_at true a c.requires.name).0 c.requires.name.1 c.in_ok-key.ensures) (no_shorthand_named a (name_at true a c.requires.name).0 c.requires.name.1 c.in_ok-key.ensures (c.at.ensures.0 c.if-not-at.false))
+returns g c = λ text f a. c.parse_property_value.ensures text f _ a (c.start.ensures ∙ ap (λ (t : Token). t.span.start) c.cur_token-name.ensures) (name_named a (name_at true a c.requires.name) c.in_ok-key.ensures) (no_shorthand_named a (name_at true a c.requires.name) c.in_ok-key.ensures (c.at.ensures.0 c.if-not-at.false))
+
+pub parse_name-requires-clause-word : goal.parse_name-requires-clause-word
+parse_name-requires-clause-word g c = name_word c.args.p.now.token.kind (listed_here c.args.p.now c.requires.name)
+
+pub parse_shorthand-requires-clause-spells : goal.parse_shorthand-requires-clause-spells
+parse_shorthand-requires-clause-spells g c = spells_later c.requires.at (name_word c.args.p.now.token.kind (listed_here c.args.p.now c.requires.name)) c.cur_token-name.ensures (name_named c.requires.at c.requires.name c.in_ok-key.ensures).same.follows.text

@@ -11,16 +11,16 @@ pub parse_name_initialiser-requires-clause-nests : goal.parse_name_initialiser-r
 parse_name_initialiser-requires-clause-nests g c = made_nests c.requires.nests c.in_ok-binding.ensures
 
 pub parse_name_initialiser-requires-clause-before : goal.parse_name_initialiser-requires-clause-before
-parse_name_initialiser-requires-clause-before g c = let e = c.requires.ends in let o = c.requires.ordered in let i = ap (λ r. r.prev_token_end) c.in_ok-binding.ensures.stays in omega arith
+parse_name_initialiser-requires-clause-before g c = let u = c.start-start.ensures in let e = c.requires.ends in let o = c.requires.ordered in let i = ap (λ r. r.prev_token_end) c.in_ok-binding.ensures.stays in omega arith
 
 pub returns-in_err-value : goal.returns-in_err-value
-returns-in_err-value g c = λ text f o a s k e t.
+returns-in_err-value g c = λ text f o a s k t.
     let p = err_from_is_err_and c.from_residual-in_err-value.result c.from_residual-in_err-value.ensures.1 in
-    rw (p.1, p.2) (bound_stops a k e t c.requires.no_colon _ _ (c.in_err-value.ensures.answers text f o _ (ap (λ (v : Span). v.start) s) (name_passed a k e t c.requires.no_colon _ s c.in_ok-binding.ensures)))
+    rw (p.1, p.2) (bound_stops a k t c.requires.no_colon _ _ (c.in_err-value.ensures.answers text f o _ (c.start-start.ensures ∙ ap (λ (v : Span). v.start) s) (name_passed a k t c.requires.no_colon _ s c.in_ok-binding.ensures)))
 
 pub end_span-span-requires : goal.end_span-span-requires
 end_span-span-requires g c = c.in_ok-value.ensures.behind
 
 pub returns : goal.returns
-returns g c = λ text f o a s k e t.
-    shorthand_answers a k e t c.requires.no_colon (c.in_ok-value.ensures.answers text f o _ (ap (λ (v : Span). v.start) s) (name_passed a k e t c.requires.no_colon _ s c.in_ok-binding.ensures)) _ c.shorthand_flags.ensures (c.end_span-span.ensures.start ∙ ap (λ (v : Span). v.start) s) c.end_span-span.ensures.end c.in_ok-node.ensures
+returns g c = λ text f o a s k t.
+    shorthand_answers a k t c.requires.no_colon (c.in_ok-value.ensures.answers text f o _ (c.start-start.ensures ∙ ap (λ (v : Span). v.start) s) (name_passed a k t c.requires.no_colon _ s c.in_ok-binding.ensures)) _ c.shorthand_flags.ensures (c.end_span-span.ensures.start ∙ (c.start-start.ensures ∙ ap (λ (v : Span). v.start) s)) c.end_span-span.ensures.end c.in_ok-node.ensures

@@ -75,4 +75,4 @@ returns g c = λ b text f a.
     let m = begun a c.requires.word (c.in_ok-advance.ensures text f a) _ _ c.in_ok-is_await.ensures in
     let x = c.in_ok-ending.ensures text f m.at in
     let o = c.in_ok-check_ending.ensures in
-    for_answers a c.requires.word m x o (c.in_ok-body.ensures text f (ending_at a c.requires.word m x o)) b _ c.in_ok-push.ensures.items (c.end_span-span.ensures.start ∙ c.cur_start-start.ensures) c.end_span-span.ensures.end c.node_kind.result c.node_kind.ensures c.in_ok-node.ensures
+    for_answers a c.requires.word m x o (c.in_ok-body.ensures text f (ending_at a c.requires.word m x o)) b _ c.in_ok-push.ensures.items (c.end_span-span.ensures.start ∙ c.cur_start-start.ensures) c.end_span-span.ensures.end c.node_kind.result c.node_kind.ensures.kind c.in_ok-node.ensures

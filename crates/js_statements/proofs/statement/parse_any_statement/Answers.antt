@@ -1,11 +1,12 @@
 use Rattle.std.proofs.Common.{refl, ◌∙◌, sym}
-use Rattle.js_parsing.proofs.Escapes.{plain_here}
-use Rattle.js_parsing.proofs.Giving.{gives_up_here, fails_escaped}
+use Rattle.js_parsing.proofs.Escapes.{keyword_escaped, keyword_none, plain_here}
+use Rattle.js_parsing.specs.Statements.{statement_kinds}
+use Rattle.std.proofs.lemmas.Bool.{and_parts}
 use Rattle.js_statements.proofs.Statements.{no_own_kind}
 use Rattle.js_statements.proofs.statement.parse_any_statement.Goals as goal
 
-pub returns-then-escaped_word_stands : goal.returns-then-escaped_word_stands
-returns-then-escaped_word_stands g c = λ b u text f a. gives_up_here _ _ c.set_unexpected.result a c.set_unexpected.ensures (fails_escaped a (sym c.escaped_word_stands.ensures ∙ c.if-escaped_word_stands.true))
+pub parse_expression_or_labeled_statement-requires-clause-other : goal.parse_expression_or_labeled_statement-requires-clause-other
+parse_expression_or_labeled_statement-requires-clause-other g c = keyword_escaped c.args.p.now.token statement_kinds (and_parts c.args.p.now.token.escaped _ (sym c.escaped_word_stands.ensures ∙ c.if-escaped_word_stands.true)).0 refl
 
 pub parse_block_statement-requires-clause-brace : goal.parse_block_statement-requires-clause-brace
 parse_block_statement-requires-clause-brace g c = sym c.cur_kind.ensures ∙ c.in-LCurly.is
@@ -40,8 +41,8 @@ parse_debugger_statement-requires-clause-word g c = plain_here c.args.p.now (sym
 pub parse_variable_statement-requires-clause-word : goal.parse_variable_statement-requires-clause-word
 parse_variable_statement-requires-clause-word g c = plain_here c.args.p.now (sym c.cur_kind.ensures ∙ c.in-Var.is) refl c.escaped_word_stands.ensures c.if-escaped_word_stands.false
 
-pub parse_expression_or_labeled_statement-requires-clause-other : goal.parse_expression_or_labeled_statement-requires-clause-other
-parse_expression_or_labeled_statement-requires-clause-other g c = no_own_kind _ (λ e. c.in_default.not-LCurly (c.cur_kind.ensures ∙ e)) (λ e. c.in_default.not-Semicolon (c.cur_kind.ensures ∙ e)) (λ e. c.in_default.not-If (c.cur_kind.ensures ∙ e)) (λ e. c.in_default.not-Do (c.cur_kind.ensures ∙ e)) (λ e. c.in_default.not-While (c.cur_kind.ensures ∙ e)) (λ e. c.in_default.not-With (c.cur_kind.ensures ∙ e)) (λ e. c.in_default.not-Break (c.cur_kind.ensures ∙ e)) (λ e. c.in_default.not-Continue (c.cur_kind.ensures ∙ e)) (λ e. c.in_default.not-Return (c.cur_kind.ensures ∙ e)) (λ e. c.requires.no_function.0 e (plain_here c.args.p.now e refl c.escaped_word_stands.ensures c.if-escaped_word_stands.false).1) (λ e. c.in_default.not-Throw (c.cur_kind.ensures ∙ e)) (λ e. c.in_default.not-Switch (c.cur_kind.ensures ∙ e)) (λ e. c.in_default.not-Try (c.cur_kind.ensures ∙ e)) (λ e. c.in_default.not-For (c.cur_kind.ensures ∙ e)) (λ e. c.in_default.not-Debugger (c.cur_kind.ensures ∙ e)) (λ e. c.in_default.not-Var (c.cur_kind.ensures ∙ e)) (λ e. c.requires.other e (plain_here c.args.p.now e refl c.escaped_word_stands.ensures c.if-escaped_word_stands.false).1)
+pub parse_expression_or_labeled_statement-requires-in_default-clause-other : goal.parse_expression_or_labeled_statement-requires-in_default-clause-other
+parse_expression_or_labeled_statement-requires-in_default-clause-other g c = keyword_none c.args.p.now.token statement_kinds (no_own_kind _ (λ e. c.in_default.not-LCurly (c.cur_kind.ensures ∙ e)) (λ e. c.in_default.not-Semicolon (c.cur_kind.ensures ∙ e)) (λ e. c.in_default.not-If (c.cur_kind.ensures ∙ e)) (λ e. c.in_default.not-Do (c.cur_kind.ensures ∙ e)) (λ e. c.in_default.not-While (c.cur_kind.ensures ∙ e)) (λ e. c.in_default.not-With (c.cur_kind.ensures ∙ e)) (λ e. c.in_default.not-Break (c.cur_kind.ensures ∙ e)) (λ e. c.in_default.not-Continue (c.cur_kind.ensures ∙ e)) (λ e. c.in_default.not-Return (c.cur_kind.ensures ∙ e)) (λ e. c.requires.no_function.0 e (plain_here c.args.p.now e refl c.escaped_word_stands.ensures c.if-escaped_word_stands.false).1) (λ e. c.in_default.not-Throw (c.cur_kind.ensures ∙ e)) (λ e. c.in_default.not-Switch (c.cur_kind.ensures ∙ e)) (λ e. c.in_default.not-Try (c.cur_kind.ensures ∙ e)) (λ e. c.in_default.not-For (c.cur_kind.ensures ∙ e)) (λ e. c.in_default.not-Debugger (c.cur_kind.ensures ∙ e)) (λ e. c.in_default.not-Var (c.cur_kind.ensures ∙ e)) (λ e. c.requires.other e (plain_here c.args.p.now e refl c.escaped_word_stands.ensures c.if-escaped_word_stands.false).1)) refl
 
 pub returns-in-If : goal.returns-in-If
 returns-in-If g c = λ b u. c.parse_if_statement.ensures b

@@ -1,11 +1,13 @@
 use Rattle.std.proofs.Common.{◌∙◌, ap, arith, subst}
 use Rattle.std.proofs.lemmas.Result.{err_from_is_err_and}
 use Rattle.js_parsing.proofs.Moving.{standing, stops_so, stops_behind}
-use Rattle.js_base.specs.Contexts.{has_flag, in_flag}
+use Rattle.js_base.specs.Contexts.{has_flag, in_flag, yield_flag, await_flag}
 use Rattle.js_base.specs.declared.span.Span.{Span}
 use Rattle.js_base.specs.declared.token.Token.{Token}
 use Rattle.js_parsing.specs.Statements.{IsLabel}
 use Rattle.js_parsing.proofs.Nesting.{nests_later, later_room}
+use Rattle.js_parsing.proofs.NodeTexts.{name_word, spells_later}
+use Rattle.js_parsing.proofs.NameKinds.{listed_name}
 use Rattle.js_parsing.proofs.Verdicts.{after}
 use Rattle.js_statements.proofs.Statements.{ended_so, in_of, no_colon, no_label, no_label_here, statement_answers, statement_fails, statement_unended}
 use Rattle.js_statements.proofs.WordLookaheads.{async_named}
@@ -47,7 +49,13 @@ pub parse_labeled_statement_rest-requires-clause-colon : goal.parse_labeled_stat
 parse_labeled_statement_rest-requires-clause-colon t c = (c.is_label.ensures.0 c.if-is_label.true).colon
 
 pub parse_labeled_statement_rest-requires-clause-start : goal.parse_labeled_statement_rest-requires-clause-start
-parse_labeled_statement_rest-requires-clause-start t c = let i = (c.in_ok-expression.ensures.answers _ _ c.requires.at).answer.further in let s = ap (λ (s : Span). s.start) (c.span.ensures ∙ ap (λ (t : Token). t.span) c.cur_token-first.ensures) in omega arith
+parse_labeled_statement_rest-requires-clause-start t c = let i = (c.in_ok-expression.ensures.answers _ _ c.requires.at).answer.further in let s = ap (λ (s : Span). s.start) (ap (λ (t : Token). t.span) c.cur_token-first.ensures) in omega arith
 
 pub returns-then-is_label : goal.returns-then-is_label
-returns-then-is_label t c = λ b u text f a. c.parse_labeled_statement_rest.ensures text f c.args.p.now _ a (c.span.ensures ∙ ap (λ (t : Token). t.span) c.cur_token-first.ensures) (c.in_ok-expression.ensures.answers text f a) (subst (λ (t : Token). IsLabel t c.parse_sequence_expression.new.p) c.cur_token-first.ensures (c.is_label.ensures.0 c.if-is_label.true)) b
+returns-then-is_label t c = λ b u text f a. c.parse_labeled_statement_rest.ensures text f c.args.p.now _ a (ap (λ (t : Token). t.span) c.cur_token-first.ensures) (c.in_ok-expression.ensures.answers text f a) (subst (λ (t : Token). IsLabel t c.parse_sequence_expression.new.p) c.cur_token-first.ensures (c.is_label.ensures.0 c.if-is_label.true)) b
+
+pub parse_labeled_statement_rest-requires-clause-spells : goal.parse_labeled_statement_rest-requires-clause-spells
+parse_labeled_statement_rest-requires-clause-spells t c =
+    let x = (c.in_ok-expression.ensures.answers _ _ c.requires.at).answer in
+    let i : IsLabel c.args.p.now.token c.parse_sequence_expression.new.p = subst (λ (t : Token). IsLabel t c.parse_sequence_expression.new.p) c.cur_token-first.ensures (c.is_label.ensures.0 c.if-is_label.true) in
+    spells_later c.requires.at (name_word c.args.p.now.token.kind (listed_name (has_flag yield_flag c.parse_sequence_expression.new.p.ctx) (has_flag await_flag c.parse_sequence_expression.new.p.ctx) c.args.p.now.token.kind i.name)) c.cur_token-first.ensures x.same.follows.text

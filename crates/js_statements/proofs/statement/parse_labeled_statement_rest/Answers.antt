@@ -43,10 +43,10 @@ end_span-span-requires t c =
     let a = made_at c.requires.at d in
     let m = c.in_ok-advance.ensures _ _ a in
     let y = c.in_ok-body.ensures _ _ m.at in
-    let i = c.requires.start in let j = a.behind in let k = m.further in let l = m.at.behind in let n = y.further in let s = ap (λ (q : Parser). q.prev_token_end) d.stays in omega arith
+    let u = c.start-start.ensures in let i = c.requires.start in let j = a.behind in let k = m.further in let l = m.at.behind in let n = y.further in let s = ap (λ (q : Parser). q.prev_token_end) d.stays in omega arith
 
 pub returns : goal.returns
 returns t c = λ text f first id a e x i b.
     let d = c.in_ok-label.ensures in
     let m = c.in_ok-advance.ensures text f (made_at x.answer.at d) in
-    label_answers a x i e d m b _ (c.in_ok-body.ensures text f m.at) (c.end_span-span.ensures.start ∙ ap (λ (s : Span). s.start) e) c.end_span-span.ensures.end c.in_ok-node.ensures
+    label_answers a x i e d m b _ (c.in_ok-body.ensures text f m.at) (c.end_span-span.ensures.start ∙ (c.start-start.ensures ∙ ap (λ (s : Span). s.start) e)) c.end_span-span.ensures.end c.in_ok-node.ensures

@@ -27,4 +27,4 @@ pub is_string-is_directive-requires : goal.is_string-is_directive-requires
 is_string-is_directive-requires t c = child_below (c.in_ok-expression.ensures.answers _ _ c.requires.at) c.in_ok-end_statement.ensures
 
 pub returns : goal.returns
-returns t c = opening_taken _ _ _ c.is_string-is_directive.result (λ l text f a. opening_answers l c.is_string-is_directive.result c.opening_kind-kind.result c.end_span-span.result a c.requires.string (in_of a c.requires.allows_in) (c.in_ok-expression.ensures.answers text f a) c.in_ok-end_statement.ensures c.is_string-is_directive.ensures c.opening_kind-kind.ensures (c.end_span-span.ensures.start ∙ c.cur_start-start.ensures) c.end_span-span.ensures.end c.in_ok-node.ensures)
+returns t c = opening_taken _ _ _ c.is_string-is_directive.result (λ l text f a. opening_answers l c.is_string-is_directive.result c.opening_kind-kind.result c.end_span-span.result a c.requires.string (in_of a c.requires.allows_in) (c.in_ok-expression.ensures.answers text f a) c.in_ok-end_statement.ensures c.is_string-is_directive.ensures c.opening_kind-kind.ensures.kind (c.end_span-span.ensures.start ∙ c.cur_start-start.ensures) c.end_span-span.ensures.end c.in_ok-node.ensures)

@@ -11,4 +11,4 @@ returns-in_default c = shorthand_none {id = c.args.id} (sym c.in_default.is ∙ 
 pub returns : goal.returns
 returns c =
     let x = c.in_ok-node.ensures in
-    shorthand_made {id = c.args.id} (sym c.in-Some.is ∙ c.child_at.ensures) c.child_at-initialiser.ensures (record { node = x.node; made = x.made; label_is = x.label_is ∙ relabels node.AssignmentTargetPropertyIdentifier (node_at c.args.ast.now c.args.id) c.span-span.ensures; children = x.children })
+    shorthand_made {id = c.args.id} (sym c.in-Some.is ∙ c.child_at.ensures) c.child_at-initialiser.ensures (record { node = x.node; made = x.made; label_is = x.label_is ∙ relabels node.AssignmentTargetPropertyIdentifier (node_at c.args.ast.now c.args.id) c.span-span.ensures; children = x.children; plain = x.plain })

@@ -5,4 +5,4 @@ use Rattle.js_cursor.proofs.parser.ParserImpl.pass.Goals as goal
 pub returns : goal.returns
 returns g c =
     let k = c.is_kind-self-inside.ensures in
-    rw (c.copy_of-self-inside.ensures) (passed_seen c.self.view_is c.requires.at c.requires.whole c.requires.some c.in_ok-next.ensures.ok (λ t. sym c.kind.ensures ∙ k.0 t, λ e. k.1 (c.kind.ensures ∙ e)) c.end-self-inside.ensures)
+    passed_seen c.self.view_is c.requires.at c.requires.whole c.requires.some c.in_ok-next.ensures.ok (λ t. sym c.kind.ensures ∙ k.0 t, λ e. k.1 (c.kind.ensures ∙ e)) c.end-self-inside.ensures

@@ -1,0 +1,2 @@
+mod FirstProperty
+mod WasRead

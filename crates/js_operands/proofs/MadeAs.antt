@@ -1,0 +1,32 @@
+-- Nodes of a kind that is no name and no string, made with flags.
+use Rattle.std.proofs.Common.{◌≡◌, false, List, [], Option, None, refl, subst}
+use Rattle.std.specs.Prelude.{Result, Ok, Err, IfOk, chars}
+use Rattle.js_base.specs.declared.no_memory.NoMemory.{NoMemory}
+use Rattle.js_base.specs.declared.span.Span.{Span}
+use Rattle.js_grammar.specs.Trees.{Label}
+use Rattle.js_tree.specs.declared.flags.NodeFlags.{NodeFlags}
+use Rattle.js_tree.specs.declared.id.NodeId.{NodeId}
+use Rattle.js_tree.specs.declared.kind.NodeKind.{NodeKind}
+use Rattle.js_tree.specs.declared.op.Op.{Op}
+use Rattle.js_tree.specs.Holding.{Makes}
+use Rattle.js_tree.specs.Nodes.{Node, label, new_node}
+use Rattle.js_tree.specs.Sources.{text_of}
+use Rattle.js_cursor.specs.Parsers.{Parser}
+use Rattle.js_parsing.specs.Moves.{MadeHere}
+use Rattle.js_parsing.specs.NodeTexts.{is_textual}
+use Rattle.js_parsing.proofs.NodeTexts.{untextual}
+
+made_of : (v : Parser) (ms : List Node) (k : NodeKind) (s : Span) (o : Op) (f : NodeFlags) (ids : List (Option NodeId)) (l : Label) (r : Result NodeId NoMemory) → label (new_node k s o f None ids) ≡ l → is_textual k ≡ false → Makes (new_node k s o f None ids) v.nodes ms r → IfOk r (λ id. MadeHere l ids v (record v { nodes = ms }) id)
+made_of v ms k s o f ids l (Ok id) n p m = record {
+  node = new_node k s o f None ids;
+  made = m;
+  label_is = n;
+  children = refl;
+  texted = untextual k None (chars (text_of (new_node k s o f None ids) v.text)) p;
+  stays = refl;
+}
+made_of v ms k s o f ids l (Err x) n p m = tt
+
+-- in a state that is seen so
+pub made_as : {u v : Parser} → v ≡ u → (ms : List Node) (k : NodeKind) (s : Span) (o : Op) (f : NodeFlags) (ids : List (Option NodeId)) (l : Label) (r : Result NodeId NoMemory) → label (new_node k s o f None ids) ≡ l → is_textual k ≡ false → Makes (new_node k s o f None ids) v.nodes ms r → IfOk r (λ id. MadeHere l ids u (record v { nodes = ms }) id)
+made_as {v = v} h ms k s o f ids l r n p m = subst (λ (x : Parser). IfOk r (λ id. MadeHere l ids x (record v { nodes = ms }) id)) h (made_of v ms k s o f ids l r n p m)
