@@ -11,12 +11,12 @@ use crate::span::Span;
 /// A placed lexeme (ECMA-262, chapter 12).
 #[derive(Debug, Clone, Copy, PartialEq, Eq)]
 pub struct Token {
-    // In this order it takes twelve bytes.
+    // In this order it takes twelve bytes, and its span is read back as it was written, by one word.
+    span: Span,
     kind: Kind,
     is_on_new_line: bool,
     escaped: bool,
     has_separator: bool,
-    span: Span,
 }
 
 /// A list of tokens.

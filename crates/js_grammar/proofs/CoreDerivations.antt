@@ -1,16 +1,16 @@
--- From core lexemes the whole grammar and the core grammar derive the same.
+-- From core lexemes the productions that are built and the core grammar derive the same.
 use Rattle.std.proofs.Common.{ℕ, ◌≡◌, Bool, true, false, not, cond, ◌||◌, List, [], ◌∷◌, IsTrue, refl, sym, subst}
 use Rattle.std.proofs.lemmas.Bool.{false≢true, or_left, or_right, and_parts}
 use Rattle.js_base.specs.declared.kind.Kind.{Kind}
 use Rattle.js_base.specs.Kinds.{same_kind, one_of_kinds}
 use Rattle.js_base.proofs.KindLemmas.{kind_of_same}
 use Rattle.js_grammar.specs.Trees.{Label, Slots, end, Tree}
-use Rattle.js_grammar.specs.Grammar.{Make, Lexeme, Lexemes, last, next, here, Look, seen, nothing, never, lexeme, look, text, ahead, empty_slot, seq, alt, when, many, commas, such, marked, node, ended, keep, kept, semicolon, Takes, is_nothing, is_lexeme, is_look, is_text, is_ahead, is_empty_slot, is_seq, is_left, is_right, is_when, is_many, is_commas, is_such, is_marked, is_node, is_ended, is_keep, is_kept}
+use Rattle.js_grammar.specs.Grammar.{Make, Lexeme, Lexemes, last, next, here, Look, seen, nothing, never, lexeme, look, text, ahead, empty_slot, seq, alt, when, many, commas, such, marked, node, ended, keep, kept, semicolon, Takes, is_nothing, is_lexeme, is_look, is_text, is_ahead, is_empty_slot, is_seq, is_left, is_right, is_when, is_many, is_commas, is_such, is_marked, is_node, is_ended, is_keep, is_kept, Derives}
 use Rattle.js_grammar.specs.Productions.{Symbol, G}
 use Rattle.js_grammar.specs.Table.{rule}
 use Rattle.js_grammar.specs.Pruning.{is_never, is_nothing as is_idle, some_kind, every_kind, some_line, each_line, seq_of, alt_of, many_of, if_some, pruned}
 use Rattle.js_grammar.specs.CoreGrammar.{core_kinds, dead, core_rule}
-use Rattle.js_grammar.specs.CoreReadings.{core_lexeme, AllCore, CoreDerivations}
+use Rattle.js_grammar.specs.CoreReadings.{core_lexeme, AllCore}
 use Rattle.js_grammar.proofs.CoreProductions.{core_at, dead_at}
 
 abbrev prune : G → G
@@ -333,5 +333,5 @@ back (is_ended {rows = rows} {cs = cs} {ls = ls} q d e) (cut_ended x) c = is_end
 back (is_keep d e) (cut_keep x y) c = is_keep (back d x c) (back e y (stays d c))
 back (is_kept q) cut_kept c = is_kept q
 
-pub core_derives : CoreDerivations
+pub core_derives : (n : Symbol) (t : Tree) (i j : ℕ) (ls rest : Lexemes) → AllCore ls → (Derives rule n t i ls j rest → Derives core_rule n t i ls j rest) × (Derives core_rule n t i ls j rest → Derives rule n t i ls j rest)
 core_derives n t i j ls rest c = (λ d. as_line n (there d c), λ d. back d (line n) c)

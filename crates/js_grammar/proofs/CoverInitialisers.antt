@@ -1,10 +1,10 @@
 -- Where shorthands with an initialiser stand in a tree of the cover grammar, and that a tree without them is derived strictly (ECMA-262, 13.2.5).
-use Rattle.std.proofs.Common.{ℕ, zero, suc, ◌+◌, ◌<◌, ◌≤◌, arith, ◌≡◌, Bool, true, false, not, cond, ◌&&◌, ◌||◌, IsTrue, List, [], ◌∷◌, ◌++◌, nat_eq, rules, refl, sym, ap, subst, ◌∙◌}
+use Rattle.std.proofs.Common.{ℕ, zero, suc, ◌+◌, ◌<◌, ◌≤◌, arith, ◌≡◌, Bool, true, false, cond, ◌&&◌, ◌||◌, IsTrue, List, [], ◌∷◌, ◌++◌, nat_eq, rules, refl, sym, ap, subst, ◌∙◌}
 use Rattle.std.proofs.lemmas.Bool.{false≢true, and_parts}
-use Rattle.js_grammar.specs.Trees.{NodeKind, object_property, function_expression, arrow_function_expression, Label, Op, Span, Slots, end, hole, tree, Tree, append}
+use Rattle.js_grammar.specs.Trees.{NodeKind, function_expression, arrow_function_expression, Label, Op, Span, Slots, end, hole, tree, Tree, append}
 use Rattle.js_grammar.specs.Grammar.{Make, Lexeme, Lexemes, last, next, here, seen, nothing, never, lexeme, look, text, ahead, empty_slot, seq, alt, when, many, commas, such, marked, node, ended, keep, kept, label_of, semicolon, many_once, commas_once, Takes, Derives, is_nothing, is_lexeme, is_look, is_text, is_ahead, is_empty_slot, is_seq, is_left, is_right, is_when, is_many, is_commas, is_such, is_marked, is_node, is_ended, is_keep, is_kept}
 use Rattle.js_grammar.specs.Lexed.{Lex, Lexes, all_faults}
-use Rattle.js_grammar.specs.Productions.{G, Flags, Name, Symbol, at, with_pife, shorthand_flag, IdentifierReference, Property, LooseHead, Program}
+use Rattle.js_grammar.specs.Productions.{G, Flags, Name, Symbol, at, with_pife, shorthand_flag, Property, LooseHead, Program}
 use Rattle.js_grammar.specs.Table.{rule, rule_of}
 use Rattle.js_grammar.specs.CoverInitialisers.{is_property, is_shorthand, has_third, is_initialised, initialised_in, initialised_of, with_cover}
 use Rattle.js_grammar.specs.Marks.{DerivedAt, has_initialiser}

@@ -16,6 +16,7 @@ use Rattle.js_grammar.specs.Settings.{script}
 use Rattle.js_grammar.specs.Options.{program_flags}
 use Rattle.js_grammar.specs.Readings.{IsDerived}
 use Rattle.js_grammar.specs.Table.{rule, rule_of}
+use Rattle.js_grammar.proofs.BuiltLines.{in_whole}
 use Rattle.js_grammar.specs.Longest.{joined}
 use Rattle.js_grammar.specs.Numbers.{stops_number}
 use Rattle.js_grammar.proofs.LongestLemmas.{both, both-left, both-right}
@@ -47,11 +48,11 @@ expression p = through (operand p)
 around : {t : Label} {cs : Slots} {i j : ℕ} {x y : Lexeme} {ls rest : Lexemes} → IsTrue (seen (is LBrack) x) → IsTrue (seen (is RBrack) y) → Takes rule (rule (at Assignment F)) end (tree t cs end) x.to ls end j (next y rest)
     → Takes rule (rule (at Primary F)) end (tree (label array_expression no_op 0 x.from y.to) (tree t cs end) end) i (next x ls) end y.to rest
 unfolding rule rule_of
-around o c d = is_right (is_right (is_right (is_right (is_right (is_right (is_right (is_right (is_right (is_right (is_right (is_left (is_node (is_seq (is_lexeme o) (is_seq (is_seq (is_many (is_right is_nothing)) (is_left (is_such (through d) refl))) (is_lexeme c)))))))))))))))
+around o c d = is_right (is_right (is_right (is_right (is_right (is_right (is_right (is_right (is_right (is_right (is_left (is_node (is_seq (is_lexeme o) (is_seq (is_seq (is_many (is_right is_nothing)) (is_left (is_such (through d) refl))) (is_lexeme c))))))))))))))
 
 empty : {i : ℕ} {x y : Lexeme} {rest : Lexemes} → IsTrue (seen (is LBrack) x) → IsTrue (seen (is RBrack) y) → Takes rule (rule (at Primary F)) end (tree (label array_expression no_op 0 x.from y.to) end end) i (next x (next y rest)) end y.to rest
 unfolding rule rule_of
-empty o c = is_right (is_right (is_right (is_right (is_right (is_right (is_right (is_right (is_right (is_right (is_right (is_left (is_node (is_seq (is_lexeme o) (is_seq (is_seq (is_many (is_right is_nothing)) (is_right (is_right is_nothing))) (is_lexeme c)))))))))))))))
+empty o c = is_right (is_right (is_right (is_right (is_right (is_right (is_right (is_right (is_right (is_right (is_left (is_node (is_seq (is_lexeme o) (is_seq (is_seq (is_many (is_right is_nothing)) (is_right (is_right is_nothing))) (is_lexeme c))))))))))))))
 
 -- A text that is one expression.
 alone : {t : Label} {cs : Slots} {i e : ℕ} {ls : Lexemes} → IsTrue (seen (other (is_one_of (LCurly ∷ 'function' ∷ 'class' ∷ At ∷ []))) (here ls)) → IsTrue (seen (other (is 'async')) (here ls)) → IsTrue (seen (other (is 'let')) (here ls))
@@ -60,7 +61,7 @@ alone : {t : Label} {cs : Slots} {i e : ℕ} {ls : Lexemes} → IsTrue (seen (ot
 unfolding rule rule_of
 alone a b c s d =
     is_node (is_seq (is_right is_nothing) (is_seq (is_many (is_right is_nothing)) (is_left (is_seq
-    (is_such (through (is_right (is_left (is_seq (is_left (is_look c)) (is_such (is_node (is_seq (is_look a) (is_seq (is_left (is_look b)) (is_seq (is_left (is_look c)) (is_ended refl (is_such d refl) (is_right (is_look refl))))))) refl))))) s)
+    (is_such (is_such (is_right (is_left (is_seq (is_left (is_look c)) (is_such (is_node (is_seq (is_look a) (is_seq (is_left (is_look b)) (is_seq (is_left (is_look c)) (is_ended refl (is_such d refl) (is_right (is_look refl))))))) refl)))) refl) s)
     (is_many (is_right is_nothing))))))
 
 -- Brackets.
@@ -152,8 +153,8 @@ nested_arrays = record {
   lexed = record { lexes = all_right in_script brackets 0 (first 300 the_end) (others 300 the_end []) (spells_right brackets (characters (first 300 the_end) (others 300 the_end [])) refl) (pairs_stand 300 0 the_end [] refl (λ a. refl)); ends = refl };
   end = 600;
   final = end_at 600;
-  derived = subst (λ (ls : Lexemes). Derives rule (program_at script false false) (record { label = label program no_op 0 0 600; slots = tree (label expression_statement no_op 0 0 600) (arrays 300 0) end }) 0 ls 600 (last (end_at 600))) (sym (pairs_are 300 0 the_end []))
-      (alone refl refl refl refl (expression (arrays_derived 299 0 (last (end_at 600)))));
+  derived = in_whole (program_at script false false) _ (subst (λ (ls : Lexemes). Derives rule (program_at script false false) (record { label = label program no_op 0 0 600; slots = tree (label expression_statement no_op 0 0 600) (arrays 300 0) end }) 0 ls 600 (last (end_at 600))) (sym (pairs_are 300 0 the_end []))
+      (alone refl refl refl refl (expression (arrays_derived 299 0 (last (end_at 600))))));
 }
 
 -- Parentheses, in each an assignment, and in the innermost a number: `(a = ` so many times, `1`, and as many `)`.
@@ -185,9 +186,9 @@ in_parens : {t : Label} {cs : Slots} {i j a b : ℕ} {ls rest : Lexemes} → Tak
     → Takes rule (rule (at Primary F)) end (tree (label parenthesized_expression no_op 0 a (j + 1)) (tree (label assignment_expression (of Eq) 0 (a + 1) j) (tree (label identifier_reference no_op 0 (a + 1) (a + 1 + 1)) end (tree t cs end)) end) end) i (next (placed LParen a []) (next (placed Ident (a + 1) (codes "a")) (next (placed Eq b []) ls))) end (j + 1) rest
 unfolding rule rule_of
 in_parens d =
-    is_right (is_right (is_right (is_right (is_right (is_right (is_right (is_right (is_right (is_right (is_right (is_right (is_left (is_node (is_seq (is_lexeme refl) (is_seq
+    is_right (is_right (is_right (is_right (is_right (is_right (is_right (is_right (is_right (is_right (is_right (is_left (is_node (is_seq (is_lexeme refl) (is_seq
     (is_marked (through (is_right (is_right (is_right (is_left (is_left (is_node (is_seq (is_such (through (is_node (is_lexeme refl))) refl) (is_seq (is_lexeme refl) (is_such d refl)))))))))))
-    (is_lexeme refl))))))))))))))))
+    (is_lexeme refl)))))))))))))))
 
 assignments_derived : (k i a : ℕ) (rest : Lexemes) → Takes rule (rule (at Primary F)) end (tree (node_label k a) (node_slots k a) end) i (assignments k a rest) end (close k a) rest
 assignments_derived zero i a rest = a_number
@@ -318,7 +319,7 @@ nested_assignments = record {
   };
   end = 1801;
   final = end_at 1801;
-  derived = subst (λ (ls : Lexemes). Derives rule (program_at script false false) (record { label = label program no_op 0 0 1801; slots = tree (label expression_statement no_op 0 0 1801) (tree (node_label 300 0) (node_slots 300 0) end) end }) 0 ls 1801 (last (end_at 1801)))
+  derived = in_whole (program_at script false false) _ (subst (λ (ls : Lexemes). Derives rule (program_at script false false) (record { label = label program no_op 0 0 1801; slots = tree (label expression_statement no_op 0 0 1801) (tree (node_label 300 0) (node_slots 300 0) end) end }) 0 ls 1801 (last (end_at 1801)))
       (sym (ap (λ (ls : Lexemes). next (placed LParen 0 []) ls) (inside_are 299 0 the_end [] (assignments_are 299 4 shut (the_end ∷ [])))))
-      (alone refl refl refl refl (expression (assignments_derived 300 0 0 (last (end_at 1801)))));
+      (alone refl refl refl refl (expression (assignments_derived 300 0 0 (last (end_at 1801))))));
 }

@@ -4,10 +4,10 @@ use Rattle.js_base.specs.declared.kind.Kind.{Kind}
 use Rattle.js_base.specs.declared.kind.Kind.TheVariants.{LParen, LBrack, Semicolon, Comma, Dot, Arrow, Question, QuestionDot, Plus2, Minus2, Eof}
 use Rattle.js_base.specs.Kinds.{same_kind, one_of_kinds}
 use Rattle.js_grammar.specs.Trees.{Slots, end, Tree}
-use Rattle.js_grammar.specs.Grammar.{Lexeme, Lexemes, here, last, next, seen, may_omit, Takes, Derives}
+use Rattle.js_grammar.specs.Grammar.{Lexeme, Lexemes, here, last, next, seen, may_omit, Takes, Derives, ◌◇◌}
 use Rattle.js_grammar.specs.Insertion.{assign_operators, binary_operators, by_edge}
 use Rattle.js_grammar.specs.Productions.{Name, Flags, Program, Expression, Symbol, G, at, sym}
-use Rattle.js_grammar.specs.Table.{rule_of, rule, string}
+use Rattle.js_grammar.specs.Table.{rule_of, unbuilt_of, whole, string}
 use Rattle.js_grammar.specs.Pruning.{pruned}
 use Rattle.js_grammar.specs.CoreGrammar.{core_kinds, dead, core_of, core_rule}
 use Rattle.js_grammar.specs.CoreTexts.{CoreSource}
@@ -43,7 +43,7 @@ pub record IsDerived (text : List ℕ) (v8 : Bool) (t : Tree) : Type 0 where
   pub lexed : Lexed script text lexemes
   pub end : ℕ
   pub final : Lexeme
-  pub derived : Derives rule (at Program (program_flags script (core_options v8))) t 0 lexemes end (last final)
+  pub derived : Derives whole (at Program (program_flags script (core_options v8))) t 0 lexemes end (last final)
 
 -- On core texts that is the same.
 abbrev pub CoreReading : Type 0
@@ -76,8 +76,8 @@ CoreLexemes = (text : List ℕ) → IsUtf8 text → CoreSource text → (goal : 
 
 -- From core lexemes the whole grammar and the core grammar derive the same.
 abbrev pub CoreDerivations : Type 0
-CoreDerivations = (n : Symbol) (t : Tree) (i j : ℕ) (ls rest : Lexemes) → AllCore ls → (Derives rule n t i ls j rest → Derives core_rule n t i ls j rest) × (Derives core_rule n t i ls j rest → Derives rule n t i ls j rest)
+CoreDerivations = (n : Symbol) (t : Tree) (i j : ℕ) (ls rest : Lexemes) → AllCore ls → (Derives whole n t i ls j rest → Derives core_rule n t i ls j rest) × (Derives core_rule n t i ls j rest → Derives whole n t i ls j rest)
 
 -- Each line of the core grammar is the line of the whole one, cut down to core lexemes.
 abbrev pub CoreLines : Type 0
-CoreLines = (n : Name) (f : Flags) → pruned dead core_kinds (rule_of n f) ≡ core_of n f
+CoreLines = (n : Name) (f : Flags) → pruned dead core_kinds (rule_of n f ◇ unbuilt_of n f) ≡ core_of n f

@@ -1,19 +1,19 @@
--- What a derivation of each nonterminal may begin with, whatever its parameters.
+-- What a derivation of each nonterminal by the productions that are built may begin with, whatever its parameters.
 use Rattle.std.specs.Prelude.{Bool, true, false, not, ◌&&◌, ◌||◌, [], ◌∷◌}
 use Rattle.js_base.specs.declared.kind.Kind.{Kind}
 use Rattle.js_base.specs.declared.kind.Kind.TheVariants.{LParen, LCurly, LBrack, Semicolon, Dot3, At, Tilde, Bang, Plus, Plus2, Minus, Minus2, Star, Percent, Eq, PrivateIdentifier, Str, RegExp, NoSubstitutionTemplate, TemplateHead}
 use Rattle.js_base.specs.Kinds.{same_kind, one_of_kinds}
-use Rattle.js_grammar.specs.Words.{'break', 'case', 'catch', 'class', 'const', 'continue', 'debugger', 'default', 'delete', 'do', 'export', 'false', 'for', 'function', 'if', 'import', 'new', 'null', 'return', 'super', 'switch', 'this', 'throw', 'true', 'try', 'typeof', 'var', 'void', 'while', 'with', 'let', 'yield', 'async', 'assert'}
+use Rattle.js_grammar.specs.Words.{'break', 'case', 'catch', 'class', 'const', 'continue', 'debugger', 'delete', 'do', 'export', 'false', 'for', 'function', 'if', 'import', 'new', 'null', 'return', 'super', 'switch', 'this', 'throw', 'true', 'try', 'typeof', 'var', 'void', 'while', 'with', 'let', 'yield', 'async', 'assert'}
 use Rattle.js_grammar.specs.Insertion.{is_word, may_bind, begins_name, is_number}
 use Rattle.js_grammar.specs.Grammar.{Look}
 use Rattle.js_grammar.specs.Productions.{Name, Symbol, Program, Directive, Item, ListItem, Statement, Sub, Block, Empty, ExprStmt, Var, Lexical, Init, If, Do, While, With, For, ForInit, ForIn, ForOf, Continue, Break, Return, Throw, Switch, Case, Try, Catch, Debugger, Labeled, Function, FuncExpr, Params, Param, Rest, Body, Arrow', Class, ClassExpr, ClassBody, Element, Decorator, DecoratorMember, Object, Property, Yield, Shift, Additive, Multiply, Exponent, Unary, Update, LeftHandSide, New, Member, Call, Chain, Links, Super, Argument, Primary, Template, IdentifierReference, BindingIdentifier, LabelIdentifier, IdentifierName, PrivateName, SimpleTarget, Target, ArrayTarget, ObjectTarget, TargetElement, TargetProperty, Binding, BElement, Pattern, PatternProperty, BindingRest, ImportDecl, Spec, ExportName, Attrs, Attr, ExportDecl, LooseHead}
 
 -- Expressions, from primary ones to those that may be `#name in ..`.
 abbrev pub begins_primary : Kind → Bool
-begins_primary k = may_bind k || (is_number k || one_of_kinds ('this' ∷ 'null' ∷ 'true' ∷ 'false' ∷ Str ∷ RegExp ∷ LParen ∷ LBrack ∷ LCurly ∷ 'function' ∷ 'class' ∷ At ∷ NoSubstitutionTemplate ∷ TemplateHead ∷ Percent ∷ []) k)
+begins_primary k = may_bind k || (is_number k || one_of_kinds ('this' ∷ 'null' ∷ 'true' ∷ 'false' ∷ Str ∷ RegExp ∷ LParen ∷ LBrack ∷ LCurly ∷ 'function' ∷ NoSubstitutionTemplate ∷ TemplateHead ∷ Percent ∷ []) k)
 
 abbrev pub begins_member : Kind → Bool
-begins_member k = begins_primary k || one_of_kinds ('new' ∷ 'import' ∷ 'super' ∷ []) k
+begins_member k = begins_primary k || one_of_kinds ('new' ∷ 'super' ∷ []) k
 
 abbrev pub begins_unary : Kind → Bool
 begins_unary k = begins_member k || one_of_kinds (Plus2 ∷ Minus2 ∷ Minus ∷ Plus ∷ Bang ∷ Tilde ∷ 'typeof' ∷ 'void' ∷ 'delete' ∷ []) k
@@ -26,7 +26,7 @@ abbrev pub begins_statement : Kind → Bool
 begins_statement k = may_bind k || one_of_kinds (LCurly ∷ Semicolon ∷ 'var' ∷ 'if' ∷ 'do' ∷ 'while' ∷ 'with' ∷ 'for' ∷ 'continue' ∷ 'break' ∷ 'return' ∷ 'throw' ∷ 'switch' ∷ 'try' ∷ 'debugger' ∷ []) k
 
 abbrev pub begins_expression_statement : Kind → Bool
-begins_expression_statement k = begins_expression k && not (one_of_kinds (LCurly ∷ 'function' ∷ 'class' ∷ At ∷ []) k)
+begins_expression_statement k = begins_expression k && not (one_of_kinds (LCurly ∷ 'function' ∷ []) k)
 
 -- what a name of a property or of a class element begins with
 abbrev pub begins_property_name : Kind → Bool
@@ -39,7 +39,7 @@ begins_binding k = may_bind k || one_of_kinds (LBrack ∷ LCurly ∷ []) k
 abbrev pub first_of : Name → Kind → Bool
 first_of Program k = true
 first_of Directive k = same_kind Str k
-first_of Item k = begins_statement k || (begins_expression k || one_of_kinds ('const' ∷ 'import' ∷ 'export' ∷ []) k)
+first_of Item k = begins_statement k || (begins_expression k || same_kind 'const' k)
 first_of ListItem k = begins_statement k || (begins_expression k || same_kind 'const' k)
 first_of Statement k = begins_statement k
 first_of Sub k = begins_statement k || (begins_expression_statement k || same_kind 'function' k)

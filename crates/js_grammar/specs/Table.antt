@@ -1,4 +1,4 @@
--- The grammar of JavaScript (ECMA-262, 16th edition, chapters 11 to 16 and annex B.3), a line for each production, in the order of the standard where it has one. Left recursion stands as in the standard. A symbol derives a node, and most lines say which; a line without one passes on the node of another symbol.
+-- The grammar of JavaScript (ECMA-262, 16th edition, chapters 11 to 16 and annex B.3), a line for each production, in the order of the standard where it has one; the lines that are not built yet come last. Left recursion stands as in the standard. A symbol derives a node, and most lines say which; a line without one passes on the node of another symbol.
 use Rattle.std.specs.Prelude.{ℕ, ◌+◌, Bool, true, false, not, cond, ◌&&◌, ◌||◌, List, [], ◌∷◌, codes, bytes_eq}
 use Rattle.js_base.specs.declared.kind.Kind.{Kind}
 use Rattle.js_base.specs.declared.kind.Kind.TheVariants.{LCurly, LBrack, RBrack, Semicolon, Comma, Colon, Dot, Dot3, Arrow, At, Tilde, Bang, Question, QuestionDot, Question2, Plus, Plus2, Minus, Minus2, Star, Star2, Slash, Percent, Eq, Eq2, Eq3, Neq, Neq2, LAngle, LtEq, RAngle, GtEq, ShiftLeft, ShiftRight, ShiftRight3, Amp, Amp2, Pipe, Pipe2, Caret, PrivateIdentifier, Str, Decimal, Float, Binary, Octal, Hex, PositiveExponential, NegativeExponential, DecimalBigInt, BinaryBigInt, OctalBigInt, HexBigInt, RegExp, NoSubstitutionTemplate, TemplateHead, TemplateMiddle, TemplateTail, HashbangComment}
@@ -157,9 +157,9 @@ rule_of Program f = node (record { kind = program; op = no_op; flags = 0; extent
 -- a Directive Prologue (11.2.1)
 rule_of Directive f = mk directive (ended by_edge string)
 -- ScriptBody (16.1), ModuleItem (16.2)
-rule_of Item f = sym ListItem f ◇ when f.module_goal (sym ImportDecl f ◇ sym ExportDecl f)
+rule_of Item f = sym ListItem f
 -- StatementListItem (14.2); an expression statement here does not begin with `let` and a name or `{`
-rule_of ListItem f = sym Statement f ◇ not_then (is 'let') (word_or (LCurly ∷ [])) ▸ sym ExprStmt f ◇ sym Function f ◇ sym Class f ◇ sym Lexical f
+rule_of ListItem f = sym Statement f ◇ not_then (is 'let') (word_or (LCurly ∷ [])) ▸ sym ExprStmt f ◇ sym Function f ◇ sym Lexical f
 -- a Statement as the body of another; function declarations there (B.3.1, B.3.3)
 rule_of Sub f = sym Statement f ◇ sym ExprStmt f ◇ function_of function_declaration (sym BindingIdentifier f) false false f
 -- Statement (14), expression statements aside
@@ -304,12 +304,11 @@ rule_of Update f = sym LeftHandSide f ◇ branches (Plus2 ∷ Minus2 ∷ []) (λ
 rule_of LeftHandSide f = sym New f ◇ sym Call f ◇ sym Chain f
 -- NewExpression (13.3)
 rule_of New f = sym Member f ◇ mk new_expression (tok 'new' ▸ sym New f)
--- MemberExpression (13.3), with SuperProperty, NewTarget and ImportMeta
+-- MemberExpression (13.3), with SuperProperty and NewTarget
 rule_of Member f = sym Primary f ◇ mk new_expression (tok 'new' ▸ sym Member f ▸ args f) ◇ member_access f ◇ mk tagged_template_expression (sym Member f ▸ sym Template f)
-    ◇ when f.new_target (mk new_target_expression (tok 'new' ▸ tok Dot ▸ tok 'target')) ◇ when f.module_goal (mk import_meta (tok 'import' ▸ tok Dot ▸ tok 'meta'))
--- CallExpression (13.3), with SuperCall and ImportCall
+    ◇ when f.new_target (mk new_target_expression (tok 'new' ▸ tok Dot ▸ tok 'target'))
+-- CallExpression (13.3), with SuperCall
 rule_of Call f = mk call_expression ((sym Member f ◇ sym Super f ◇ sym Call f) ▸ args f)
-    ◇ mk import_expression (tok 'import' ▸ parens (sym Assignment (plus_in f) ▸ slot (tok Comma ▸ sym Assignment (plus_in f)) ▸ opt (tok Comma)))
     ◇ call_access f ◇ mk tagged_template_expression (sym Call f ▸ sym Template f)
 -- OptionalExpression (13.3)
 rule_of Chain f = mk chain_expression (sym Links f)
@@ -321,7 +320,7 @@ rule_of Super f = mk super_expression (tok 'super')
 rule_of Argument f = sym Assignment (plus_in f) ◇ mk spread_element (tok Dot3 ▸ sym Assignment (plus_in f))
 -- PrimaryExpression (13.2), with ArrayLiteral (13.2.4) and a call of V8
 rule_of Primary f = mk this_expression (tok 'this') ◇ sym IdentifierReference f ◇ mk null_literal (tok 'null') ◇ mk boolean_literal (any_of ('true' ∷ 'false' ∷ [])) ◇ number ◇ string
-    ◇ sym Object f ◇ sym FuncExpr f ◇ sym ClassExpr f ◇ mk reg_exp_literal (tok RegExp) ◇ sym Template f
+    ◇ sym Object f ◇ sym FuncExpr f ◇ mk reg_exp_literal (tok RegExp) ◇ sym Template f
     ◇ mk array_expression (tok LBrack ▸ items (mk elision (tok Comma)) (sym Argument f) never ▸ tok RBrack)
     ◇ paren_expression f
     ◇ when f.v8 (mk v8_intrinsic_expression (tok Percent ▸ sym IdentifierName f ▸ parens (opt (commas true (sym Assignment (plus_in f))))))
@@ -390,6 +389,26 @@ rule_of ExportDecl f = mk export_all_declaration (tok 'export' ▸ tok Star ▸ 
 -- The head of an arrow function with its parameters in parentheses, before what stands behind `=>` is looked at (CoverParenthesizedExpressionAndArrowParameterList, 13.2; CoverCallExpressionAndAsyncArrowHead, 13.3): a newline may stand before `=>`.
 rule_of LooseHead f = each (λ a. only a (tok 'async' ▸ no_newline) ▸ sym Params (record f { await_ = f.await_ || a }) ▸ tok Arrow)
 
+-- The lines of the language that no parse function reads yet, beside those above: those that begin with `class`, `import`, `export` and decorators.
+unfoldable pub unbuilt_of : Name → Flags → G
+-- ModuleItem (16.2)
+unbuilt_of Item f = when f.module_goal (sym ImportDecl f ◇ sym ExportDecl f)
+-- Declaration (14)
+unbuilt_of ListItem f = sym Class f
+-- PrimaryExpression (13.2)
+unbuilt_of Primary f = sym ClassExpr f
+-- ImportMeta (13.3)
+unbuilt_of Member f = when f.module_goal (mk import_meta (tok 'import' ▸ tok Dot ▸ tok 'meta'))
+-- ImportCall (13.3)
+unbuilt_of Call f = mk import_expression (tok 'import' ▸ parens (sym Assignment (plus_in f) ▸ slot (tok Comma ▸ sym Assignment (plus_in f)) ▸ opt (tok Comma)))
+unbuilt_of _ f = never
+
+-- The productions that are built.
 unfoldable pub rule : Symbol → G
 unfolding rule_of
 rule s = rule_of s.name s.flags
+
+-- All productions: the language.
+unfoldable pub whole : Symbol → G
+unfolding rule_of unbuilt_of
+whole s = rule_of s.name s.flags ◇ unbuilt_of s.name s.flags

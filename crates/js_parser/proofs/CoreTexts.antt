@@ -47,7 +47,7 @@ all_read : (text : List ℕ) (goal : Goal) (s : ℕ) (ls : Lexemes) → Lexes (L
 all_read text goal s (last x) l c = (l, read_so x c)
 all_read text goal s (next x ls) l c = ((l.0, read_so x c.0), all_read text goal x.to ls l.1 c.1)
 
-plainly : (text : List ℕ) (goal : Goal) (s : ℕ) (ls : Lexemes) → Lexes (Faultless goal text) s ls → Lexes (Lex (passing_of goal) text) s ls
+pub plainly : (text : List ℕ) (goal : Goal) (s : ℕ) (ls : Lexemes) → Lexes (Faultless goal text) s ls → Lexes (Lex (passing_of goal) text) s ls
 plainly text goal s (last x) l = l.0
 plainly text goal s (next x ls) l = (l.0.0, plainly text goal x.to ls l.1)
 

@@ -12,3 +12,5 @@ pub mod Cooked
 pub mod EarlyErrors
 pub mod EarlyMarks
 pub mod Leftovers
+pub mod BuiltTrees
+pub mod Validity

@@ -8,3 +8,4 @@ pub mod Taken
 pub mod NodeSpans
 pub mod CoreAnswers
 pub mod Leftover
+pub mod Language

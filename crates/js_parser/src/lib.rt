@@ -4,6 +4,7 @@
 mod answer;
 mod early;
 mod flags;
+pub mod laws;
 mod parser;
 mod program;
 

@@ -70,8 +70,9 @@ impl<'a, C: ParserConfig> Parser<'a, C> {
     }
 
     /// Reads the text. Without diagnostics the tree is the only one that Program derives from the text's lexemes and in which
-    /// no early rule is broken that is looked at so far; where something was found, there is none. All this of lexemes of the
-    /// kinds that are read so far.
+    /// no early rule is broken that is looked at so far; where something was found, there is none. All this by the
+    /// productions that are built, over lexemes of the kinds that are read so far; `laws::law_of_readings` says what it
+    /// means for the whole language.
     pub fn parse(self) -> Result<ParserReturn, NoMemory>
         // For a core text, with parentheses kept, at any goal and V8 setting: nothing is found exactly where the text
         // has a reading, which is then the tree, and is the only one.

@@ -1,8 +1,8 @@
--- The lexemes that the parse functions read so far. Of a text with another one nothing is said: as soon as every kind is among them, this is the whole language.
+-- The lexemes that the parse functions read so far: all but private names and the `@` of decorators. Of a text with another one nothing is said.
 use Rattle.std.specs.Prelude.{ℕ, ◌-◌, ◌≡◌, Bool, true, false, not, cond, ◌&&◌, ◌||◌, List, [], ◌∷◌, ◌++◌, length, take, IsTrue}
 use Rattle.js_base.specs.declared.diagnostic.Diagnostic.{Diagnostic}
 use Rattle.js_base.specs.declared.kind.Kind.{Kind}
-use Rattle.js_base.specs.declared.kind.Kind.TheVariants.{Ident, Let, Static, Implements, Interface, Package, Private, Protected, Public, Of, Get, Set, As, From, Assert, Accessor, Using, Defer, Source, Meta, Satisfies, Constructor, TypeWord, Target, Yield, Await, This, Null, True, False, Typeof, Void, Delete, In, Instanceof, Decimal, Float, Binary, Octal, Hex, PositiveExponential, NegativeExponential, DecimalBigInt, BinaryBigInt, OctalBigInt, HexBigInt, Str, RegExp, NoSubstitutionTemplate, TemplateHead, TemplateMiddle, TemplateTail, Tilde, Bang, Plus, Minus, Star, Star2, Slash, Percent, Eq2, Eq3, Neq, Neq2, LAngle, LtEq, RAngle, GtEq, ShiftLeft, ShiftRight, ShiftRight3, Amp, Amp2, Pipe, Pipe2, Caret, Question, Colon, Comma, Eof, Dot, QuestionDot, New, Super, Break, Continue, Return, Debugger, Function, Throw, Switch, Case, Default, Try, Catch, Finally, For, If, Else, While, Do, With, Var, Const, Enum, Extends, Plus2, Minus2, Eq, PlusEq, MinusEq, StarEq, SlashEq, PercentEq, ShiftLeftEq, ShiftRightEq, ShiftRight3Eq, PipeEq, CaretEq, AmpEq, Amp2Eq, Pipe2Eq, Question2Eq, Star2Eq, Semicolon, LParen, RParen, Question2, LBrack, RBrack, LCurly, RCurly, Dot3, Arrow, Async}
+use Rattle.js_base.specs.declared.kind.Kind.TheVariants.{Ident, Let, Static, Implements, Interface, Package, Private, Protected, Public, Of, Get, Set, As, From, Assert, Accessor, Using, Defer, Source, Meta, Satisfies, Constructor, TypeWord, Target, Yield, Await, This, Null, True, False, Typeof, Void, Delete, In, Instanceof, Decimal, Float, Binary, Octal, Hex, PositiveExponential, NegativeExponential, DecimalBigInt, BinaryBigInt, OctalBigInt, HexBigInt, Str, RegExp, NoSubstitutionTemplate, TemplateHead, TemplateMiddle, TemplateTail, Tilde, Bang, Plus, Minus, Star, Star2, Slash, Percent, Eq2, Eq3, Neq, Neq2, LAngle, LtEq, RAngle, GtEq, ShiftLeft, ShiftRight, ShiftRight3, Amp, Amp2, Pipe, Pipe2, Caret, Question, Colon, Comma, Eof, Dot, QuestionDot, New, Super, Break, Continue, Return, Debugger, Function, Throw, Switch, Case, Default, Try, Catch, Finally, For, If, Else, While, Do, With, Var, Const, Enum, Extends, Class, Import, Export, Plus2, Minus2, Eq, PlusEq, MinusEq, StarEq, SlashEq, PercentEq, ShiftLeftEq, ShiftRightEq, ShiftRight3Eq, PipeEq, CaretEq, AmpEq, Amp2Eq, Pipe2Eq, Question2Eq, Star2Eq, Semicolon, LParen, RParen, Question2, LBrack, RBrack, LCurly, RCurly, Dot3, Arrow, Async}
 use Rattle.js_base.specs.Kinds.{same_kind, one_of_kinds}
 use Rattle.js_grammar.specs.Grammar.{Lexeme, Lexemes, last, next}
 use Rattle.js_grammar.specs.Lexed.{Lex as StandsBehind, Lexes, all_faults, passing_of}
@@ -29,7 +29,7 @@ may_name yields awaits Await = not awaits
 may_name yields awaits k = one_of_kinds name_kinds k
 
 abbrev pub read_kinds : List Kind
-read_kinds = Eof ∷ This ∷ Null ∷ True ∷ False ∷ Typeof ∷ Void ∷ Delete ∷ In ∷ Instanceof ∷ Decimal ∷ Float ∷ Binary ∷ Octal ∷ Hex ∷ PositiveExponential ∷ NegativeExponential ∷ DecimalBigInt ∷ BinaryBigInt ∷ OctalBigInt ∷ HexBigInt ∷ Str ∷ RegExp ∷ NoSubstitutionTemplate ∷ TemplateHead ∷ TemplateMiddle ∷ TemplateTail ∷ Tilde ∷ Bang ∷ Plus ∷ Minus ∷ Star ∷ Star2 ∷ Slash ∷ Percent ∷ Eq2 ∷ Eq3 ∷ Neq ∷ Neq2 ∷ LAngle ∷ LtEq ∷ RAngle ∷ GtEq ∷ ShiftLeft ∷ ShiftRight ∷ ShiftRight3 ∷ Amp ∷ Amp2 ∷ Pipe ∷ Pipe2 ∷ Caret ∷ Question ∷ Question2 ∷ Colon ∷ Comma ∷ Dot ∷ QuestionDot ∷ New ∷ Super ∷ Break ∷ Continue ∷ Return ∷ Function ∷ Debugger ∷ Throw ∷ Switch ∷ Case ∷ Default ∷ Try ∷ Catch ∷ Finally ∷ For ∷ If ∷ Else ∷ While ∷ Do ∷ With ∷ Var ∷ Const ∷ Enum ∷ Extends ∷ Plus2 ∷ Minus2 ∷ Eq ∷ PlusEq ∷ MinusEq ∷ StarEq ∷ SlashEq ∷ PercentEq ∷ ShiftLeftEq ∷ ShiftRightEq ∷ ShiftRight3Eq ∷ PipeEq ∷ CaretEq ∷ AmpEq ∷ Amp2Eq ∷ Pipe2Eq ∷ Question2Eq ∷ Star2Eq ∷ Semicolon ∷ LParen ∷ RParen ∷ LBrack ∷ RBrack ∷ LCurly ∷ RCurly ∷ Dot3 ∷ Arrow ∷ name_kinds
+read_kinds = Eof ∷ This ∷ Null ∷ True ∷ False ∷ Typeof ∷ Void ∷ Delete ∷ In ∷ Instanceof ∷ Decimal ∷ Float ∷ Binary ∷ Octal ∷ Hex ∷ PositiveExponential ∷ NegativeExponential ∷ DecimalBigInt ∷ BinaryBigInt ∷ OctalBigInt ∷ HexBigInt ∷ Str ∷ RegExp ∷ NoSubstitutionTemplate ∷ TemplateHead ∷ TemplateMiddle ∷ TemplateTail ∷ Tilde ∷ Bang ∷ Plus ∷ Minus ∷ Star ∷ Star2 ∷ Slash ∷ Percent ∷ Eq2 ∷ Eq3 ∷ Neq ∷ Neq2 ∷ LAngle ∷ LtEq ∷ RAngle ∷ GtEq ∷ ShiftLeft ∷ ShiftRight ∷ ShiftRight3 ∷ Amp ∷ Amp2 ∷ Pipe ∷ Pipe2 ∷ Caret ∷ Question ∷ Question2 ∷ Colon ∷ Comma ∷ Dot ∷ QuestionDot ∷ New ∷ Super ∷ Break ∷ Continue ∷ Return ∷ Function ∷ Debugger ∷ Throw ∷ Switch ∷ Case ∷ Default ∷ Try ∷ Catch ∷ Finally ∷ For ∷ If ∷ Else ∷ While ∷ Do ∷ With ∷ Var ∷ Const ∷ Enum ∷ Extends ∷ Class ∷ Import ∷ Export ∷ Plus2 ∷ Minus2 ∷ Eq ∷ PlusEq ∷ MinusEq ∷ StarEq ∷ SlashEq ∷ PercentEq ∷ ShiftLeftEq ∷ ShiftRightEq ∷ ShiftRight3Eq ∷ PipeEq ∷ CaretEq ∷ AmpEq ∷ Amp2Eq ∷ Pipe2Eq ∷ Question2Eq ∷ Star2Eq ∷ Semicolon ∷ LParen ∷ RParen ∷ LBrack ∷ RBrack ∷ LCurly ∷ RCurly ∷ Dot3 ∷ Arrow ∷ name_kinds
 
 -- The signs that may stand where a regular expression begins: which of them it is depends on the lexical goal (ECMA-262, 12).
 abbrev pub slashes : List Kind
@@ -102,6 +102,9 @@ read_reserved Var = true
 read_reserved Const = true
 read_reserved Enum = true
 read_reserved Extends = true
+read_reserved Class = true
+read_reserved Import = true
+read_reserved Export = true
 read_reserved _ = false
 
 -- the words among them

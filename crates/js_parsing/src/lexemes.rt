@@ -220,6 +220,9 @@ fn is_read_reserved_word(kind: Kind) -> bool
             | Kind::Const
             | Kind::Enum
             | Kind::Extends
+            | Kind::Class
+            | Kind::Import
+            | Kind::Export
     )
 }
 

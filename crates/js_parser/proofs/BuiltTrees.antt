@@ -1,0 +1,457 @@
+-- The trees that the productions that are built derive: which early errors they can't have, that they add nothing to the record of a module, and that none of their nodes is marked as pure.
+use Rattle.std.proofs.Common.{ℕ, ◌≡◌, ◌+◌, ◌/◌, ◌%◌, ◌-◌, ◌++◌, ◌∷◌, Bool, true, false, not, cond, ◌&&◌, ◌||◌, List, [], map, refl, sym, subst, ap, ◌∙◌, rules, arith, nat_eq, IsTrue}
+use Rattle.std.proofs.lemmas.Bool.{false≢true, and_parts, and_from}
+use Rattle.js_grammar.specs.Trees.{NodeKind, switch_statement, switch_case, try_statement, template_literal, with_clause, method_definition, property_definition, accessor_property, import_declaration, export_all_declaration, export_from_declaration, export_named_declaration, export_declaration, export_default_declaration, import_expression, import_meta, function_expression, arrow_function_expression, Op, no_op, Label, Span, Slots, end, hole, tree, Tree, append}
+use Rattle.js_grammar.specs.Grammar.{Make, Lexemes, ◌▸◌, ◌◇◌, empty_slot, ahead, seq, alt, when, many, commas, such, marked, node, ended, keep, label_of, Takes, Derives, is_nothing, is_lexeme, is_look, is_text, is_ahead, is_empty_slot, is_seq, is_left, is_right, is_when, is_many, is_commas, is_such, is_marked, is_node, is_ended, is_keep, is_kept}
+use Rattle.js_grammar.specs.Productions.{Flags, Name, Symbol, G, at, tok, opt, mk, parens, braces, slot, Program, Case, Switch, Try, Expression, Block, Catch, ListItem, Class, ClassExpr, ClassBody, Element, Decorator, DecoratorMember, ImportDecl, Spec, ExportName, Attrs, Attr, ExportDecl, pure_flag, has_flag, with_pife}
+use Rattle.js_grammar.specs.Productions.{sym as symbol}
+use Rattle.js_base.specs.declared.kind.Kind.TheVariants.{Colon}
+use Rattle.js_grammar.specs.Words.{'default', 'finally', 'switch', 'try'}
+use Rattle.js_grammar.specs.Table.{rule, rule_of}
+use Rattle.js_grammar.specs.EarlyRules.{Rule, everywhere, one_default, catch_or_finally, not_u_and_v, Place, anywhere, tag, tagged, cooked_at, templates_cooked, attribute_keys_differ, no_private_constructor, no_field_constructor, no_static_prototype, plain_constructor, EarlyOk}
+use Rattle.js_grammar.specs.Modules.{adds, found_in, record_errors, in_order_of_ends, part_of}
+use Rattle.js_grammar.specs.ModuleRecords.{errors_of_parts}
+use Rattle.js_grammar.specs.TreeForms.{with_labels, not_pure, without_pure}
+
+-- nonterminals that no production that is built leads to
+abbrev pub far : Name → Bool
+far Class = true
+far ClassExpr = true
+far ClassBody = true
+far Element = true
+far Decorator = true
+far DecoratorMember = true
+far ImportDecl = true
+far Spec = true
+far ExportName = true
+far Attrs = true
+far Attr = true
+far ExportDecl = true
+far _ = false
+
+-- kinds of nodes that only those make
+abbrev absent : NodeKind → Bool
+absent with_clause = true
+absent method_definition = true
+absent property_definition = true
+absent accessor_property = true
+absent import_declaration = true
+absent export_all_declaration = true
+absent export_from_declaration = true
+absent export_named_declaration = true
+absent export_declaration = true
+absent export_default_declaration = true
+absent import_expression = true
+absent import_meta = true
+absent _ = false
+
+-- kinds of which a rule looks at the slots
+abbrev shaped : NodeKind → Bool
+shaped switch_statement = true
+shaped try_statement = true
+shaped _ = false
+
+-- a node of another kind than the absent ones, without the mark
+abbrev plain : NodeKind → ℕ → Bool
+plain k n = not (absent k) && not (has_flag pure_flag n)
+
+abbrev pub fine_label : Rule
+fine_label l cs = plain l.kind l.flags && (one_default l cs && catch_or_finally l cs)
+
+-- ---- the roots of what is derived: only Case has a SwitchCase there
+
+abbrev is_case : Name → Bool
+is_case Case = true
+is_case _ = false
+
+abbrev is_switch_case : NodeKind → Bool
+is_switch_case switch_case = true
+is_switch_case _ = false
+
+abbrev no_case : Slots → Bool
+no_case end = true
+no_case (hole us) = no_case us
+no_case (tree l cs us) = not (is_switch_case l.kind) && no_case us
+
+abbrev Rooted : G → Type 0
+Rooted (ahead a) = Rooted a
+Rooted (seq a b) = Rooted a × Rooted b
+Rooted (alt a b) = Rooted a × Rooted b
+Rooted (when c a) = Rooted a
+Rooted (many a) = Rooted a
+Rooted (commas b a) = Rooted a
+Rooted (such n c) = is_case n.name ≡ false
+Rooted (marked h n) = (is_case n.name ≡ false) × (h ≡ with_pife)
+Rooted (node m a) = is_switch_case m.kind ≡ false
+Rooted (ended r a) = Rooted a
+Rooted (keep a b) = Rooted a × Rooted b
+Rooted g = Unit {0}
+
+-- computed for each nonterminal
+rooted_at : (n : Name) → is_case n ≡ false → (f : Flags) → Rooted (rule_of n f)
+unfolding rule_of
+rooted_at Case e f = absurd (false≢true (sym e))
+rooted_at Program e f = search rules
+rooted_at n e f = search rules
+
+rooted_line : (n : Symbol) → is_case n.name ≡ false → Rooted (rule n)
+unfolding rule
+rooted_line n e = rooted_at n.name e n.flags
+
+append_no_case : (a b : Slots) → no_case a ≡ true → no_case b ≡ true → no_case (append a b) ≡ true
+append_no_case end b h k = k
+append_no_case (hole a) b h k = append_no_case a b h k
+append_no_case (tree l cs a) b h k = let x = and_parts (not (is_switch_case l.kind)) _ h in and_from _ _ x.0 (append_no_case a b x.1 k)
+
+not_so : (b : Bool) → b ≡ false → not b ≡ true
+not_so b e = ap not e
+
+pife_kind : (l : Label) → (with_pife l).kind ≡ l.kind
+pife_kind l = go l.kind l.op l.flags l.span
+  where
+    go : (k : NodeKind) (o : Op) (n : ℕ) (s : Span) → (with_pife (record { kind = k; op = o; flags = n; span = s })).kind ≡ k
+    go function_expression o n s = refl
+    go arrow_function_expression o n s = refl
+    go k o n s = refl
+
+taken_rooted : {g : G} {ks ts us : Slots} {i j : ℕ} {ls rest : Lexemes} → Takes rule g ks ts i ls us j rest → Rooted g → no_case ks ≡ true → no_case us ≡ true → no_case ts ≡ true
+taken_rooted is_nothing p k u = u
+taken_rooted (is_lexeme c) p k u = u
+taken_rooted (is_look c) p k u = u
+taken_rooted (is_text c) p k u = u
+taken_rooted (is_ahead d) p k u = taken_rooted d p k u
+taken_rooted is_empty_slot p k u = u
+taken_rooted (is_seq x y) p k u = taken_rooted x p.0 k (taken_rooted y p.1 k u)
+taken_rooted (is_left x) p k u = taken_rooted x p.0 k u
+taken_rooted (is_right x) p k u = taken_rooted x p.1 k u
+taken_rooted (is_when c x) p k u = taken_rooted x p k u
+taken_rooted (is_many x) p k u = taken_rooted x ((p, p), tt) k u
+taken_rooted (is_commas {b = true} x) p k u = taken_rooted x (p, ((tt, (p, tt)), tt)) k u
+taken_rooted (is_commas {b = false} x) p k u = taken_rooted x (p, ((tt, p), tt)) k u
+taken_rooted (is_such {n = n} {l = l} x c) p k u = and_from _ _ (and_parts (not (is_switch_case l.kind)) _ (taken_rooted x (rooted_line n p) refl refl)).0 u
+taken_rooted (is_marked {h = h} {n = n} {l = l} x) p k u =
+    and_from _ _ (subst (λ (f : Label → Label). not (is_switch_case (f l).kind) ≡ true) (sym p.1) (ap (λ (a : NodeKind). not (is_switch_case a)) (pife_kind l) ∙ (and_parts (not (is_switch_case l.kind)) _ (taken_rooted x (rooted_line n p.0) refl refl)).0)) u
+taken_rooted (is_node {m = m} x) p k u = and_from _ _ (not_so (is_switch_case m.kind) p) u
+taken_rooted (is_ended {cs = cs} {us = us} q x y) p k u = subst (λ (v : Slots). no_case v ≡ true) (sym q) (append_no_case cs us (taken_rooted x p k refl) (taken_rooted y (tt, tt) k u))
+taken_rooted (is_keep x y) p k u = taken_rooted y p.1 (taken_rooted x p.0 k refl) u
+taken_rooted (is_kept {ks = ks} {us = us} q) p k u = subst (λ (v : Slots). no_case v ≡ true) (sym q) (append_no_case ks us k u)
+
+-- ---- a switch and a try
+
+is_not : (b : Bool) → not b ≡ true → b ≡ false
+is_not true h = absurd (false≢true h)
+is_not false h = refl
+
+abbrev a_label : NodeKind → Label
+a_label k = record { kind = k; op = no_op; flags = 0; span = record { from = 0; to = 0 } }
+
+-- slots of a switch that have one default at the most; behind one, none
+abbrev one : Slots → Bool
+one us = one_default (a_label switch_statement) us
+
+abbrev none : Slots → Bool
+none us = one_default (a_label switch_statement) (tree (a_label switch_case) (hole end) us)
+
+-- a node that is no SwitchCase is no default
+other_first : (k : NodeKind) (o : Op) (n : ℕ) (s : Span) (cs us : Slots) → is_switch_case k ≡ false → one us ≡ true → one (tree (record { kind = k; op = o; flags = n; span = s }) cs us) ≡ true
+other_first switch_case o n s cs us h e = absurd (false≢true (sym h))
+other_first k o n s cs us h e = e
+
+-- nor is a Case, which has a test
+cases_one : {f : Flags} {ks ts us : Slots} {i j : ℕ} {ls rest : Lexemes} → Takes rule (many (symbol Case f)) ks ts i ls us j rest → one us ≡ true → one ts ≡ true
+unfolding rule rule_of
+cases_one (is_many (is_left (is_seq (is_such (is_node (is_seq (is_lexeme a) (is_seq (is_such d e) z))) c) y))) h = cases_one y h
+cases_one (is_many (is_right is_nothing)) h = h
+
+cases_none : {f : Flags} {ks ts us : Slots} {i j : ℕ} {ls rest : Lexemes} → Takes rule (many (symbol Case f)) ks ts i ls us j rest → none us ≡ true → none ts ≡ true
+unfolding rule rule_of
+cases_none (is_many (is_left (is_seq (is_such (is_node (is_seq (is_lexeme a) (is_seq (is_such d e) z))) c) y))) h = cases_none y h
+cases_none (is_many (is_right is_nothing)) h = h
+
+abbrev clauses : Flags → G
+clauses f = many (symbol Case f) ▸ opt (mk switch_case (tok 'default' ▸ empty_slot ▸ tok Colon ▸ many (symbol ListItem f)) ▸ many (symbol Case f))
+
+one_there : {f : Flags} {ks ts : Slots} {i j : ℕ} {ls rest : Lexemes} → Takes rule (clauses f) ks ts i ls end j rest → one ts ≡ true
+one_there (is_seq x (is_left (is_seq (is_node (is_seq (is_lexeme c) (is_seq is_empty_slot y))) z))) = cases_one x (cases_none z refl)
+one_there (is_seq x (is_right is_nothing)) = cases_one x refl
+
+abbrev switch_slots : Flags → G
+switch_slots f = tok 'switch' ▸ parens (symbol Expression f) ▸ braces (clauses f)
+
+switch_shape : {f : Flags} {ks cs : Slots} {i j : ℕ} {ls rest : Lexemes} → Takes rule (switch_slots f) ks cs i ls end j rest → one cs ≡ true
+switch_shape {f} (is_seq (is_lexeme a) (is_seq (is_seq (is_lexeme b) (is_seq (is_such {l = l} {cs = cs} {us = us} x c) (is_lexeme d))) (is_seq (is_lexeme e) (is_seq y (is_lexeme g))))) =
+    let r = taken_rooted x (rooted_line (at Expression f) refl) refl refl in
+    other_first l.kind l.op l.flags l.span cs us (is_not (is_switch_case l.kind) (and_parts (not (is_switch_case l.kind)) _ r).0) (one_there y)
+
+abbrev try_slots : Flags → G
+try_slots f = tok 'try' ▸ symbol Block f ▸ (symbol Catch f ▸ slot (tok 'finally' ▸ symbol Block f) ◇ empty_slot ▸ tok 'finally' ▸ symbol Block f)
+
+try_shape : {f : Flags} {ks cs : Slots} {i j : ℕ} {ls rest : Lexemes} → Takes rule (try_slots f) ks cs i ls end j rest → (o : Op) (n : ℕ) (s : Span) → catch_or_finally (record { kind = try_statement; op = o; flags = n; span = s }) cs ≡ true
+try_shape (is_seq (is_lexeme a) (is_seq (is_such x c) (is_left (is_seq (is_such y d) z)))) o n s = refl
+try_shape (is_seq (is_lexeme a) (is_seq (is_such x c) (is_right (is_seq is_empty_slot (is_seq (is_lexeme b) (is_such y d)))))) o n s = refl
+
+-- ---- all nodes
+
+abbrev Either : Bool → Type 0 → Type 0 → Type 0
+Either true A B = A
+Either false A B = B
+
+-- whatever slots are taken, the node is fine
+abbrev Shape : Make → G → Type 0
+Shape m a = (ks cs : Slots) (i j : ℕ) (ls rest : Lexemes) → Takes rule a ks cs i ls end j rest → (s : Span) → fine_label (record { kind = m.kind; op = m.op; flags = m.flags; span = s }) cs ≡ true
+
+abbrev Fine : G → Type 0
+Fine (ahead a) = Fine a
+Fine (seq a b) = Fine a × Fine b
+Fine (alt a b) = Fine a × Fine b
+Fine (when c a) = Fine a
+Fine (many a) = Fine a
+Fine (commas b a) = Fine a
+Fine (such n c) = far n.name ≡ false
+Fine (marked h n) = (far n.name ≡ false) × (h ≡ with_pife)
+Fine (node m a) = Either (shaped m.kind) (Shape m a) (plain m.kind m.flags ≡ true) × Fine a
+Fine (ended r a) = Fine a
+Fine (keep a b) = Fine a × Fine b
+Fine g = Unit {0}
+
+switch_fine : (f : Flags) → Fine (switch_slots f)
+switch_fine f = search rules
+
+try_fine : (f : Flags) → Fine (try_slots f)
+try_fine f = search rules
+
+-- computed for each nonterminal
+fine_at : (n : Name) → far n ≡ false → (f : Flags) → Fine (rule_of n f)
+unfolding rule_of
+fine_at Switch e f = ((λ ks cs i j ls rest x s. and_from _ _ (switch_shape x) refl), switch_fine f)
+fine_at Try e f = ((λ ks cs i j ls rest x s. try_shape x no_op 0 s), try_fine f)
+fine_at Class e f = absurd (false≢true (sym e))
+fine_at ClassExpr e f = absurd (false≢true (sym e))
+fine_at ClassBody e f = absurd (false≢true (sym e))
+fine_at Element e f = absurd (false≢true (sym e))
+fine_at Decorator e f = absurd (false≢true (sym e))
+fine_at DecoratorMember e f = absurd (false≢true (sym e))
+fine_at ImportDecl e f = absurd (false≢true (sym e))
+fine_at Spec e f = absurd (false≢true (sym e))
+fine_at ExportName e f = absurd (false≢true (sym e))
+fine_at Attrs e f = absurd (false≢true (sym e))
+fine_at Attr e f = absurd (false≢true (sym e))
+fine_at ExportDecl e f = absurd (false≢true (sym e))
+fine_at Program e f = search rules
+fine_at n e f = search rules
+
+fine_line : (n : Symbol) → far n.name ≡ false → Fine (rule n)
+unfolding rule
+fine_line n e = fine_at n.name e n.flags
+
+-- a node whose slots no rule looks at
+unshaped_fine : (k : NodeKind) (o : Op) (n : ℕ) (s : Span) (cs : Slots) → shaped k ≡ false → plain k n ≡ true → fine_label (record { kind = k; op = o; flags = n; span = s }) cs ≡ true
+unshaped_fine switch_statement o n s cs e h = absurd (false≢true (sym e))
+unshaped_fine try_statement o n s cs e h = absurd (false≢true (sym e))
+unshaped_fine k o n s cs e h = and_from _ _ h refl
+
+node_fine : (m : Make) (a : G) → Either (shaped m.kind) (Shape m a) (plain m.kind m.flags ≡ true) → {ks cs : Slots} {i j : ℕ} {ls rest : Lexemes} → Takes rule a ks cs i ls end j rest → (s : Span) → fine_label (record { kind = m.kind; op = m.op; flags = m.flags; span = s }) cs ≡ true
+node_fine m a h {ks} {cs} {i} {j} {ls} {rest} x s = go (shaped m.kind) refl h
+  where
+    go : (b : Bool) → shaped m.kind ≡ b → Either b (Shape m a) (plain m.kind m.flags ≡ true) → fine_label (record { kind = m.kind; op = m.op; flags = m.flags; span = s }) cs ≡ true
+    go true e h = h ks cs i j ls rest x s
+    go false e h = unshaped_fine m.kind m.op m.flags s cs e h
+
+-- a mark on functions in parentheses is another one
+pife_apart : (n : ℕ) → has_flag pure_flag (n + 8192) ≡ has_flag pure_flag n
+pife_apart n = ap (λ (m : ℕ). nat_eq m 1) (let k : (n + 8192) / 4096 % 2 ≡ n / 4096 % 2 = omega arith in k)
+
+pife_fine : (k : NodeKind) (o : Op) (n : ℕ) (s : Span) (cs : Slots) → fine_label (record { kind = k; op = o; flags = n; span = s }) cs ≡ true → fine_label (with_pife (record { kind = k; op = o; flags = n; span = s })) cs ≡ true
+pife_fine function_expression o n s cs h = subst (λ (b : Bool). (not b && true) ≡ true) (sym (pife_apart n)) h
+pife_fine arrow_function_expression o n s cs h = subst (λ (b : Bool). (not b && true) ≡ true) (sym (pife_apart n)) h
+pife_fine k o n s cs h = h
+
+append_fine : (a b : Slots) → everywhere fine_label a ≡ true → everywhere fine_label b ≡ true → everywhere fine_label (append a b) ≡ true
+append_fine end b h k = k
+append_fine (hole a) b h k = append_fine a b h k
+append_fine (tree l cs a) b h k = let x = and_parts (fine_label l cs) _ h in let y = and_parts (everywhere fine_label cs) _ x.1 in and_from _ _ x.0 (and_from _ _ y.0 (append_fine a b y.1 k))
+
+tree_fine : (l : Label) (cs us : Slots) → fine_label l cs ≡ true → everywhere fine_label cs ≡ true → everywhere fine_label us ≡ true → everywhere fine_label (tree l cs us) ≡ true
+tree_fine l cs us a b c = and_from _ _ a (and_from _ _ b c)
+
+root_fine : (l : Label) (cs us : Slots) → everywhere fine_label (tree l cs us) ≡ true → (fine_label l cs ≡ true) × (everywhere fine_label cs ≡ true)
+root_fine l cs us h = let x = and_parts (fine_label l cs) _ h in (x.0, (and_parts (everywhere fine_label cs) _ x.1).0)
+
+taken_fine : {g : G} {ks ts us : Slots} {i j : ℕ} {ls rest : Lexemes} → Takes rule g ks ts i ls us j rest → Fine g → everywhere fine_label ks ≡ true → everywhere fine_label us ≡ true → everywhere fine_label ts ≡ true
+taken_fine is_nothing p k u = u
+taken_fine (is_lexeme c) p k u = u
+taken_fine (is_look c) p k u = u
+taken_fine (is_text c) p k u = u
+taken_fine (is_ahead d) p k u = taken_fine d p k u
+taken_fine is_empty_slot p k u = u
+taken_fine (is_seq x y) p k u = taken_fine x p.0 k (taken_fine y p.1 k u)
+taken_fine (is_left x) p k u = taken_fine x p.0 k u
+taken_fine (is_right x) p k u = taken_fine x p.1 k u
+taken_fine (is_when c x) p k u = taken_fine x p k u
+taken_fine (is_many x) p k u = taken_fine x ((p, p), tt) k u
+taken_fine (is_commas {b = true} x) p k u = taken_fine x (p, ((tt, (p, tt)), tt)) k u
+taken_fine (is_commas {b = false} x) p k u = taken_fine x (p, ((tt, p), tt)) k u
+taken_fine (is_such {n = n} {l = l} {cs = cs} {us = us} x c) p k u = let r = root_fine l cs end (taken_fine x (fine_line n p) refl refl) in tree_fine l cs us r.0 r.1 u
+taken_fine (is_marked {h = h} {n = n} {l = l} {cs = cs} {us = us} x) p k u =
+    let r = root_fine l cs end (taken_fine x (fine_line n p.0) refl refl) in
+    tree_fine (h l) cs us (subst (λ (f : Label → Label). fine_label (f l) cs ≡ true) (sym p.1) (pife_fine l.kind l.op l.flags l.span cs r.0)) r.1 u
+taken_fine (is_node {m = m} {a = a} {cs = cs} {us = us} {j = j} {ls = ls} {rest = rest} x) p k u = tree_fine (label_of m ls j rest) cs us (node_fine m a p.0 x (label_of m ls j rest).span) (taken_fine x p.1 k refl) u
+taken_fine (is_ended {cs = cs} {us = us} q x y) p k u = subst (λ (v : Slots). everywhere fine_label v ≡ true) (sym q) (append_fine cs us (taken_fine x p k refl) (taken_fine y (tt, tt) k u))
+taken_fine (is_keep x y) p k u = taken_fine y p.1 (taken_fine x p.0 k refl) u
+taken_fine (is_kept {ks = ks} {us = us} q) p k u = subst (λ (v : Slots). everywhere fine_label v ≡ true) (sym q) (append_fine ks us k u)
+
+pub derived_fine : (n : Symbol) (t : Tree) → far n.name ≡ false → {i j : ℕ} {ls rest : Lexemes} → Derives rule n t i ls j rest → everywhere fine_label (tree t.label t.slots end) ≡ true
+derived_fine n t e d = taken_fine d (fine_line n e) refl refl
+
+-- ---- what holds of such a tree
+
+-- a rule that holds of each fine node
+abbrev Spares : Rule → Type 0
+Spares r = (l : Label) (cs : Slots) → fine_label l cs ≡ true → r l cs ≡ true
+
+all_spared : (r : Rule) → Spares r → (us : Slots) → everywhere fine_label us ≡ true → everywhere r us ≡ true
+all_spared r f end h = refl
+all_spared r f (hole us) h = all_spared r f us h
+all_spared r f (tree l cs us) h =
+    let x = and_parts (fine_label l cs) _ h in
+    let y = and_parts (everywhere fine_label cs) _ x.1 in
+    and_from _ _ (f l cs x.0) (and_from _ _ (all_spared r f cs y.0) (all_spared r f us y.1))
+
+default_spared : Spares one_default
+default_spared l cs h = (and_parts (one_default l cs) _ (and_parts (plain l.kind l.flags) _ h).1).0
+
+catch_spared : Spares catch_or_finally
+catch_spared l cs h = (and_parts (one_default l cs) _ (and_parts (plain l.kind l.flags) _ h).1).1
+
+here_not_absent : (l : Label) (cs : Slots) → fine_label l cs ≡ true → absent l.kind ≡ false
+here_not_absent l cs h = is_not (absent l.kind) (and_parts (not (absent l.kind)) _ (and_parts (plain l.kind l.flags) _ h).0).0
+
+-- a rule of nodes of the absent kinds
+abbrev OfAbsent : Rule → Type 0
+OfAbsent r = (k : NodeKind) (o : Op) (n : ℕ) (s : Span) (cs : Slots) → absent k ≡ false → r (record { kind = k; op = o; flags = n; span = s }) cs ≡ true
+
+of_absent : (r : Rule) → OfAbsent r → Spares r
+of_absent r f l cs h = f l.kind l.op l.flags l.span cs (here_not_absent l cs h)
+
+keys_spared : (text : List ℕ) → OfAbsent (attribute_keys_differ text)
+keys_spared text with_clause o n s cs h = absurd (false≢true (sym h))
+keys_spared text k o n s cs h = refl
+
+private_spared : (text : List ℕ) → OfAbsent (no_private_constructor text)
+private_spared text method_definition o n s cs h = absurd (false≢true (sym h))
+private_spared text property_definition o n s cs h = absurd (false≢true (sym h))
+private_spared text accessor_property o n s cs h = absurd (false≢true (sym h))
+private_spared text k o n s cs h = refl
+
+field_spared : (text : List ℕ) → OfAbsent (no_field_constructor text)
+field_spared text property_definition o n s cs h = absurd (false≢true (sym h))
+field_spared text accessor_property o n s cs h = absurd (false≢true (sym h))
+field_spared text k o n s cs h = refl
+
+static_spared : (text : List ℕ) → OfAbsent (no_static_prototype text)
+static_spared text method_definition o n s cs h = absurd (false≢true (sym h))
+static_spared text property_definition o n s cs h = absurd (false≢true (sym h))
+static_spared text accessor_property o n s cs h = absurd (false≢true (sym h))
+static_spared text k o n s cs h = refl
+
+constructor_spared : (text : List ℕ) → OfAbsent (plain_constructor text)
+constructor_spared text method_definition o n s cs h = absurd (false≢true (sym h))
+constructor_spared text k o n s cs h = refl
+
+-- All early rules hold of it, if those of regular expressions and templates do.
+pub early_fine : (text : List ℕ) (t : Tree) → everywhere fine_label (tree t.label t.slots end) ≡ true → IsTrue (everywhere (not_u_and_v text) (tree t.label t.slots end)) → IsTrue (templates_cooked text (tree t.label t.slots end)) → EarlyOk text t
+early_fine text t h a b = let us = tree t.label t.slots end in record {
+  one_default = all_spared one_default default_spared us h;
+  catch_or_finally = all_spared catch_or_finally catch_spared us h;
+  not_u_and_v = a;
+  templates_cooked = b;
+  attribute_keys_differ = all_spared (attribute_keys_differ text) (of_absent (attribute_keys_differ text) (keys_spared text)) us h;
+  no_private_constructor = all_spared (no_private_constructor text) (of_absent (no_private_constructor text) (private_spared text)) us h;
+  no_field_constructor = all_spared (no_field_constructor text) (of_absent (no_field_constructor text) (field_spared text)) us h;
+  no_static_prototype = all_spared (no_static_prototype text) (of_absent (no_static_prototype text) (static_spared text)) us h;
+  plain_constructor = all_spared (plain_constructor text) (of_absent (plain_constructor text) (constructor_spared text)) us h;
+}
+
+-- nothing is added to a record
+adds_nothing : (k : NodeKind) → absent k ≡ false → adds k ≡ false
+adds_nothing k h = search (rules, h)
+
+none_found : (us : Slots) → everywhere fine_label us ≡ true → found_in us ≡ []
+none_found end h = refl
+none_found (hole us) h = none_found us h
+none_found (tree l cs us) h =
+    let x = and_parts (fine_label l cs) _ h in
+    let y = and_parts (everywhere fine_label cs) _ x.1 in
+    λ i. none_found cs y.0 i ++ (cond (adds_nothing l.kind (here_not_absent l cs x.0) i) (record { label = l; slots = cs } ∷ []) [] ++ none_found us y.1 i)
+
+pub record_fine : (text : List ℕ) (t : Tree) → everywhere fine_label (tree t.label t.slots end) ≡ true → record_errors text t ≡ []
+record_fine text t h = ap (λ (ts : List Tree). errors_of_parts (map (part_of text) (in_order_of_ends ts))) (none_found (tree t.label t.slots end) h)
+
+-- no node is marked as pure
+mark_fine : (l : Label) (cs : Slots) → fine_label l cs ≡ true → not_pure l ≡ l
+mark_fine l cs h = ap (λ (n : ℕ). record l { flags = n }) (ap (λ (b : Bool). cond b (l.flags - pure_flag) l.flags) (is_not (has_flag pure_flag l.flags) (and_parts (not (absent l.kind)) _ (and_parts (plain l.kind l.flags) _ h).0).1))
+
+marks_fine : (us : Slots) → everywhere fine_label us ≡ true → with_labels not_pure us ≡ us
+marks_fine end h = refl
+marks_fine (hole us) h = ap hole (marks_fine us h)
+marks_fine (tree l cs us) h =
+    let x = and_parts (fine_label l cs) _ h in
+    let y = and_parts (everywhere fine_label cs) _ x.1 in
+    λ i. tree (mark_fine l cs x.0 i) (marks_fine cs y.0 i) (marks_fine us y.1 i)
+
+pub pure_fine : (t : Tree) → everywhere fine_label (tree t.label t.slots end) ≡ true → without_pure t ≡ t
+pure_fine t h =
+    let x = and_parts (fine_label t.label t.slots) _ h in
+    let y = and_parts (everywhere fine_label t.slots) _ x.1 in
+    λ i. record { label = mark_fine t.label t.slots x.0 i; slots = marks_fine t.slots y.0 i }
+
+-- ---- the two rules don't look at the mark
+
+flags_unmarked : (text : List ℕ) (us : Slots) → everywhere (not_u_and_v text) (with_labels not_pure us) ≡ everywhere (not_u_and_v text) us
+flags_unmarked text end = refl
+flags_unmarked text (hole us) = flags_unmarked text us
+flags_unmarked text (tree l cs us) = λ i. not_u_and_v text l cs && (flags_unmarked text cs i && flags_unmarked text us i)
+
+abbrev unmarked : Slots → Slots
+unmarked us = with_labels not_pure us
+
+-- a template's slots
+abbrev of_template : Slots → Slots
+of_template cs = tree (a_label template_literal) cs end
+
+-- What is cooked is so without the mark: as slots, and as those of a template.
+abbrev Stays : List ℕ → Slots → Type 0
+Stays w us = ((p : Place) → cooked_at w p us ≡ true → cooked_at w p (unmarked us) ≡ true) × (cooked_at w anywhere (of_template us) ≡ true → cooked_at w anywhere (of_template (unmarked us)) ≡ true)
+
+node_stays : (w : List ℕ) (p : Place) (k : NodeKind) (o : Op) (n : ℕ) (s : Span) (cs us : Slots) → Stays w cs → Stays w us → cooked_at w p (tree (record { kind = k; op = o; flags = n; span = s }) cs us) ≡ true → cooked_at w p (unmarked (tree (record { kind = k; op = o; flags = n; span = s }) cs us)) ≡ true
+node_stays w Rattle.js_grammar.specs.EarlyRules.anywhere template_literal o n s cs us f g h =
+    let x = and_parts _ _ h in
+    let y = and_parts (cooked_at w anywhere cs) _ x.1 in
+    and_from _ _ (and_parts _ _ (f.1 (and_from _ _ x.0 (and_from _ _ y.0 refl)))).0 (and_from _ _ (f.0 anywhere y.0) (g.0 anywhere y.1))
+node_stays w Rattle.js_grammar.specs.EarlyRules.tag template_literal o n s cs us f g h =
+    let x = and_parts _ _ h in
+    let y = and_parts (cooked_at w anywhere cs) _ x.1 in
+    and_from _ _ (and_parts _ _ (f.1 (and_from _ _ x.0 (and_from _ _ y.0 refl)))).0 (and_from _ _ (f.0 anywhere y.0) (g.0 tagged y.1))
+node_stays w Rattle.js_grammar.specs.EarlyRules.tagged template_literal o n s cs us f g h = let y = and_parts (cooked_at w anywhere cs) _ h in and_from _ _ (f.0 anywhere y.0) (g.0 tagged y.1)
+node_stays w Rattle.js_grammar.specs.EarlyRules.anywhere k o n s cs us f g h = let y = and_parts _ _ h in and_from _ _ (f.0 _ y.0) (g.0 _ y.1)
+node_stays w Rattle.js_grammar.specs.EarlyRules.tag k o n s cs us f g h = let y = and_parts _ _ h in and_from _ _ (f.0 _ y.0) (g.0 _ y.1)
+node_stays w Rattle.js_grammar.specs.EarlyRules.tagged k o n s cs us f g h = let y = and_parts _ _ h in and_from _ _ (f.0 _ y.0) (g.0 _ y.1)
+
+stays : (w : List ℕ) (us : Slots) → Stays w us
+stays w end = ((λ p h. refl), (λ h. refl))
+stays w (hole us) = let u = stays w us in ((λ p h. u.0 p h), (λ h. u.1 h))
+stays w (tree l cs us) =
+    let c = stays w cs in
+    let u = stays w us in
+    ((λ p h. node_stays w p l.kind l.op l.flags l.span cs us c u h), (λ h.
+    let a = and_parts _ _ h in
+    let b = and_parts _ _ a.0 in
+    let d = (and_parts (cooked_at w anywhere (tree l cs us)) _ a.1).0 in
+    let v = (and_parts _ _ (and_parts _ _ d).1).1 in
+    and_from _ _ (and_from _ _ b.0 (and_parts _ _ (u.1 (and_from _ _ b.1 (and_from _ _ v refl)))).0) (and_from _ _ (node_stays w anywhere l.kind l.op l.flags l.span cs us c u d) refl)))
+
+pub flags_without : (w : List ℕ) (t : Tree) → IsTrue (everywhere (not_u_and_v w) (tree t.label t.slots end)) → IsTrue (everywhere (not_u_and_v w) (tree (without_pure t).label (without_pure t).slots end))
+flags_without w t h = flags_unmarked w (tree t.label t.slots end) ∙ h
+
+pub cooked_without : (w : List ℕ) (t : Tree) → IsTrue (templates_cooked w (tree t.label t.slots end)) → IsTrue (templates_cooked w (tree (without_pure t).label (without_pure t).slots end))
+cooked_without w t h = (stays w (tree t.label t.slots end)).0 anywhere h

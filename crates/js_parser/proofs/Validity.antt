@@ -1,0 +1,145 @@
+-- Readings are valid trees, and valid trees over lexemes that are built are readings.
+use Rattle.std.proofs.Common.{ℕ, ◌≡◌, ◌≤◌, ◌<◌, ◌+◌, ◌==◌, Bool, true, false, not, ◌&&◌, ◌||◌, List, [], ◌∷◌, ◌++◌, length, IsTrue, refl, sym, subst, ap, ◌∙◌, eqb-true, arith}
+use Rattle.std.proofs.lemmas.Bool.{false≢true, and_parts}
+use Rattle.js_base.specs.declared.kind.Kind.{Kind}
+use Rattle.js_base.specs.declared.kind.Kind.TheVariants.{Eof, RegExp, HashbangComment}
+use Rattle.js_base.specs.Kinds.{same_kind}
+use Rattle.js_base.proofs.KindLemmas.{kind_of_same}
+use Rattle.js_grammar.specs.Trees.{Tree}
+use Rattle.js_grammar.specs.Grammar.{Lexeme, Lexemes, last, next, Derives}
+use Rattle.js_grammar.specs.Characters.{width}
+use Rattle.js_grammar.specs.CoreTexts.{max_len}
+use Rattle.js_grammar.specs.Lexed.{Passing, in_script, in_module, all_faults, comments_pass, flags_right, Lex, Lexes, Lexed, passing_of}
+use Rattle.js_grammar.specs.Lexemes.{LexicalGoal, may_begin, hashbang}
+use Rattle.js_grammar.specs.Longest.{joined}
+use Rattle.js_grammar.specs.Options.{Options}
+use Rattle.js_grammar.specs.Productions.{Program, at}
+use Rattle.js_grammar.specs.Readings.{IsWhole}
+use Rattle.js_grammar.specs.Settings.{Goal}
+use Rattle.js_grammar.specs.Table.{whole}
+use Rattle.js_grammar.specs.TableLaws.{begins_unbuilt, BeginNoUnbuilt}
+use Rattle.js_grammar.specs.TreeForms.{without_pure}
+use Rattle.js_grammar.specs.Trivia.{are_trivia}
+use Rattle.js_grammar.proofs.BuiltLines.{in_whole, by_built}
+use Rattle.js_grammar.proofs.NoEnd.{ends_once_by, ends_behind}
+use Rattle.js_lex.specs.Reading.{LexemeBehind}
+use Rattle.js_lex.proofs.TriviaLemmas.{some_width}
+use Rattle.js_parsing.specs.Lexemes.{Faultless, is_read}
+use Rattle.js_parser.specs.Language.{is_built, AllBuilt, AreBuilt, ReadingsAreValid}
+use Rattle.js_parser.specs.Language as language
+use Rattle.js_parser.specs.Readings.{parameters, AreRead, Reading, from_text_start, behind_a_hashbang}
+use Rattle.js_parser.proofs.BuiltTrees.{derived_fine, early_fine, record_fine, pure_fine, flags_without, cooked_without}
+use Rattle.js_parser.proofs.CoreTexts.{plainly}
+use Rattle.js_parser.proofs.Fronts.{kind_of_hashbang}
+
+-- ---- a hashbang comment is a lexeme of its text at each goal
+
+-- nothing stands before it
+no_trivia : (ps : List (List ℕ)) (rest : List ℕ) → are_trivia true ps rest ≡ true → width (joined ps) ≡ 0 → ps ≡ []
+no_trivia [] rest h w = refl
+no_trivia ([] ∷ ps) rest h w = absurd (false≢true h)
+no_trivia ((c ∷ cs) ∷ ps) rest h w = let s = some_width c (cs ++ joined ps) in absurd (omega arith)
+
+comments_right : (p : Passing) (ps : List (List ℕ)) → ps ≡ [] → comments_pass p ps ≡ true
+comments_right in_script ps e = refl
+comments_right in_module ps e = ap (λ (qs : List (List ℕ)). comments_pass in_module qs) e
+comments_right all_faults ps e = refl
+
+no_flags : (p : Passing) (w : List ℕ) → flags_right p HashbangComment w ≡ true
+no_flags in_script w = refl
+no_flags in_module w = refl
+no_flags all_faults w = refl
+
+at_goal : (p : Passing) {text : List ℕ} {y : Lexeme} → LexemeBehind hashbang text 0 y → Lex p text 0 y
+at_goal p {y = y} b =
+    let l = b.lex in
+    let start : y.from ≡ 0 = eqb-true y.from 0 (subst (λ (g : LexicalGoal). may_begin g y.from ≡ true) b.of_goal l.lexeme.begins) in
+    let none : l.trivia ≡ [] = no_trivia l.trivia (l.word ++ l.rest) l.stands.trivia (sym l.from ∙ start) in
+    record {
+      trivia = l.trivia;
+      goal = l.goal;
+      word = l.word;
+      rest = l.rest;
+      stands = l.stands;
+      lexeme = l.lexeme;
+      comments = comments_right p l.trivia none;
+      flags = subst (λ (k : Kind). flags_right p k l.word ≡ true) (sym (kind_of_hashbang b)) (no_flags p l.word);
+      from = l.from;
+      to = l.to;
+      newline = l.newline;
+      escaped = l.escaped;
+      units = l.units;
+    }
+
+-- ---- lexemes
+
+module _ {text : List ℕ} {goal : Goal} where
+  all_plain : (ls : Lexemes) → AreRead text goal ls → Lexes (Lex (passing_of goal) text) 0 ls
+  all_plain ls (from_text_start l) = plainly text goal 0 ls l
+  all_plain ls (behind_a_hashbang b) = subst (λ (ms : Lexemes). Lexes (Lex (passing_of goal) text) 0 ms) (sym b.is) (at_goal (passing_of goal) b.stands, plainly text goal b.comment.to b.others b.lexed)
+
+  faultless : (s : ℕ) (ls : Lexemes) → Lexes (Lex (passing_of goal) text) s ls → AllBuilt ls → Lexes (Faultless goal text) s ls
+  faultless s (last x) l c = (l, (and_parts (is_read x) _ c).0)
+  faultless s (next x ls) l c = ((l.0, (and_parts (is_read x) _ c.0).0), faultless x.to ls l.1 c.1)
+
+  are_read : (ls : Lexemes) → Lexes (Lex (passing_of goal) text) 0 ls → AreBuilt text ls → AreRead text goal ls
+  are_read ls l (Rattle.js_parser.specs.Language.from_text_start c) = from_text_start (faultless 0 ls l c)
+  are_read ls l (Rattle.js_parser.specs.Language.behind_a_hashbang y ms b e c) = behind_a_hashbang (record { comment = y; stands = b; others = ms; is = e; lexed = faultless y.to ms (subst (λ (v : Lexemes). Lexes (Lex (passing_of goal) text) 0 v) e l).1 c })
+
+all_begin_none : (ls : Lexemes) → AllBuilt ls → BeginNoUnbuilt ls
+all_begin_none (last x) c = (and_parts (is_read x) _ c).1
+all_begin_none (next x ls) c = ((and_parts (is_read x) _ c.0).1, all_begin_none ls c.1)
+
+begin_none : {text : List ℕ} (ls : Lexemes) → AreBuilt text ls → BeginNoUnbuilt ls
+begin_none ls (Rattle.js_parser.specs.Language.from_text_start c) = all_begin_none ls c
+begin_none ls (Rattle.js_parser.specs.Language.behind_a_hashbang y ms b e c) =
+    subst BeginNoUnbuilt (sym e) (subst (λ (k : Kind). not (begins_unbuilt k) ≡ true) (sym (kind_of_hashbang b)) refl, all_begin_none ms c)
+
+-- ---- trees
+
+module _ {text : List ℕ} (goal : Goal) (o : Options) where
+  fine : (t : Tree) → Reading text goal o t → without_pure t ≡ t
+  fine t r = pure_fine t (derived_fine (at Program (parameters goal o)) t refl r.strict.derived)
+
+  valid : (t : Tree) → length text ≤ max_len → Reading text goal o t → IsWhole Program text goal o t
+  valid t short r =
+      let d = r.strict in
+      let h = derived_fine (at Program (parameters goal o)) t refl d.derived in
+      record {
+        short = short;
+        derived = record {
+          lexemes = d.lexemes;
+          lexed = record {
+            lexes = all_plain d.lexemes d.lexed;
+            ends = ends_once_by (at Program (parameters goal o)) t d.derived (subst (λ (k : Kind). same_kind Eof k ≡ true) (sym d.is_end) refl);
+          };
+          end = d.place;
+          final = d.final;
+          derived = subst (λ (v : Tree). Derives whole (at Program (parameters goal o)) v 0 d.lexemes d.place (last d.final)) (sym (pure_fine t h)) (in_whole (at Program (parameters goal o)) t d.derived);
+        };
+        early = early_fine text t h r.early.not_u_and_v r.early.cooked;
+        exports = record_fine text t h;
+      }
+
+  reading : (t : Tree) (w : IsWhole Program text goal o t) → AreBuilt text w.derived.lexemes → Reading text goal o (without_pure t)
+  reading t w c =
+      let d = w.derived in
+      let b = by_built (at Program (parameters goal o)) (without_pure t) (begin_none d.lexemes c) d.derived in
+      record {
+        strict = record {
+          lexemes = d.lexemes;
+          lexed = are_read d.lexemes d.lexed.lexes c;
+          place = d.end;
+          final = d.final;
+          is_end = sym (kind_of_same Eof d.final.kind (ends_behind (at Program (parameters goal o)) (without_pure t) b d.lexed.ends));
+          derived = b;
+        };
+        early = record { not_u_and_v = flags_without text t w.early.not_u_and_v; cooked = cooked_without text t w.early.templates_cooked };
+      }
+
+pub readings_are_valid : ReadingsAreValid
+readings_are_valid = record {
+  valid = λ text goal o t s r. valid goal o t s r;
+  unmarked = λ text goal o t r. fine goal o t r;
+  reading = λ text goal o t w c. reading goal o t w c;
+}
