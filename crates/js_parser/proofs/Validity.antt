@@ -54,7 +54,8 @@ at_goal : (p : Passing) {text : List ℕ} {y : Lexeme} → LexemeBehind hashbang
 at_goal p {y = y} b =
     let l = b.lex in
     let start : y.from ≡ 0 = eqb-true y.from 0 (subst (λ (g : LexicalGoal). may_begin g y.from ≡ true) b.of_goal l.lexeme.begins) in
-    let none : l.trivia ≡ [] = no_trivia l.trivia (l.word ++ l.rest) l.stands.trivia (sym l.from ∙ start) in
+    let nothing_before : width (joined l.trivia) ≡ 0 = let e = l.from in omega arith in
+    let none : l.trivia ≡ [] = no_trivia l.trivia (l.word ++ l.rest) l.stands.trivia nothing_before in
     record {
       trivia = l.trivia;
       goal = l.goal;
@@ -73,7 +74,7 @@ at_goal p {y = y} b =
 
 -- ---- lexemes
 
-module _ {text : List ℕ} {goal : Goal} where
+module _ (text : List ℕ) (goal : Goal) where
   all_plain : (ls : Lexemes) → AreRead text goal ls → Lexes (Lex (passing_of goal) text) 0 ls
   all_plain ls (from_text_start l) = plainly text goal 0 ls l
   all_plain ls (behind_a_hashbang b) = subst (λ (ms : Lexemes). Lexes (Lex (passing_of goal) text) 0 ms) (sym b.is) (at_goal (passing_of goal) b.stands, plainly text goal b.comment.to b.others b.lexed)
@@ -110,7 +111,7 @@ module _ {text : List ℕ} (goal : Goal) (o : Options) where
         derived = record {
           lexemes = d.lexemes;
           lexed = record {
-            lexes = all_plain d.lexemes d.lexed;
+            lexes = all_plain text goal d.lexemes d.lexed;
             ends = ends_once_by (at Program (parameters goal o)) t d.derived (subst (λ (k : Kind). same_kind Eof k ≡ true) (sym d.is_end) refl);
           };
           end = d.place;
@@ -128,7 +129,7 @@ module _ {text : List ℕ} (goal : Goal) (o : Options) where
       record {
         strict = record {
           lexemes = d.lexemes;
-          lexed = are_read d.lexemes d.lexed.lexes c;
+          lexed = are_read text goal d.lexemes d.lexed.lexes c;
           place = d.end;
           final = d.final;
           is_end = sym (kind_of_same Eof d.final.kind (ends_behind (at Program (parameters goal o)) (without_pure t) b d.lexed.ends));

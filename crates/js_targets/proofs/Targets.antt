@@ -320,11 +320,11 @@ module _ {f : Flags} {l : Label} {cs : Slots} {i j : ℕ} {ls rest : Lexemes} wh
 
   by_call : Takes rule (call_access f) end (tree l cs end) i ls end j rest → Takes rule (such (at LeftHandSide f) always) end (tree l cs end) i ls end j rest
   unfolding rule rule_of
-  by_call d = is_such (is_right (is_left (is_such (is_right (is_right (is_left d))) refl))) refl
+  by_call d = is_such (is_right (is_left (is_such (is_right (is_left d)) refl))) refl
 
   by_parens : Takes rule (paren_expression f) end (tree l cs end) i ls end j rest → Takes rule (such (at LeftHandSide f) always) end (tree l cs end) i ls end j rest
   unfolding rule rule_of
-  by_parens d = by_primary (is_right (is_right (is_right (is_right (is_right (is_right (is_right (is_right (is_right (is_right (is_right (is_right (is_left d)))))))))))))
+  by_parens d = by_primary (is_right (is_right (is_right (is_right (is_right (is_right (is_right (is_right (is_right (is_right (is_right (is_left d))))))))))))
 
 -- ---- the target of a tree
 
@@ -520,7 +520,7 @@ may_array k h = may_literal k (array_literal k h)
 
 pub by_brackets : {f : Flags} {l : Label} {cs : Slots} {i j : ℕ} {ls rest : Lexemes} → Takes rule (array_line f) end (tree l cs end) i ls end j rest → Takes rule (rule (at Primary f)) end (tree l cs end) i ls end j rest
 unfolding rule rule_of
-by_brackets d = is_right (is_right (is_right (is_right (is_right (is_right (is_right (is_right (is_right (is_right (is_right (is_left d)))))))))))
+by_brackets d = is_right (is_right (is_right (is_right (is_right (is_right (is_right (is_right (is_right (is_right (is_left d))))))))))
 
 pub by_braces : (f : Flags) {l : Label} {cs : Slots} {i j : ℕ} {ls rest : Lexemes} → Takes rule (rule (at Object f)) end (tree l cs end) i ls end j rest → Takes rule (rule (at Primary f)) end (tree l cs end) i ls end j rest
 unfolding rule rule_of
