@@ -10,17 +10,28 @@ use Rattle.js_grammar.specs.Lines.{tree_text, diagnostic_text}
 use Rattle.js_lex.specs.declared.output.LexerOutput.{LexerOutput}
 use Rattle.js_tree.specs.Nodes.{Node}
 use Rattle.js_tree.specs.Holding.{IsTree}
+use Rattle.js_grammar.specs.TreeForms.{without_pure}
 use Rattle.js_parser.specs.Parsed.{Answers}
+use Rattle.js_parser.proofs.Validity.{readings_are_valid}
 use Rattle.jsparse.specs.declared.words.Settings.{Settings}
 use Rattle.jsparse.specs.Outputs.{Accepts, Refuses}
 use Rattle.jsparse.specs.Words.{settings_of}
 
 module _ (s : Settings) {text : List ℕ} {taken : SourceType} {nodes : List Node} {out : LexerOutput} {fatal : Bool} (a : Answers text s.goal taken s.options nodes out fatal) (short : length text ≤ MAX_LEN) where
   pub accepts : {lines : List ℕ} → out.errors ≡ [] → ((t : Tree) → IsTree nodes t → lines ≡ tree_text t) → Accepts (settings_of s) text lines
-  accepts z f = let r = a.short short in record { tree = r.tree; only = r.clean z; lines = f r.tree r.is_tree }
+  accepts z f =
+      let r = a.short short in
+      let c = r.clean z in
+      record {
+        tree = r.tree;
+        only = c;
+        lines = f r.tree r.is_tree;
+        valid = readings_are_valid.valid text _ _ r.tree short c.reading;
+        only_valid = λ t v b. (c.only (without_pure t) (readings_are_valid.reading text _ _ t v b)).0;
+      }
 
   pub refuses : {lines : List ℕ} → (out.errors ≡ [] → ⊥) → lines ≡ diagnostic_text out.errors → Refuses (settings_of s) text lines
-  refuses n e = let r = a.short short in record { found = out.errors; some = n; told = r.told; lines = e; none = r.unclean n }
+  refuses n e = let r = a.short short in record { found = out.errors; some = n; told = r.told; lines = e; none = r.unclean n; none_valid = λ t v b. r.unclean n (without_pure t) (readings_are_valid.reading text _ _ t v b) }
 
 -- the parser's own text, goal and options are those that were given
 pub answered : {text source : List ℕ} {given goal taken : SourceType} {asked o : ParseOptions} {nodes : List Node} {out : LexerOutput} {fatal : Bool} → source ≡ text → goal ≡ given → o ≡ asked → Answers source goal taken o nodes out fatal → Answers text given taken asked nodes out fatal
