@@ -131,13 +131,10 @@ fn begins_other_argument(kind: Kind) -> bool
             | Kind::LBrack
             | Kind::LCurly
             | Kind::Function
-            | Kind::Class
-            | Kind::At
             | Kind::NoSubstitutionTemplate
             | Kind::TemplateHead
             | Kind::Percent
             | Kind::New
-            | Kind::Import
             | Kind::Super
             | Kind::PrivateIdentifier
     )
