@@ -30,10 +30,10 @@ use Rattle.js_grammar.specs.Productions.{sym as symbol}
 use Rattle.js_grammar.specs.Table.{rule, rule_of, function_of, identifier, declarator, declarators}
 use Rattle.js_grammar.specs.Follow.{row_of, looser, after}
 use Rattle.js_grammar.proofs.Looks.{covers, covered, apart, not_both}
-use Rattle.js_grammar.proofs.Calculus.{◌▹◌, ◌▹✗◌, left, right, ends_by, looks, by_omission, fails_ended, fails_semicolon, fails_rule, fails_node, fails_alt, inside_plain, ends, closes, weaken_fails_on}
+use Rattle.js_grammar.proofs.Calculus.{◌▹◌, ◌▹✗◌, left, right, ends_by, looks, by_omission, fails_ended, fails_semicolon, fails_rule, fails_node, fails_alt, inside_plain, here_at, passes_none, ends, closes, weaken_fails_on}
 use Rattle.js_grammar.proofs.FollowLaws.{admits, expression_ended}
 use Rattle.js_grammar.proofs.RightEdges.{at_row}
-use Rattle.js_grammar.proofs.First.{starts}
+use Rattle.js_grammar.proofs.First.{starts, starting}
 use Rattle.js_grammar.proofs.FirstClaims.{firsts}
 use Rattle.js_grammar.proofs.FirstRules.{fails_here}
 use Rattle.js_grammar.specs.FirstSets.{first}
@@ -533,24 +533,39 @@ not_braced k h = go (one_of_kinds (LCurly ∷ 'function' ∷ []) k) refl
     go true e = absurd (false≢true (sym h ∙ covered (λ k w e. one_of_kinds (LCurly ∷ 'function' ∷ []) k) (λ k w e. one_of_kinds statement_kinds k) refl k false false e))
     go false e = e
 
--- of what begins no expression statement, these alone are read
-begins_none : covers (λ k w e. one_of_kinds no_expression k && one_of_kinds read_kinds k) (λ k w e. one_of_kinds (LCurly ∷ 'function' ∷ []) k) ≡ true
+-- what stands behind the first lookahead of an expression statement
+abbrev looked_at : Flags → G
+looked_at f = not_then (is 'async') function_on_line ▸ not_then (is 'let') (is LBrack) ▸ ended by_edge (symbol Expression f)
+
+-- of what begins no expression statement, these alone begin an expression
+begins_none : (f : Flags) → covers (λ k w e. one_of_kinds no_expression k && starts first (looked_at f) full k w e) (λ k w e. one_of_kinds (LCurly ∷ 'function' ∷ []) k) ≡ true
 unfolding covers
-begins_none = refl
+begins_none f = refl
+
+-- a lookahead that each lexeme passes with which the part behind it may begin
+look_first : {text : List ℕ} {X : Test} {b : G} {s : ℕ} (p : Look) → ((y : Lexeme) → Lex text s y → IsTrue (seen (starts first b full) y) → IsTrue (seen p y)) → Goes rule (Lex text) X end (if_next p ▸ b) s b s (λ us. us) (still 0)
+look_first {text} {X} {b} {s} p h = record {
+  passes = passes_none;
+  sound = λ us vs k ls' rest l w d. is_seq (is_look (h (here ls') (here_at (Lex text) ls' l) (starting firsts full d refl))) d;
+  only = λ ts vs k ls rest l d e. go ts vs k ls rest l d;
+}
+  where
+    go : (ts vs : Slots) (k : ℕ) (ls rest : Lexemes) → Lexes (Lex text) s ls → Takes rule (if_next p ▸ b) end ts s ls vs k rest → (us : Slots) × (ls' : Lexemes) × (ts ≡ us) × Lexes (Lex text) s ls' × Takes rule b end us s ls' vs k rest × (ls ≡ ls')
+    go ts vs k ls rest l (is_seq (is_look q) d) = (ts, ls, refl, l, d, refl)
 
 to_expression : {text : List ℕ} {f : Flags} {p : Parser} → At text f p → one_of_kinds (LCurly ∷ 'function' ∷ []) (keyword_kind p.token) ≡ false → AsyncIsName text p.prev_token_end → LetIsName text false p.prev_token_end → Leads text (plain no_link) (if_next (other (is_one_of no_expression)) ▸ not_then (is 'async') function_on_line ▸ not_then (is 'let') (is LBrack) ▸ ended by_edge (symbol Expression f)) p.prev_token_end (ended by_edge (symbol Expression f))
 unfolding apart
-to_expression {text} {f} {p} a c v u = at_once (pass_over (looks (other (is_one_of no_expression)) (λ y l. go y l (one_of_kinds no_expression y.kind) refl)))
+to_expression {text} {f} {p} a c v u = at_once (look_first (other (is_one_of no_expression)) (λ y l q. go y l q (one_of_kinds no_expression y.kind) refl))
     ⇒ not_followed a async_word function_on_line v
     ⇒ not_followed a let_word (is LBrack) (λ y z l q m h. false≢true (sym (u y z l q m) ∙ (and_parts (same_kind LBrack z.kind) (not z.escaped) h).0))
   where
-    at_word : (y : Lexeme) → Lex text p.prev_token_end y → one_of_kinds no_expression y.kind ≡ true → (b : Bool) → p.token.escaped ≡ b → seen (other (is_one_of no_expression)) y ≡ true
-    at_word y l e true i = rw (e, escaped_here a y l ∙ i) refl
-    at_word y l e false i = absurd (not_here a (LCurly ∷ 'function' ∷ []) refl (sym (ap (one_of_kinds (LCurly ∷ 'function' ∷ [])) (keyword_plain p.token i)) ∙ c) y l (covered (λ k w e. one_of_kinds no_expression k && one_of_kinds read_kinds k) (λ k w e. one_of_kinds (LCurly ∷ 'function' ∷ []) k) begins_none y.kind y.newline y.escaped (and_from _ _ e l.1)))
+    at_word : (y : Lexeme) → Lex text p.prev_token_end y → IsTrue (seen (starts first (looked_at f) full) y) → one_of_kinds no_expression y.kind ≡ true → (b : Bool) → p.token.escaped ≡ b → seen (other (is_one_of no_expression)) y ≡ true
+    at_word y l q e true i = rw (e, escaped_here a y l ∙ i) refl
+    at_word y l q e false i = absurd (not_here a (LCurly ∷ 'function' ∷ []) refl (sym (ap (one_of_kinds (LCurly ∷ 'function' ∷ [])) (keyword_plain p.token i)) ∙ c) y l (covered (λ k w e. one_of_kinds no_expression k && starts first (looked_at f) full k w e) (λ k w e. one_of_kinds (LCurly ∷ 'function' ∷ []) k) (begins_none f) y.kind y.newline y.escaped (and_from _ _ e q)))
 
-    go : (y : Lexeme) → Lex text p.prev_token_end y → (b : Bool) → one_of_kinds no_expression y.kind ≡ b → seen (other (is_one_of no_expression)) y ≡ true
-    go y l true e = at_word y l e p.token.escaped refl
-    go y l false e = rw e refl
+    go : (y : Lexeme) → Lex text p.prev_token_end y → IsTrue (seen (starts first (looked_at f) full) y) → (b : Bool) → one_of_kinds no_expression y.kind ≡ b → seen (other (is_one_of no_expression)) y ≡ true
+    go y l q true e = at_word y l q e p.token.escaped refl
+    go y l q false e = rw e refl
 
 -- an expression that was read, where no statement ends behind it
 pub no_expression_ends : {text : List ℕ} {f : Flags} {p q : Parser} (b : Bool) → At text f p → one_of_kinds (LCurly ∷ 'function' ∷ []) (keyword_kind p.token) ≡ false → AsyncIsName text p.prev_token_end → LetIsName text b p.prev_token_end → (x : Answer text f (at Expression f) p q) → Fails rule (Lex text) (plain no_link) end (semicolon (goes_on (row_of x.label x.slots))) q.prev_token_end → Fails rule (Lex text) (after_statement (placed b f)) end (symbol ExprStmt f) p.prev_token_end
