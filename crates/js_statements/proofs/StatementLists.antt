@@ -15,7 +15,7 @@ use Rattle.js_grammar.specs.Insertion.{goes_on}
 use Rattle.js_grammar.specs.Conditions.{not_string}
 use Rattle.js_grammar.specs.Lexed.{Lexes}
 use Rattle.js_grammar.specs.Parsing.{Test, plain, always, still, Goes, Fails}
-use Rattle.js_grammar.specs.Productions.{G, Flags, at, opt, ListItem, Item, Labeled, Directive, Expression, ImportDecl, ExportDecl}
+use Rattle.js_grammar.specs.Productions.{G, Flags, at, opt, ListItem, Item, Labeled, Directive, Expression}
 use Rattle.js_grammar.specs.Productions.{sym as symbol}
 use Rattle.js_grammar.specs.Table.{rule, rule_of, string}
 use Rattle.js_grammar.specs.Follow.{row_of, after}
@@ -46,7 +46,6 @@ use Rattle.js_statements.specs.declared.statement_list.StatementList.{StatementL
 use Rattle.js_statements.specs.declared.statement_list.StatementList.TheVariants.{Text, Block, Body, Clause}
 use Rattle.js_parsing.proofs.Verdicts.{verdict_of, either_way, and_then}
 use Rattle.js_parsing.proofs.Moving.{same_both, same_itself, same_with, beside_nodes}
-use Rattle.js_parsing.proofs.Dead.{fails_dead}
 use Rattle.js_parsing.proofs.MadeNodes.{one_held}
 use Rattle.js_parsing.proofs.Paths.{Path, ◌⟶✗◌, not_here, fails_at, noded_by, by_symbol_as, label_here, walked_both}
 use Rattle.js_statements.specs.LetStatements.{LetIsName}
@@ -119,8 +118,8 @@ before_list Clause = by_first firsts (by_plain no_link) refl
 -- ---- items
 
 item_rule : {text : List ℕ} {s : ℕ} (f : Flags) → Goes rule (Lex text) (after_statement (at Item f)) end (rule (at Item f)) s (symbol ListItem f) s (λ us. us) (still 0)
-unfolding rule rule_of apart
-item_rule f = left (fails_dead (when f.module_goal (alt (symbol ImportDecl f) (symbol ExportDecl f))) refl)
+unfolding rule rule_of
+item_rule f = stay
 
 item_stretch : (sl : StatementList) {text : List ℕ} {f : Flags} {s s' : ℕ} {l : Label} {cs : Slots} {pass : Lexemes → Lexemes} → Stretch text (after_statement (at ListItem f)) (symbol ListItem f) s nothing s' (tree l cs) pass → Stretch text (after_statement (at (item_of sl) f)) (symbol (item_of sl) f) s nothing s' (tree l cs) pass
 item_stretch Text {f = f} y = record { reach = max 0 y.reach; near = let k = y.near in omega arith; goes = by_rule {X' = after_statement (at Item f)} (λ l cs vs z d. d) (item_rule f ▹ y.goes) refl }
