@@ -442,13 +442,15 @@ stays w end = ((λ p h. refl), (λ h. refl))
 stays w (hole us) = let u = stays w us in ((λ p h. u.0 p h), (λ h. u.1 h))
 stays w (tree l cs us) =
     let c = stays w cs in
-    let u = stays w us in
-    ((λ p h. node_stays w p l.kind l.op l.flags l.span cs us c u h), (λ h.
-    let a = and_parts _ _ h in
-    let b = and_parts _ _ a.0 in
-    let d = (and_parts (cooked_at w anywhere (tree l cs us)) _ a.1).0 in
-    let v = (and_parts _ _ (and_parts _ _ d).1).1 in
-    and_from _ _ (and_from _ _ b.0 (and_parts _ _ (u.1 (and_from _ _ b.1 (and_from _ _ v refl)))).0) (and_from _ _ (node_stays w anywhere l.kind l.op l.flags l.span cs us c u d) refl)))
+    let u = stays w us in (
+      (λ p h. node_stays w p l.kind l.op l.flags l.span cs us c u h),
+      (λ h.
+          let a = and_parts _ _ h in
+          let b = and_parts _ _ a.0 in
+          let d = (and_parts (cooked_at w anywhere (tree l cs us)) _ a.1).0 in
+          let v = (and_parts _ _ (and_parts _ _ d).1).1 in
+          and_from _ _ (and_from _ _ b.0 (and_parts _ _ (u.1 (and_from _ _ b.1 (and_from _ _ v refl)))).0) (and_from _ _ (node_stays w anywhere l.kind l.op l.flags l.span cs us c u d) refl)),
+    )
 
 pub flags_without : (w : List ℕ) (t : Tree) → IsTrue (everywhere (not_u_and_v w) (tree t.label t.slots end)) → IsTrue (everywhere (not_u_and_v w) (tree (without_pure t).label (without_pure t).slots end))
 flags_without w t h = flags_unmarked w (tree t.label t.slots end) ∙ h
