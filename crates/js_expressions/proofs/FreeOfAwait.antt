@@ -1,5 +1,5 @@
 -- What is derived where `await` is no name is derived where it is one too, over the same lexemes, if it is an operator in both or in neither: so the parameters of an asynchronous arrow function are derived under the parameters around (ECMA-262, 15.9).
-use Rattle.std.proofs.Common.{ℕ, ◌≡◌, ◌||◌, ◌&&◌, Bool, true, false, not, IsTrue, refl, sym, ap, subst, ◌∙◌, rules}
+use Rattle.std.proofs.Common.{ℕ, ◌≡◌, ◌||◌, ◌&&◌, Bool, true, false, not, IsTrue, refl, sym, ap, subst, ◌∙◌}
 use Rattle.std.proofs.lemmas.Bool.{false≢true, and_parts, and_from}
 use Rattle.js_base.specs.declared.kind.Kind.{Kind}
 use Rattle.js_base.specs.declared.kind.Kind.TheVariants.{Yield, Await}
@@ -10,7 +10,8 @@ use Rattle.js_grammar.specs.Insertion.{may_bind}
 use Rattle.js_grammar.specs.Parsing.{always}
 use Rattle.js_grammar.specs.Productions.{G, Flags, Name, Symbol, at, Program, Params, IdentifierReference, BindingIdentifier, LabelIdentifier}
 use Rattle.js_grammar.specs.Table.{rule, rule_of}
-use Rattle.js_parsing.proofs.Related.{Like, like_itself}
+use Rattle.js_grammar.proofs.Related.{Like, like_itself}
+use Rattle.js_grammar.proofs.Renamed.{renamed, paired, alike}
 use Rattle.js_parsing.specs.Contexts.{arrow_head}
 
 -- the same value, or off in place of on
@@ -39,13 +40,36 @@ is_identifier _ = false
 abbrev with_await : Bool → Flags → Flags
 with_await b f = record f { await_ = b }
 
-freer_at : (n : Name) (f : Flags) → is_identifier n ≡ false → Like Freer (rule_of n (with_await true f)) (rule_of n (with_await false f))
+-- a symbol for those that differ in `await` alone
+abbrev class_of : Symbol → Symbol
+class_of s = at s.name (with_await false s.flags)
+
+abbrev off_or : Symbol → Symbol → Bool
+off_or s t = not t.flags.await_ || s.flags.await_
+
+freer : (s t : Symbol) → class_of s ≡ class_of t → off_or s t ≡ true → Freer s t
+freer s t e h = (ap (λ (u : Symbol). u.name) e, λ i. record ((sym e i).flags) { await_ = t.flags.await_ }, one_off s.flags.await_ t.flags.await_ h)
+  where
+    one_off : (a b : Bool) → (not b || a) ≡ true → OffOr a b
+    one_off true true h = tt
+    one_off true false h = tt
+    one_off false true h = absurd (false≢true h)
+    one_off false false h = tt
+
+same_class : (n : Name) (f : Flags) → is_identifier n ≡ false → renamed class_of (rule_of n (with_await true f)) ≡ renamed class_of (rule_of n (with_await false f))
 unfolding rule_of
-freer_at IdentifierReference f h = absurd (false≢true (sym h))
-freer_at BindingIdentifier f h = absurd (false≢true (sym h))
-freer_at LabelIdentifier f h = absurd (false≢true (sym h))
-freer_at Program f h = search rules
-freer_at n f h = search rules
+same_class IdentifierReference f h = absurd (false≢true (sym h))
+same_class BindingIdentifier f h = absurd (false≢true (sym h))
+same_class LabelIdentifier f h = absurd (false≢true (sym h))
+same_class n f h = refl
+
+all_off : (n : Name) (f : Flags) → paired off_or (rule_of n (with_await true f)) (rule_of n (with_await false f)) ≡ true
+unfolding rule_of
+all_off Program f = refl
+all_off n f = refl
+
+freer_at : (n : Name) (f : Flags) → is_identifier n ≡ false → Like Freer (rule_of n (with_await true f)) (rule_of n (with_await false f))
+freer_at n f h = alike class_of off_or Freer freer (rule_of n (with_await true f)) (rule_of n (with_await false f)) (same_class n f h) (all_off n f)
 
 freer_rule : (s t : Symbol) → Freer s t → is_identifier s.name ≡ false → Like Freer (rule s) (rule t)
 unfolding rule

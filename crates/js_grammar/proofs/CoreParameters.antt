@@ -1,15 +1,17 @@
 -- Over core lexemes, of the parameters In alone makes a difference, and the option for V8's own functions.
-use Rattle.std.proofs.Common.{ℕ, ◌≡◌, Bool, true, false, not, ◌&&◌, IsTrue, refl, sym, subst, ◌∙◌, rules}
-use Rattle.std.proofs.lemmas.Bool.{false≢true, and_parts}
+use Rattle.std.proofs.Common.{ℕ, ◌≡◌, Bool, true, false, not, ◌&&◌, ◌||◌, IsTrue, List, [], ◌∷◌, refl, sym, ap, subst, ◌∙◌, rules}
+use Rattle.std.proofs.lemmas.Bool.{false≢true, not-true, and_parts, and_from}
 use Rattle.js_base.specs.declared.kind.Kind.{Kind}
 use Rattle.js_base.specs.Kinds.{one_of_kinds}
 use Rattle.js_grammar.specs.Trees.{Slots, Tree, tree}
 use Rattle.js_grammar.specs.Grammar.{Lexeme, Lexemes, here, Look, seen, nothing, never, lexeme, look, text, ahead, empty_slot, seq, alt, when, many, commas, such, marked, node, ended, keep, kept, label_of, semicolon, commas_once, Takes, Derives, is_nothing, is_lexeme, is_look, is_text, is_ahead, is_empty_slot, is_seq, is_left, is_right, is_when, is_many, is_commas, is_such, is_marked, is_node, is_ended, is_keep, is_kept}
-use Rattle.js_grammar.specs.Productions.{Flags, Name, Symbol, G, Element, Property, Program}
+use Rattle.js_grammar.specs.Productions.{Flags, Name, Symbol, at, G, Element, Property, IdentifierReference, BindingIdentifier, LabelIdentifier}
 use Rattle.js_grammar.specs.Table.{rule_of}
 use Rattle.js_grammar.specs.Pruning.{every_kind}
 use Rattle.js_grammar.specs.CoreGrammar.{core_kinds, core_of, core_rule}
 use Rattle.js_grammar.specs.CoreReadings.{core_lexeme, AllCore}
+use Rattle.js_grammar.proofs.Related.{Like as Alike}
+use Rattle.js_grammar.proofs.Renamed.{renamed, paired, alike}
 use Rattle.js_grammar.proofs.CoreDerivations.{stays, every_at}
 
 -- properties of objects and elements of classes are no parts of core texts
@@ -57,13 +59,84 @@ Like (keep a b) (keep c d) = Like a c × Like b d
 Like kept kept = Unit {0}
 Like _ _ = ⊥
 
+like_itself : (p : Look) → like p p ≡ true
+like_itself p = every core_kinds
+  where
+    agree_itself : (a : Bool) → agree a a ≡ true
+    agree_itself true = refl
+    agree_itself false = refl
+
+    every : (ks : List Kind) → every_kind (agree_at p p) ks ≡ true
+    every [] = refl
+    every (k ∷ ks) = and_from _ _ (and_from _ _ (agree_itself (p k true false)) (agree_itself (p k false false))) (every ks)
+
+-- the same, but for symbols that share their parameters
+alike_like : (g h : G) → Alike Shares g h → Like g h
+alike_like nothing nothing e = tt
+alike_like never never e = tt
+alike_like (lexeme p) (lexeme q) e = subst (λ (z : Look). like p z ≡ true) e (like_itself p)
+alike_like (look p) (look q) e = e
+alike_like (text p) (text q) e = e
+alike_like (ahead a) (ahead b) e = alike_like a b e
+alike_like empty_slot empty_slot e = tt
+alike_like (seq a b) (seq c d) e = (alike_like a c e.0, alike_like b d e.1)
+alike_like (alt a b) (alt c d) e = (alike_like a c e.0, alike_like b d e.1)
+alike_like (when c a) (when d b) e = (e.0, alike_like a b e.1)
+alike_like (many a) (many b) e = alike_like a b e
+alike_like (commas x a) (commas y b) e = (e.0, alike_like a b e.1)
+alike_like (such n c) (such m d) e = e
+alike_like (marked h n) (marked k m) e = e
+alike_like (node m a) (node n b) e = (e.0, alike_like a b e.1)
+alike_like (ended r a) (ended s b) e = (e.0, alike_like a b e.1)
+alike_like (keep a b) (keep c d) e = (alike_like a c e.0, alike_like b d e.1)
+alike_like kept kept e = tt
+alike_like g h e = absurd e
+
+-- what a symbol shares with others
+abbrev core_class : Symbol → Symbol
+core_class s = at s.name (sharing s.flags (record { in_ = false; yield_ = false; await_ = false; awaits = false; return_ = false; new_target = false; module_goal = false; v8 = false; cover = false; wide = false }))
+
+abbrev no_member : Symbol → Symbol → Bool
+no_member n m = not (is_member n.name)
+
+shares : (n m : Symbol) → core_class n ≡ core_class m → no_member n m ≡ true → Shares n m
+shares n m e h = (ap (λ (s : Symbol). s.name) e, not-true (is_member n.name) h, λ i. record (m.flags) { in_ = sym (ap (λ (s : Symbol). s.flags.in_) e) i; v8 = sym (ap (λ (s : Symbol). s.flags.v8) e) i; wide = sym (ap (λ (s : Symbol). s.flags.wide) e) i })
+
+-- the lines that test a lexeme by a parameter
+abbrev is_identifier : Name → Bool
+is_identifier IdentifierReference = true
+is_identifier BindingIdentifier = true
+is_identifier LabelIdentifier = true
+is_identifier _ = false
+
 -- computed for each nonterminal
-like_at : (n : Name) → is_member n ≡ false → (f g : Flags) → Like (core_of n f) (core_of n (sharing f g))
+same_class : (n : Name) → is_member n ≡ false → (f g : Flags) → is_identifier n ≡ false → renamed core_class (core_of n f) ≡ renamed core_class (core_of n (sharing f g))
 unfolding rule_of core_of
-like_at Property e f g = absurd (false≢true (sym e))
-like_at Element e f g = absurd (false≢true (sym e))
-like_at Program e f g = search rules
-like_at n e f g = search rules
+same_class Property e f g h = absurd (false≢true (sym e))
+same_class Element e f g h = absurd (false≢true (sym e))
+same_class IdentifierReference e f g h = absurd (false≢true (sym h))
+same_class BindingIdentifier e f g h = absurd (false≢true (sym h))
+same_class LabelIdentifier e f g h = absurd (false≢true (sym h))
+same_class n e f g h = refl
+
+no_members : (n : Name) (f g : Flags) → (is_member n || paired no_member (core_of n f) (core_of n (sharing f g))) ≡ true
+unfolding rule_of core_of
+no_members Property f g = refl
+no_members n f g = refl
+
+identifier_at : (n : Name) (f g : Flags) → is_identifier n ≡ true → Like (core_of n f) (core_of n (sharing f g))
+unfolding rule_of core_of
+identifier_at IdentifierReference f g h = search rules
+identifier_at BindingIdentifier f g h = search rules
+identifier_at LabelIdentifier f g h = search rules
+identifier_at n f g h = absurd (false≢true h)
+
+like_at : (n : Name) → is_member n ≡ false → (f g : Flags) → Like (core_of n f) (core_of n (sharing f g))
+like_at n e f g = go (is_identifier n) refl
+  where
+    go : (b : Bool) → is_identifier n ≡ b → Like (core_of n f) (core_of n (sharing f g))
+    go true h = identifier_at n f g h
+    go false h = alike_like (core_of n f) (core_of n (sharing f g)) (alike core_class no_member Shares shares (core_of n f) (core_of n (sharing f g)) (same_class n e f g h) (subst (λ (b : Bool). (b || paired no_member (core_of n f) (core_of n (sharing f g))) ≡ true) e (no_members n f g)))
 
 like_rule : (n m : Symbol) → Shares n m → Like (core_rule n) (core_rule m)
 unfolding core_rule

@@ -1,6 +1,6 @@
 -- Where shorthands with an initialiser stand in a tree of the cover grammar, and that a tree without them is derived strictly (ECMA-262, 13.2.5).
-use Rattle.std.proofs.Common.{ℕ, zero, suc, ◌+◌, ◌<◌, ◌≤◌, arith, ◌≡◌, Bool, true, false, cond, ◌&&◌, ◌||◌, IsTrue, List, [], ◌∷◌, ◌++◌, nat_eq, rules, refl, sym, ap, subst, ◌∙◌}
-use Rattle.std.proofs.lemmas.Bool.{false≢true, and_parts}
+use Rattle.std.proofs.Common.{ℕ, zero, suc, ◌+◌, ◌<◌, ◌≤◌, arith, ◌≡◌, Bool, true, false, cond, ◌&&◌, ◌||◌, not, IsTrue, List, [], ◌∷◌, ◌++◌, nat_eq, rules, refl, sym, ap, subst, ◌∙◌}
+use Rattle.std.proofs.lemmas.Bool.{false≢true, not-true, and_parts}
 use Rattle.js_grammar.specs.Trees.{NodeKind, function_expression, arrow_function_expression, Label, Op, Span, Slots, end, hole, tree, Tree, append}
 use Rattle.js_grammar.specs.Grammar.{Make, Lexeme, Lexemes, last, next, here, seen, nothing, never, lexeme, look, text, ahead, empty_slot, seq, alt, when, many, commas, such, marked, node, ended, keep, kept, label_of, semicolon, many_once, commas_once, Takes, Derives, is_nothing, is_lexeme, is_look, is_text, is_ahead, is_empty_slot, is_seq, is_left, is_right, is_when, is_many, is_commas, is_such, is_marked, is_node, is_ended, is_keep, is_kept}
 use Rattle.js_grammar.specs.Lexed.{Lex, Lexes, all_faults}
@@ -15,6 +15,7 @@ use Rattle.js_base.specs.declared.span.Span.{Span as PlacedSpan}
 use Rattle.js_base.specs.Kinds.{same_kind}
 use Rattle.js_grammar.specs.LexicalFaults.{Reached}
 use Rattle.js_grammar.proofs.Behind.{lexed_behind}
+use Rattle.js_grammar.proofs.Renamed.{renamed, remarked, first_of, second_of, symbol_of, mark_of}
 use Rattle.js_grammar.proofs.Loose.{strict_is_cover, strict_is_loose}
 
 -- The head of an arrow, as it may be before it is known to be one, drops what it keeps: no program has one.
@@ -103,10 +104,10 @@ module _ (Q : Span → Type 0) where
   kept_each (marked k n) h d e = absurd (false≢true h)
 
 -- a mark of parentheses makes no shorthand
-mark_of : (k : NodeKind) (o : Op) (n : ℕ) (s : Span) → (is_shorthand (with_pife (record { kind = k; op = o; flags = n; span = s })) ≡ is_shorthand (record { kind = k; op = o; flags = n; span = s })) × ((with_pife (record { kind = k; op = o; flags = n; span = s })).span ≡ s)
-mark_of function_expression o n s = (refl, refl)
-mark_of arrow_function_expression o n s = (refl, refl)
-mark_of k o n s = (refl, refl)
+pife_of : (k : NodeKind) (o : Op) (n : ℕ) (s : Span) → (is_shorthand (with_pife (record { kind = k; op = o; flags = n; span = s })) ≡ is_shorthand (record { kind = k; op = o; flags = n; span = s })) × ((with_pife (record { kind = k; op = o; flags = n; span = s })).span ≡ s)
+pife_of function_expression o n s = (refl, refl)
+pife_of arrow_function_expression o n s = (refl, refl)
+pife_of k o n s = (refl, refl)
 
 -- what is derived strictly from the symbol
 abbrev narrow : Symbol → Symbol
@@ -144,12 +145,68 @@ abbrev is_property_line : Name → Bool
 is_property_line Property = true
 is_property_line _ = false
 
-line : (n : Name) (f : Flags) → is_head n ≡ false → is_property_line n ≡ false → Narrow (rule_of n f) (rule_of n (with_cover false f))
+-- ---- computed for each nonterminal
+
+covering : Bool → Symbol → Symbol
+covering c s = at s.name (with_cover c s.flags)
+
+line_covering : (n : Name) (c : Bool) (f : Flags) → is_property_line n ≡ false → renamed (covering c) (rule_of n f) ≡ rule_of n (with_cover c f)
+unfolding rule_of covering
+line_covering Property c f p = absurd (false≢true (sym p))
+line_covering n c f p = refl
+
+-- parentheses are the only mark
+pub line_marked : (n : Name) (f : Flags) → remarked with_pife (rule_of n f) ≡ rule_of n f
 unfolding rule_of
-line Property f h p = absurd (false≢true (sym p))
-line LooseHead f h p = absurd (false≢true (sym h))
-line Program f h p = search rules
-line n f h p = search rules
+line_marked Program f = refl
+line_marked n f = refl
+
+-- no symbol is a head, no node a shorthand, and what is kept stands somewhere
+abbrev settled : G → Bool
+settled (ahead a) = settled a
+settled (seq a b) = settled a && settled b
+settled (alt a b) = settled a && settled b
+settled (when c a) = settled a
+settled (many a) = settled a
+settled (commas x a) = settled a
+settled (such n c) = not (is_head n.name)
+settled (marked h n) = not (is_head n.name)
+settled (node m a) = not (is_short m) && settled a
+settled (ended r a) = settled a
+settled (keep a b) = puts b && (settled a && settled b)
+settled _ = true
+
+line_settled : (n : Name) (f : Flags) → (is_property_line n || settled (rule_of n f)) ≡ true
+unfolding rule_of
+line_settled Property f = refl
+line_settled n f = refl
+
+narrowed : (g : G) → remarked with_pife g ≡ g → settled g ≡ true → Narrow g (renamed (covering false) g)
+unfolding covering
+narrowed nothing e h = tt
+narrowed never e h = tt
+narrowed (lexeme p) e h = refl
+narrowed (look p) e h = refl
+narrowed (text p) e h = refl
+narrowed (ahead a) e h = narrowed a (ap first_of e) h
+narrowed empty_slot e h = tt
+narrowed (seq a b) e h = let q = and_parts (settled a) _ h in (narrowed a (ap first_of e) q.0, narrowed b (ap second_of e) q.1)
+narrowed (alt a b) e h = let q = and_parts (settled a) _ h in (narrowed a (ap first_of e) q.0, narrowed b (ap second_of e) q.1)
+narrowed (when c a) e h = (λ q. q, narrowed a (ap first_of e) h)
+narrowed (many a) e h = narrowed a (ap first_of e) h
+narrowed (commas x a) e h = (refl, narrowed a (ap first_of e) h)
+narrowed (such n c) e h = ((refl, not-true (is_head n.name) h), refl)
+narrowed (marked k n) e h = ((refl, not-true (is_head n.name) h), (refl, sym (ap mark_of e)))
+narrowed (node m a) e h = (refl, narrowed a (ap first_of e) (and_parts (not (is_short m)) _ h).1)
+narrowed (ended r a) e h = (refl, narrowed a (ap first_of e) h)
+narrowed (keep a b) e h = let q = and_parts (puts b) _ h in let r = and_parts (settled a) _ q.1 in ((narrowed a (ap first_of e) r.0, narrowed b (ap second_of e) r.1), q.0)
+narrowed kept e h = tt
+
+is_settled : (n : Name) (f : Flags) → is_property_line n ≡ false → settled (rule_of n f) ≡ true
+is_settled n f p = subst (λ (b : Bool). (b || settled (rule_of n f)) ≡ true) p (line_settled n f)
+
+line : (n : Name) (f : Flags) → is_property_line n ≡ false → Narrow (rule_of n f) (rule_of n (with_cover false f))
+line n f p = subst (Narrow (rule_of n f)) (line_covering n false f p) (narrowed (rule_of n f) (line_marked n f) (is_settled n f p))
 
 -- nothing is so
 abbrev Never : Span → Type 0
@@ -207,7 +264,7 @@ module _ (n : ℕ) (up : UpTo n) where
   narrow_in (such s t) (such m k) w {ks = ks} (is_such {l = l} {cs = cs} {us = us} {i = i} {j = j} {ls = ls} {rest = rest} d h) c e =
       subst (λ z. Takes rule (such z k) ks (tree l cs us) i ls us j rest) (sym w.0.0) (is_such (up s.name s.flags w.0.1 l cs i j ls rest d (omega arith) (e.0, (e.1.0, tt))) (subst (λ z. IsTrue (z (record { label = l; slots = cs }))) w.1 h))
   narrow_in (marked h s) (marked k m) w {ks = ks} (is_marked {l = l} {cs = cs} {us = us} {i = i} {j = j} {ls = ls} {rest = rest} d) c e =
-      subst (λ z. Takes rule (marked z m) ks (tree (h l) cs us) i ls us j rest) w.1.0 (subst (λ z. Takes rule (marked h z) ks (tree (h l) cs us) i ls us j rest) (sym w.0.0) (is_marked (up s.name s.flags w.0.1 l cs i j ls rest d (omega arith) ((λ q. e.0 (ap (λ (v : Label → Label). is_initialised (v l) cs) w.1.1 ∙ (ap (λ (v : Bool). v && has_third cs) (mark_of l.kind l.op l.flags l.span).0 ∙ q))), (e.1.0, tt)))))
+      subst (λ z. Takes rule (marked z m) ks (tree (h l) cs us) i ls us j rest) w.1.0 (subst (λ z. Takes rule (marked h z) ks (tree (h l) cs us) i ls us j rest) (sym w.0.0) (is_marked (up s.name s.flags w.0.1 l cs i j ls rest d (omega arith) ((λ q. e.0 (ap (λ (v : Label → Label). is_initialised (v l) cs) w.1.1 ∙ (ap (λ (v : Bool). v && has_third cs) (pife_of l.kind l.op l.flags l.span).0 ∙ q))), (e.1.0, tt)))))
   narrow_in (node m a) (node k b) w {ks = ks} (is_node {cs = cs} {us = us} {i = i} {j = j} {ls = ls} {rest = rest} d) c e =
       subst (λ z. Takes rule (node z b) ks (tree (label_of m ls j rest) cs us) i ls us j rest) w.0 (is_node (narrow_in a b w.1 d (omega arith) e.1.0))
   narrow_in (ended r a) (ended s b) w (is_ended {ks = ks} {cs = cs} {us = us} {vs = vs} {j = j} {k = k} {ls = ls} {mid = mid} {rest = rest} q d x) c e =
@@ -218,11 +275,11 @@ module _ (n : ℕ) (up : UpTo n) where
   narrow_in g h w d c e = absurd w
 
   property_deeper : (f : Flags) → Narrows (suc n) Property f
-  unfolding rule rule_of
+  unfolding rule rule_of covering
   property_deeper f l cs i j ls rest (is_left (is_node (is_seq x (is_seq y (is_right is_nothing))))) c e =
       is_left (is_node (is_seq (narrow_in _ _ ((refl, refl), refl) x (omega arith) e.1.0) (is_seq (narrow_in _ _ ((refl, refl), refl) y (omega arith) (behind Never x e.1.0)) (is_right is_nothing))))
   property_deeper f l cs i j ls rest (is_left (is_node (is_seq (is_ahead (is_such x p)) (is_seq (is_such y q) (is_left (is_when h (is_such z k))))))) c e = absurd (e.0 refl)
-  property_deeper f l cs i j ls rest (is_right d) c e = is_right (narrow_in _ _ (search rules) d (omega arith) e)
+  property_deeper f l cs i j ls rest (is_right d) c e = is_right (narrow_in (second_of (rule_of Property f)) (second_of (rule_of Property (with_cover false f))) (narrowed (second_of (rule_of Property f)) refl refl) d (omega arith) e)
 
   one_deeper : UpTo (suc n)
   unfolding rule
@@ -230,7 +287,7 @@ module _ (n : ℕ) (up : UpTo n) where
     where
       by : (b : Bool) → is_property_line m ≡ b → Narrows (suc n) m f
       by true p = subst (λ (v : Name). Narrows (suc n) v f) (sym (property_name m p)) (property_deeper f)
-      by false p = λ l cs i j ls rest d c e. narrow_in (rule_of m f) (rule_of m (with_cover false f)) (line m f h p) d (omega arith) e
+      by false p = λ l cs i j ls rest d c e. narrow_in (rule_of m f) (rule_of m (with_cover false f)) (line m f p) d (omega arith) e
 
 up_to : (n : ℕ) → UpTo n
 up_to zero m f h l cs i j ls rest d c e = absurd (omega arith)
@@ -262,12 +319,29 @@ Covers c (text p) = Unit {0}
 Covers c empty_slot = Unit {0}
 Covers c kept = Unit {0}
 
-covered_line : (c : Bool) (n : Name) (f : Flags) → is_head n ≡ false → is_property_line n ≡ false → f.cover ≡ c → Covers c (rule_of n f)
-unfolding rule_of
-covered_line c Property f h p e = absurd (false≢true (sym p))
-covered_line c LooseHead f h p e = absurd (false≢true (sym h))
-covered_line c Program f h p e = search rules
-covered_line c n f h p e = search rules
+covered : (c : Bool) (g : G) → renamed (covering c) g ≡ g → remarked with_pife g ≡ g → settled g ≡ true → Covers c g
+unfolding covering
+covered c nothing d e h = tt
+covered c never d e h = tt
+covered c (lexeme p) d e h = tt
+covered c (look p) d e h = tt
+covered c (text p) d e h = tt
+covered c (ahead a) d e h = covered c a (ap first_of d) (ap first_of e) h
+covered c empty_slot d e h = tt
+covered c (seq a b) d e h = let q = and_parts (settled a) _ h in (covered c a (ap first_of d) (ap first_of e) q.0, covered c b (ap second_of d) (ap second_of e) q.1)
+covered c (alt a b) d e h = let q = and_parts (settled a) _ h in (covered c a (ap first_of d) (ap first_of e) q.0, covered c b (ap second_of d) (ap second_of e) q.1)
+covered c (when x a) d e h = covered c a (ap first_of d) (ap first_of e) h
+covered c (many a) d e h = covered c a (ap first_of d) (ap first_of e) h
+covered c (commas x a) d e h = covered c a (ap first_of d) (ap first_of e) h
+covered c (such n t) d e h = (sym (ap (λ (s : Symbol). s.flags.cover) (ap (symbol_of n) d)), not-true (is_head n.name) h)
+covered c (marked k n) d e h = ((sym (ap (λ (s : Symbol). s.flags.cover) (ap (symbol_of n) d)), not-true (is_head n.name) h), sym (ap mark_of e))
+covered c (node m a) d e h = let q = and_parts (not (is_short m)) _ h in (not-true (is_short m) q.0, covered c a (ap first_of d) (ap first_of e) q.1)
+covered c (ended r a) d e h = covered c a (ap first_of d) (ap first_of e) h
+covered c (keep a b) d e h = let q = and_parts (settled a) _ (and_parts (puts b) _ h).1 in (covered c a (ap first_of d) (ap first_of e) q.0, covered c b (ap second_of d) (ap second_of e) q.1)
+covered c kept d e h = tt
+
+covered_line : (c : Bool) (n : Name) (f : Flags) → is_property_line n ≡ false → f.cover ≡ c → Covers c (rule_of n f)
+covered_line c n f p e = subst (λ (x : Bool). Covers x (rule_of n f)) e (covered f.cover (rule_of n f) (line_covering n f.cover f p) (line_marked n f) (is_settled n f p))
 
 commas_covered : (c x : Bool) (a : G) → Covers c a → Covers c (commas_once x a)
 commas_covered c true a h = (h, ((tt, (h, tt)), tt))
@@ -304,7 +378,7 @@ module _ (Q : Span → Type 0) (L : ℕ → Lexeme → Type 0) (c : Bool) (told 
     tells_in (such k t) w (is_such {l = l} {cs = cs} {i = i} {j = j} {ls = ls} {rest = rest} d h) s m a b = let x = up k.name k.flags w.1 w.0 l cs i j ls rest d (omega arith) m in (x.0, (x.1.0, b))
     tells_in (marked h k) w (is_marked {l = l} {cs = cs} {i = i} {j = j} {ls = ls} {rest = rest} d) s m a b =
         let x = up k.name k.flags w.0.1 w.0.0 l cs i j ls rest d (omega arith) m in
-        let y = mark_of l.kind l.op l.flags l.span in
+        let y = pife_of l.kind l.op l.flags l.span in
         (λ q. subst (λ (v : Label → Label). Q (v l).span) (sym w.1) (subst Q (sym y.1) (x.0 (ap (λ (v : Bool). v && has_third cs) (sym y.0) ∙ (ap (λ (v : Label → Label). is_initialised (v l) cs) (sym w.1) ∙ q)))), (x.1.0, b))
     tells_in (node k g) w (is_node {cs = cs} {j = j} {ls = ls} {rest = rest} d) s m a b = (λ q. absurd (no_short k cs (label_of k ls j rest).span w.0 q), (tells_in g w.1 d (omega arith) m a tt, b))
     tells_in (ended r g) w (is_ended {ks = ks} {cs = cs} {us = us} {ls = ls} q d x) s m a b =
@@ -314,9 +388,9 @@ module _ (Q : Span → Type 0) (L : ℕ → Lexeme → Type 0) (c : Bool) (told 
     tells_in never w d s m a b = elim d [ ]
 
     property_tells : (f : Flags) → f.cover ≡ c → Tells (suc n) Property f
-    unfolding rule rule_of
+    unfolding rule rule_of covering
     property_tells f e l cs i j ls rest (is_left (is_node d)) s m = (told f e l cs i j ls rest m (is_left (is_node d)), (tells_in _ ((e, refl), ((e, refl), ((e, refl), tt))) d (omega arith) m tt tt, tt))
-    property_tells f e l cs i j ls rest (is_right d) s m = tells_in _ (search rules) d (omega arith) m tt tt
+    property_tells f e l cs i j ls rest (is_right d) s m = tells_in (second_of (rule_of Property f)) (subst (λ (x : Bool). Covers x (second_of (rule_of Property f))) e (covered f.cover (second_of (rule_of Property f)) refl refl refl)) d (omega arith) m tt tt
 
     one_tells : TellsUpTo (suc n)
     unfolding rule
@@ -324,7 +398,7 @@ module _ (Q : Span → Type 0) (L : ℕ → Lexeme → Type 0) (c : Bool) (told 
       where
         by : (b : Bool) → is_property_line m ≡ b → Tells (suc n) m f
         by true p = subst (λ (v : Name). Tells (suc n) v f) (sym (property_name m p)) (property_tells f e)
-        by false p = λ l cs i j ls rest d s q. tells_in (rule_of m f) (covered_line c m f h p e) d (omega arith) q tt tt
+        by false p = λ l cs i j ls rest d s q. tells_in (rule_of m f) (covered_line c m f p e) d (omega arith) q tt tt
 
   told_up_to : (n : ℕ) → TellsUpTo n
   told_up_to zero m f h e l cs i j ls rest d s q = absurd (omega arith)

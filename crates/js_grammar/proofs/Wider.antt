@@ -2,6 +2,7 @@
 use Rattle.std.proofs.Common.{ℕ, ◌≡◌, Bool, true, false, IsTrue, refl, sym, subst}
 use Rattle.js_grammar.specs.Trees.{Tree, Slots, tree}
 use Rattle.js_grammar.specs.Grammar.{Lexemes, here, seen, Grammar, nothing, never, lexeme, look, text, ahead, empty_slot, seq, alt, when, many, commas, such, marked, node, ended, keep, kept, label_of, semicolon, commas_once, Takes, Derives, is_nothing, is_lexeme, is_look, is_text, is_ahead, is_empty_slot, is_seq, is_left, is_right, is_when, is_many, is_commas, is_such, is_marked, is_node, is_ended, is_keep, is_kept}
+use Rattle.js_grammar.proofs.Renamed.{renamed}
 
 module _ {N : Type 0} (w : N → N) where
   -- g, with its symbols changed by w, and weaker conditions
@@ -25,6 +26,26 @@ module _ {N : Type 0} (w : N → N) where
   Le (keep a b) (keep c d) = Le a c × Le b d
   Le kept kept = Unit {0}
   Le _ _ = ⊥
+
+  pub le_renamed : (g : Grammar N) → Le g (renamed w g)
+  le_renamed nothing = tt
+  le_renamed never = tt
+  le_renamed (lexeme p) = refl
+  le_renamed (look p) = refl
+  le_renamed (text p) = refl
+  le_renamed (ahead a) = le_renamed a
+  le_renamed empty_slot = tt
+  le_renamed (seq a b) = (le_renamed a, le_renamed b)
+  le_renamed (alt a b) = (le_renamed a, le_renamed b)
+  le_renamed (when c a) = (λ q. q, le_renamed a)
+  le_renamed (many a) = le_renamed a
+  le_renamed (commas x a) = (refl, le_renamed a)
+  le_renamed (such n c) = (refl, refl)
+  le_renamed (marked h n) = (refl, refl)
+  le_renamed (node m a) = (refl, le_renamed a)
+  le_renamed (ended r a) = (refl, le_renamed a)
+  le_renamed (keep a b) = (le_renamed a, le_renamed b)
+  le_renamed kept = tt
 
 commas_le : {N : Type 0} (w : N → N) (a b : Grammar N) (x y : Bool) → x ≡ y → Le w a b → Le w (commas_once x a) (commas_once y b)
 commas_le w a b true true q e = (e, ((refl, ((q, e), tt)), tt))

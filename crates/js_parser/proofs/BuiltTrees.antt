@@ -1,6 +1,6 @@
 -- The trees that the productions that are built derive: which early errors they can't have, that they add nothing to the record of a module, and that none of their nodes is marked as pure.
 use Rattle.std.proofs.Common.{ℕ, ◌≡◌, ◌+◌, ◌/◌, ◌%◌, ◌-◌, ◌++◌, ◌∷◌, Bool, true, false, not, cond, ◌&&◌, ◌||◌, List, [], map, refl, sym, subst, ap, ◌∙◌, rules, arith, nat_eq, IsTrue}
-use Rattle.std.proofs.lemmas.Bool.{false≢true, and_parts, and_from}
+use Rattle.std.proofs.lemmas.Bool.{false≢true, not-true, and_parts, and_from}
 use Rattle.js_grammar.specs.Trees.{NodeKind, switch_statement, switch_case, try_statement, template_literal, with_clause, method_definition, property_definition, accessor_property, import_declaration, export_all_declaration, export_from_declaration, export_named_declaration, export_declaration, export_default_declaration, import_expression, import_meta, function_expression, arrow_function_expression, Op, no_op, Label, Span, Slots, end, hole, tree, Tree, append}
 use Rattle.js_grammar.specs.Grammar.{Make, Lexemes, ◌▸◌, ◌◇◌, empty_slot, ahead, seq, alt, when, many, commas, such, marked, node, ended, keep, label_of, Takes, Derives, is_nothing, is_lexeme, is_look, is_text, is_ahead, is_empty_slot, is_seq, is_left, is_right, is_when, is_many, is_commas, is_such, is_marked, is_node, is_ended, is_keep, is_kept}
 use Rattle.js_grammar.specs.Productions.{Flags, Name, Symbol, G, at, tok, opt, mk, parens, braces, slot, Program, Case, Switch, Try, Expression, Block, Catch, ListItem, Class, ClassExpr, ClassBody, Element, Decorator, DecoratorMember, ImportDecl, Spec, ExportName, Attrs, Attr, ExportDecl, pure_flag, has_flag, with_pife}
@@ -11,6 +11,8 @@ use Rattle.js_grammar.specs.Table.{rule, rule_of}
 use Rattle.js_grammar.specs.EarlyRules.{Rule, everywhere, one_default, catch_or_finally, not_u_and_v, Place, anywhere, tag, tagged, cooked_at, templates_cooked, attribute_keys_differ, no_private_constructor, no_field_constructor, no_static_prototype, plain_constructor, EarlyOk}
 use Rattle.js_grammar.specs.Modules.{adds, found_in, record_errors, in_order_of_ends, part_of}
 use Rattle.js_grammar.specs.ModuleRecords.{errors_of_parts}
+use Rattle.js_grammar.proofs.CoverInitialisers.{line_marked}
+use Rattle.js_grammar.proofs.Renamed.{remarked, first_of, second_of, mark_of}
 use Rattle.js_grammar.specs.TreeForms.{with_labels, not_pure, without_pure}
 
 -- nonterminals that no production that is built leads to
@@ -87,12 +89,42 @@ Rooted (ended r a) = Rooted a
 Rooted (keep a b) = Rooted a × Rooted b
 Rooted g = Unit {0}
 
+abbrev rooted : G → Bool
+rooted (ahead a) = rooted a
+rooted (seq a b) = rooted a && rooted b
+rooted (alt a b) = rooted a && rooted b
+rooted (when c a) = rooted a
+rooted (many a) = rooted a
+rooted (commas b a) = rooted a
+rooted (such n c) = not (is_case n.name)
+rooted (marked h n) = not (is_case n.name)
+rooted (node m a) = not (is_switch_case m.kind)
+rooted (ended r a) = rooted a
+rooted (keep a b) = rooted a && rooted b
+rooted g = true
+
+is_rooted : (g : G) → remarked with_pife g ≡ g → rooted g ≡ true → Rooted g
+is_rooted (ahead a) e h = is_rooted a (ap first_of e) h
+is_rooted (seq a b) e h = let q = and_parts (rooted a) _ h in (is_rooted a (ap first_of e) q.0, is_rooted b (ap second_of e) q.1)
+is_rooted (alt a b) e h = let q = and_parts (rooted a) _ h in (is_rooted a (ap first_of e) q.0, is_rooted b (ap second_of e) q.1)
+is_rooted (when c a) e h = is_rooted a (ap first_of e) h
+is_rooted (many a) e h = is_rooted a (ap first_of e) h
+is_rooted (commas b a) e h = is_rooted a (ap first_of e) h
+is_rooted (such n c) e h = not-true (is_case n.name) h
+is_rooted (marked k n) e h = (not-true (is_case n.name) h, sym (ap mark_of e))
+is_rooted (node m a) e h = not-true (is_switch_case m.kind) h
+is_rooted (ended r a) e h = is_rooted a (ap first_of e) h
+is_rooted (keep a b) e h = let q = and_parts (rooted a) _ h in (is_rooted a (ap first_of e) q.0, is_rooted b (ap second_of e) q.1)
+is_rooted g e h = tt
+
 -- computed for each nonterminal
-rooted_at : (n : Name) → is_case n ≡ false → (f : Flags) → Rooted (rule_of n f)
+line_rooted : (n : Name) (f : Flags) → (is_case n || rooted (rule_of n f)) ≡ true
 unfolding rule_of
-rooted_at Case e f = absurd (false≢true (sym e))
-rooted_at Program e f = search rules
-rooted_at n e f = search rules
+line_rooted Program f = refl
+line_rooted n f = refl
+
+rooted_at : (n : Name) → is_case n ≡ false → (f : Flags) → Rooted (rule_of n f)
+rooted_at n e f = is_rooted (rule_of n f) (line_marked n f) (subst (λ (b : Bool). (b || rooted (rule_of n f)) ≡ true) e (line_rooted n f))
 
 rooted_line : (n : Symbol) → is_case n.name ≡ false → Rooted (rule n)
 unfolding rule
@@ -138,10 +170,6 @@ taken_rooted (is_kept {ks = ks} {us = us} q) p k u = subst (λ (v : Slots). no_c
 
 -- ---- a switch and a try
 
-is_not : (b : Bool) → not b ≡ true → b ≡ false
-is_not true h = absurd (false≢true h)
-is_not false h = refl
-
 abbrev a_label : NodeKind → Label
 a_label k = record { kind = k; op = no_op; flags = 0; span = record { from = 0; to = 0 } }
 
@@ -181,7 +209,7 @@ switch_slots f = tok 'switch' ▸ parens (symbol Expression f) ▸ braces (claus
 switch_shape : {f : Flags} {ks cs : Slots} {i j : ℕ} {ls rest : Lexemes} → Takes rule (switch_slots f) ks cs i ls end j rest → one cs ≡ true
 switch_shape {f} (is_seq (is_lexeme a) (is_seq (is_seq (is_lexeme b) (is_seq (is_such {l = l} {cs = cs} {us = us} x c) (is_lexeme d))) (is_seq (is_lexeme e) (is_seq y (is_lexeme g))))) =
     let r = taken_rooted x (rooted_line (at Expression f) refl) refl refl in
-    other_first l.kind l.op l.flags l.span cs us (is_not (is_switch_case l.kind) (and_parts (not (is_switch_case l.kind)) _ r).0) (one_there y)
+    other_first l.kind l.op l.flags l.span cs us (not-true (is_switch_case l.kind) (and_parts (not (is_switch_case l.kind)) _ r).0) (one_there y)
 
 abbrev try_slots : Flags → G
 try_slots f = tok 'try' ▸ symbol Block f ▸ (symbol Catch f ▸ slot (tok 'finally' ▸ symbol Block f) ◇ empty_slot ▸ tok 'finally' ▸ symbol Block f)
@@ -191,6 +219,12 @@ try_shape (is_seq (is_lexeme a) (is_seq (is_such x c) (is_left (is_seq (is_such 
 try_shape (is_seq (is_lexeme a) (is_seq (is_such x c) (is_right (is_seq is_empty_slot (is_seq (is_lexeme b) (is_such y d)))))) o n s = refl
 
 -- ---- all nodes
+
+-- the nonterminals whose node is of such a kind
+abbrev is_shaped : Name → Bool
+is_shaped Switch = true
+is_shaped Try = true
+is_shaped _ = false
 
 abbrev Either : Bool → Type 0 → Type 0 → Type 0
 Either true A B = A
@@ -214,31 +248,57 @@ Fine (ended r a) = Fine a
 Fine (keep a b) = Fine a × Fine b
 Fine g = Unit {0}
 
-switch_fine : (f : Flags) → Fine (switch_slots f)
-switch_fine f = search rules
+abbrev finely : G → Bool
+finely (ahead a) = finely a
+finely (seq a b) = finely a && finely b
+finely (alt a b) = finely a && finely b
+finely (when c a) = finely a
+finely (many a) = finely a
+finely (commas b a) = finely a
+finely (such n c) = not (far n.name)
+finely (marked h n) = not (far n.name)
+finely (node m a) = not (shaped m.kind) && (plain m.kind m.flags && finely a)
+finely (ended r a) = finely a
+finely (keep a b) = finely a && finely b
+finely g = true
 
-try_fine : (f : Flags) → Fine (try_slots f)
-try_fine f = search rules
+-- a node whose slots no rule looks at
+unshaped : (b : Bool) (A B : Type 0) → not b ≡ true → B → Either b A B
+unshaped true A B h x = absurd (false≢true h)
+unshaped false A B h x = x
+
+is_fine : (g : G) → remarked with_pife g ≡ g → finely g ≡ true → Fine g
+is_fine (ahead a) e h = is_fine a (ap first_of e) h
+is_fine (seq a b) e h = let q = and_parts (finely a) _ h in (is_fine a (ap first_of e) q.0, is_fine b (ap second_of e) q.1)
+is_fine (alt a b) e h = let q = and_parts (finely a) _ h in (is_fine a (ap first_of e) q.0, is_fine b (ap second_of e) q.1)
+is_fine (when c a) e h = is_fine a (ap first_of e) h
+is_fine (many a) e h = is_fine a (ap first_of e) h
+is_fine (commas b a) e h = is_fine a (ap first_of e) h
+is_fine (such n c) e h = not-true (far n.name) h
+is_fine (marked k n) e h = (not-true (far n.name) h, sym (ap mark_of e))
+is_fine (node m a) e h = let q = and_parts (not (shaped m.kind)) _ h in let r = and_parts (plain m.kind m.flags) _ q.1 in (unshaped (shaped m.kind) (Shape m a) _ q.0 r.0, is_fine a (ap first_of e) r.1)
+is_fine (ended r a) e h = is_fine a (ap first_of e) h
+is_fine (keep a b) e h = let q = and_parts (finely a) _ h in (is_fine a (ap first_of e) q.0, is_fine b (ap second_of e) q.1)
+is_fine g e h = tt
 
 -- computed for each nonterminal
-fine_at : (n : Name) → far n ≡ false → (f : Flags) → Fine (rule_of n f)
+line_fine : (n : Name) (f : Flags) → ((far n || is_shaped n) || finely (rule_of n f)) ≡ true
 unfolding rule_of
-fine_at Switch e f = ((λ ks cs i j ls rest x s. and_from _ _ (switch_shape x) refl), switch_fine f)
-fine_at Try e f = ((λ ks cs i j ls rest x s. try_shape x no_op 0 s), try_fine f)
-fine_at Class e f = absurd (false≢true (sym e))
-fine_at ClassExpr e f = absurd (false≢true (sym e))
-fine_at ClassBody e f = absurd (false≢true (sym e))
-fine_at Element e f = absurd (false≢true (sym e))
-fine_at Decorator e f = absurd (false≢true (sym e))
-fine_at DecoratorMember e f = absurd (false≢true (sym e))
-fine_at ImportDecl e f = absurd (false≢true (sym e))
-fine_at Spec e f = absurd (false≢true (sym e))
-fine_at ExportName e f = absurd (false≢true (sym e))
-fine_at Attrs e f = absurd (false≢true (sym e))
-fine_at Attr e f = absurd (false≢true (sym e))
-fine_at ExportDecl e f = absurd (false≢true (sym e))
-fine_at Program e f = search rules
-fine_at n e f = search rules
+line_fine Program f = refl
+line_fine n f = refl
+
+shaped_at : (n : Name) → is_shaped n ≡ true → (f : Flags) → Fine (rule_of n f)
+unfolding rule_of
+shaped_at Switch e f = ((λ ks cs i j ls rest x s. and_from _ _ (switch_shape x) refl), is_fine (switch_slots f) refl refl)
+shaped_at Try e f = ((λ ks cs i j ls rest x s. try_shape x no_op 0 s), is_fine (try_slots f) refl refl)
+shaped_at n e f = absurd (false≢true e)
+
+fine_at : (n : Name) → far n ≡ false → (f : Flags) → Fine (rule_of n f)
+fine_at n e f = go (is_shaped n) refl
+  where
+    go : (b : Bool) → is_shaped n ≡ b → Fine (rule_of n f)
+    go true h = shaped_at n h f
+    go false h = is_fine (rule_of n f) (line_marked n f) (subst (λ (b : Bool). (b || finely (rule_of n f)) ≡ true) (λ i. e i || h i) (line_fine n f))
 
 fine_line : (n : Symbol) → far n.name ≡ false → Fine (rule n)
 unfolding rule
@@ -324,7 +384,7 @@ catch_spared : Spares catch_or_finally
 catch_spared l cs h = (and_parts (one_default l cs) _ (and_parts (plain l.kind l.flags) _ h).1).1
 
 here_not_absent : (l : Label) (cs : Slots) → fine_label l cs ≡ true → absent l.kind ≡ false
-here_not_absent l cs h = is_not (absent l.kind) (and_parts (not (absent l.kind)) _ (and_parts (plain l.kind l.flags) _ h).0).0
+here_not_absent l cs h = not-true (absent l.kind) (and_parts (not (absent l.kind)) _ (and_parts (plain l.kind l.flags) _ h).0).0
 
 -- a rule of nodes of the absent kinds
 abbrev OfAbsent : Rule → Type 0
@@ -389,7 +449,7 @@ record_fine text t h = ap (λ (ts : List Tree). errors_of_parts (map (part_of te
 
 -- no node is marked as pure
 mark_fine : (l : Label) (cs : Slots) → fine_label l cs ≡ true → not_pure l ≡ l
-mark_fine l cs h = ap (λ (n : ℕ). record l { flags = n }) (ap (λ (b : Bool). cond b (l.flags - pure_flag) l.flags) (is_not (has_flag pure_flag l.flags) (and_parts (not (absent l.kind)) _ (and_parts (plain l.kind l.flags) _ h).0).1))
+mark_fine l cs h = ap (λ (n : ℕ). record l { flags = n }) (ap (λ (b : Bool). cond b (l.flags - pure_flag) l.flags) (not-true (has_flag pure_flag l.flags) (and_parts (not (absent l.kind)) _ (and_parts (plain l.kind l.flags) _ h).0).1))
 
 marks_fine : (us : Slots) → everywhere fine_label us ≡ true → with_labels not_pure us ≡ us
 marks_fine end h = refl

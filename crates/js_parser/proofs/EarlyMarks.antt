@@ -1,15 +1,15 @@
 -- A regular expression in a tree stands where a lexeme does, and a template's part between the delimiters of one; so what is told of them has its mark.
-use Rattle.std.proofs.Common.{ℕ, ◌≡◌, Bool, true, false, not, cond, ◌||◌, List, [], ◌++◌, Some, None, nat_eq, ◌&&◌, ◌≤◌, ◌+◌, ◌-◌, ◌⊎◌, inl, inr, arith, rules, refl, sym, ap, subst, ◌∙◌}
+use Rattle.std.proofs.Common.{ℕ, ◌≡◌, Bool, true, false, not, cond, ◌||◌, List, [], ◌++◌, Some, None, nat_eq, ◌&&◌, ◌≤◌, ◌+◌, ◌-◌, ◌⊎◌, inl, inr, arith, refl, sym, ap, subst, ◌∙◌}
 use Rattle.std.specs.List.{All}
 use Rattle.std.specs.Prelude.{is_some}
-use Rattle.std.proofs.lemmas.Bool.{false≢true, and_parts, eqb-true}
+use Rattle.std.proofs.lemmas.Bool.{false≢true, not-true, and_parts, eqb-true}
 use Rattle.std.proofs.lemmas.List.Elements.{All-nil, All-cons, All-append}
 use Rattle.js_base.specs.Decoding.{cooked}
 use Rattle.js_base.specs.Spans.{LiesIn}
 use Rattle.js_base.specs.declared.diagnostic.DiagnosticKind.{DiagnosticKind}
 use Rattle.js_base.specs.declared.diagnostic.DiagnosticKind.TheVariants.{RegExpFlagUAndV, TemplateLiteral}
 use Rattle.js_grammar.specs.Trees.{NodeKind, reg_exp_literal, template_element, function_expression, arrow_function_expression, Label, Op, Span, Slots, end, hole, tree, Tree, append}
-use Rattle.js_grammar.specs.Grammar.{Extent, exact, inside, whole_text, Make, Lexeme, Lexemes, next, lexeme, ahead, seq, alt, when, many, commas, marked, node, ended, keep, span_of, label_of, commas_once, Takes, Derives, is_nothing, is_lexeme, is_look, is_text, is_ahead, is_empty_slot, is_seq, is_left, is_right, is_when, is_many, is_commas, is_such, is_marked, is_node, is_ended, is_keep, is_kept}
+use Rattle.js_grammar.specs.Grammar.{Extent, exact, inside, whole_text, Make, Lexeme, Lexemes, next, lexeme, ahead, seq, alt, when, many, commas, marked, node, ended, keep, span_of, label_of, commas_once, Takes, Derives, is_nothing, is_lexeme, is_look, is_text, is_ahead, is_empty_slot, is_seq, is_left, is_right, is_when, is_many, is_commas, is_such, is_marked, is_node, is_ended, is_keep, is_kept, nothing, never, look, text, empty_slot, such, kept}
 use Rattle.js_grammar.specs.Lexed.{Lexes}
 use Rattle.js_grammar.specs.Productions.{G, Flags, Name, Symbol, at, with_pife, Program}
 use Rattle.js_grammar.specs.Table.{rule, rule_of}
@@ -17,7 +17,8 @@ use Rattle.js_grammar.specs.NodeNames.{characters_at}
 use Rattle.js_grammar.specs.Marks.{EdgeOf, the_start, the_end, inside_start, inside_end, a_lexeme, Mark, StandsAt}
 use Rattle.js_grammar.specs.Settings.{Goal}
 use Rattle.js_grammar.proofs.Behind.{lexed_behind}
-use Rattle.js_grammar.proofs.CoverInitialisers.{Led}
+use Rattle.js_grammar.proofs.CoverInitialisers.{Led, line_marked}
+use Rattle.js_grammar.proofs.Renamed.{remarked, first_of, second_of, mark_of}
 use Rattle.js_tree.specs.Covering.{placed}
 use Rattle.js_parser.specs.Broken.{past, within as inner, broken_rule, told_rule, told_in}
 use Rattle.js_parser.specs.FlagScans.{has_both}
@@ -52,10 +53,47 @@ Fits (ended r a) = Fits a
 Fits (keep a b) = Fits a × Fits b
 Fits g = Unit {0}
 
-line : (n : Name) (f : Flags) → Fits (rule_of n f)
+abbrev fits : G → Bool
+fits (node m (lexeme p)) = not (is_lexical m.kind) || is_near m.extent
+fits (node m a) = not (is_lexical m.kind) && fits a
+fits (ahead a) = fits a
+fits (seq a b) = fits a && fits b
+fits (alt a b) = fits a && fits b
+fits (when q a) = fits a
+fits (many a) = fits a
+fits (commas x a) = fits a
+fits (ended r a) = fits a
+fits (keep a b) = fits a && fits b
+fits g = true
+
+is_fit : (g : G) → remarked with_pife g ≡ g → fits g ≡ true → Fits g
+is_fit (node m (lexeme p)) e h = h
+is_fit (node m a) e h = let q = and_parts (not (is_lexical m.kind)) _ h in (not-true (is_lexical m.kind) q.0, is_fit a (ap first_of e) q.1)
+is_fit (ahead a) e h = is_fit a (ap first_of e) h
+is_fit (seq a b) e h = let q = and_parts (fits a) _ h in (is_fit a (ap first_of e) q.0, is_fit b (ap second_of e) q.1)
+is_fit (alt a b) e h = let q = and_parts (fits a) _ h in (is_fit a (ap first_of e) q.0, is_fit b (ap second_of e) q.1)
+is_fit (when q a) e h = is_fit a (ap first_of e) h
+is_fit (many a) e h = is_fit a (ap first_of e) h
+is_fit (commas x a) e h = is_fit a (ap first_of e) h
+is_fit (marked k n) e h = sym (ap mark_of e)
+is_fit (ended r a) e h = is_fit a (ap first_of e) h
+is_fit (keep a b) e h = let q = and_parts (fits a) _ h in (is_fit a (ap first_of e) q.0, is_fit b (ap second_of e) q.1)
+is_fit nothing e h = tt
+is_fit never e h = tt
+is_fit (lexeme p) e h = tt
+is_fit (look p) e h = tt
+is_fit (text p) e h = tt
+is_fit empty_slot e h = tt
+is_fit (such n c) e h = tt
+is_fit kept e h = tt
+
+line_fits : (n : Name) (f : Flags) → fits (rule_of n f) ≡ true
 unfolding rule_of
-line Program f = search rules
-line n f = search rules
+line_fits Program f = refl
+line_fits n f = refl
+
+line : (n : Name) (f : Flags) → Fits (rule_of n f)
+line n f = is_fit (rule_of n f) (line_marked n f) (line_fits n f)
 
 rule_fits : (n : Symbol) → Fits (rule n)
 unfolding rule

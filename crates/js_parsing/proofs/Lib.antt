@@ -23,7 +23,6 @@ pub mod Parts
 pub mod Paths
 pub mod Phrases
 pub mod ReadKinds
-pub mod Related
 pub mod Signs
 pub mod Slashes
 pub mod Stretches

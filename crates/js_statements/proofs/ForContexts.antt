@@ -1,5 +1,5 @@
 -- The first part of the head of a `for`, read where `in` is no operator, as it stands where it is one (ECMA-262, 14.7.4, 14.7.5).
-use Rattle.std.proofs.Common.{ℕ, ◌≡◌, Bool, true, false, max, List, Option, refl, sym, ap, subst, rules, arith, ◌∙◌}
+use Rattle.std.proofs.Common.{ℕ, ◌≡◌, Bool, true, false, max, List, Option, refl, sym, ap, subst, arith, ◌∙◌}
 use Rattle.js_base.specs.declared.context.Context.{Context}
 use Rattle.js_grammar.specs.Trees.{end}
 use Rattle.js_grammar.specs.Grammar.{is}
@@ -7,6 +7,8 @@ use Rattle.js_grammar.specs.Parsing.{Test, plain, still, Goes}
 use Rattle.js_grammar.specs.Productions.{Flags, minus_in}
 use Rattle.js_grammar.specs.Table.{rule}
 use Rattle.js_grammar.proofs.Calculus.{part_by, same, ◌▹◌, ◌▹✗◌}
+use Rattle.js_grammar.proofs.Related.{Like}
+use Rattle.js_grammar.proofs.Renamed.{alike_by}
 use Rattle.js_tree.specs.declared.id.NodeId.{NodeId}
 use Rattle.js_cursor.specs.Parsers.{Parser}
 use Rattle.js_cursor.specs.Places.{IsAt}
@@ -18,27 +20,26 @@ use Rattle.js_parsing.specs.Heads.{widened}
 use Rattle.js_parsing.specs.Lexemes.{Lex}
 use Rattle.js_parsing.specs.States.{At, IsPlain, whole, sign, nothing, flags_of}
 use Rattle.js_parsing.proofs.Moving.{flags_same, stops_later}
-use Rattle.js_parsing.proofs.Related.{Like}
 use Rattle.js_parsing.proofs.Verdicts.{verdict_of}
 use Rattle.js_statements.specs.declared.for_statement.Ending.{Ending}
 use Rattle.js_statements.specs.declared.for_statement.Ending.TheVariants as ending
 use Rattle.js_statements.specs.ForHeads.{FirstTaken, NoFirstPart, end_kind, first_part}
 use Rattle.js_statements.proofs.ForHeads.{last_between}
-use Rattle.js_statements.proofs.BindingsFreeOfIn.{ButIn, any_in_like}
+use Rattle.js_statements.proofs.BindingsFreeOfIn.{ButIn, class_of, but_in, any_in_like}
 
 -- ---- the parts
 
 first_inside : (w : Bool) (e : Ending) (f : Flags) → Like ButIn (first_part w e f) (first_part w e (minus_in f))
-first_inside w ending.Semicolon f = search rules
-first_inside w ending.In f = search rules
-first_inside true ending.Of f = search rules
-first_inside false ending.Of f = search rules
+first_inside w ending.Semicolon f = alike_by class_of ButIn but_in (first_part w ending.Semicolon f) (first_part w ending.Semicolon (minus_in f)) refl
+first_inside w ending.In f = alike_by class_of ButIn but_in (first_part w ending.In f) (first_part w ending.In (minus_in f)) refl
+first_inside true ending.Of f = alike_by class_of ButIn but_in (first_part true ending.Of f) (first_part true ending.Of (minus_in f)) refl
+first_inside false ending.Of f = alike_by class_of ButIn but_in (first_part false ending.Of f) (first_part false ending.Of (minus_in f)) refl
 
 first_back : (w : Bool) (e : Ending) (f : Flags) → Like ButIn (first_part w e (minus_in f)) (first_part w e f)
-first_back w ending.Semicolon f = search rules
-first_back w ending.In f = search rules
-first_back true ending.Of f = search rules
-first_back false ending.Of f = search rules
+first_back w ending.Semicolon f = alike_by class_of ButIn but_in (first_part w ending.Semicolon (minus_in f)) (first_part w ending.Semicolon f) refl
+first_back w ending.In f = alike_by class_of ButIn but_in (first_part w ending.In (minus_in f)) (first_part w ending.In f) refl
+first_back true ending.Of f = alike_by class_of ButIn but_in (first_part true ending.Of (minus_in f)) (first_part true ending.Of f) refl
+first_back false ending.Of f = alike_by class_of ButIn but_in (first_part false ending.Of (minus_in f)) (first_part false ending.Of f) refl
 
 module _ {text : List ℕ} (w : Bool) (e : Ending) (f : Flags) where
   inside : {X : Test} {s : ℕ} → Goes rule (Lex text) X end (first_part w e f) s (first_part w e (minus_in f)) s (λ us. us) (still 0)
