@@ -5,9 +5,47 @@ ghost use Rattle.std.specs.Prelude.{◌≡◌};
 use crate::written::{
     push_blanks, push_comma, push_comments, push_faults, push_token, push_tokens,
 };
-use js_base::{Diagnostic, JsStr, Kind, NoMemory, Token};
-use js_lex::{Lexer, LexerConfig};
+use js_base::{Diagnostic, JsStr, Kind, NoMemory, Token, Tokens};
+use js_lex::{Lexer, LexerConfig, LexerOutput};
 use std::alloc::{AllocError, Global};
+
+/// What a word asks for.
+#[derive(Debug, Clone, Copy)]
+enum Call {
+    All,
+    Next,
+    Peek,
+    Again,
+    Back,
+    Regex,
+    Name,
+    String,
+    Fault,
+    Begin,
+    Marks,
+    Only,
+}
+
+impl Call {
+    /// The call that a word names.
+    fn of(word: &str) -> Option<Call> {
+        match word {
+            "all" => Some(Call::All),
+            "next" => Some(Call::Next),
+            "peek" => Some(Call::Peek),
+            "again" => Some(Call::Again),
+            "back" => Some(Call::Back),
+            "regex" => Some(Call::Regex),
+            "name" => Some(Call::Name),
+            "string" => Some(Call::String),
+            "fault" => Some(Call::Fault),
+            "begin" => Some(Call::Begin),
+            "marks" => Some(Call::Marks),
+            "only" => Some(Call::Only),
+            _ => None,
+        }
+    }
+}
 
 /// What was read by a lexer and written so far.
 #[derive(Drop)]
@@ -42,39 +80,63 @@ impl<'a, C: LexerConfig> Asked<'a, C> {
         }
     }
 
-    /// Does what a word asks for.
+    /// Does what a word asks for; a word that is none of these names a list to be written.
     fn ask(&mut self, word: &str, numbers: &Vec<usize>) -> Result<(), NoMemory> {
-        match word {
-            "all" => self.read_all(numbers),
-            "next" => {
-                let token = next(&mut self.lexer)?;
-                self.give(token)
-            }
-            "peek" => {
-                let token = peek(&mut self.lexer)?;
-                self.give(token)
-            }
-            "again" => {
-                let token = next_again(&mut self.lexer)?;
-                self.give(token)
-            }
-            "back" => next_and_back(&mut self.lexer),
-            "regex" => self.regular_expression(),
-            "name" => self.name(),
-            "string" => self.string(),
-            "fault" => self.fault(),
-            "begin" => self.beginning(),
-            "marks" => self.marks(),
-            "only" => {
-                self.tells_faults = false;
-                self.given.clear();
+        match Call::of(word) {
+            Some(call) => self.make(call, numbers),
+            None => self.list(word),
+        }
+    }
+
+    /// Makes a call.
+    fn make(&mut self, call: Call, numbers: &Vec<usize>) -> Result<(), NoMemory> {
+        match call {
+            Call::All => self.read_all(numbers),
+            Call::Next => self.next_token(),
+            Call::Peek => self.peek_token(),
+            Call::Again => self.token_again(),
+            Call::Back => next_and_back(&mut self.lexer),
+            Call::Regex => self.regular_expression(),
+            Call::Name => self.name(),
+            Call::String => self.string(),
+            Call::Fault => self.fault(),
+            Call::Begin => self.beginning(),
+            Call::Marks => self.marks(),
+            Call::Only => {
+                self.only_lists();
                 Ok(())
             }
-            _ => {
-                self.lists.push_str(word)?;
-                Ok(self.lists.push(' ')?)
-            }
         }
+    }
+
+    /// Tells no token and no fault.
+    fn only_lists(&mut self) {
+        self.tells_faults = false;
+        self.given.clear();
+    }
+
+    /// A list is to be written.
+    fn list(&mut self, word: &str) -> Result<(), NoMemory> {
+        self.lists.push_str(word)?;
+        Ok(self.lists.push(' ')?)
+    }
+
+    /// The next token.
+    fn next_token(&mut self) -> Result<(), NoMemory> {
+        let token = next(&mut self.lexer)?;
+        self.give(token)
+    }
+
+    /// The next token, which is not passed.
+    fn peek_token(&mut self) -> Result<(), NoMemory> {
+        let token = peek(&mut self.lexer)?;
+        self.give(token)
+    }
+
+    /// The next token, read again.
+    fn token_again(&mut self) -> Result<(), NoMemory> {
+        let token = next_again(&mut self.lexer)?;
+        self.give(token)
     }
 
     /// Writes a token that was given.
@@ -190,38 +252,80 @@ impl<'a, C: LexerConfig> Asked<'a, C> {
     /// All that is written: what was given, and then the lists that were asked for. Faults are told where there are
     /// any, and tokens where they are not those that have to be kept.
     fn finish(self) -> Result<String, AllocError> {
-        let Asked {
-            alloc,
-            lexer,
-            source: _,
-            given,
-            kept,
-            lists,
-            is_whole,
-            tells_faults,
-        } = self;
-        let mut out = given;
-        let output = lexer.finish();
-        if lists.as_str().contains("comments") {
-            out.push_str("; comments: ")?;
-            push_comments(&mut out, &output.comments)?;
+        let wanted = Wanted {
+            lists: self.lists,
+            kept: self.kept,
+            is_whole: self.is_whole,
+            tells_faults: self.tells_faults,
+        };
+        let mut out = self.given;
+        let output = self.lexer.finish();
+        match push_lists(self.alloc, &mut out, &output, &wanted) {
+            Ok(()) => Ok(out),
+            Err(error) => Err(error),
         }
-        if lists.as_str().contains("blanks") {
-            out.push_str("; blanks: ")?;
-            push_blanks(&mut out, &output.irregular_whitespaces)?;
-        }
-        let mut tokens = String::new(alloc);
-        push_tokens(&mut tokens, &output.tokens)?;
-        if lists.as_str().contains("tokens") || (is_whole && tokens.as_str() != kept.as_str()) {
-            out.push_str("; tokens: ")?;
-            out.push_str(tokens.as_str())?;
-        }
-        if tells_faults && !output.errors.is_empty() {
-            out.push_str("; faults: ")?;
-            push_faults(&mut out, &output.errors)?;
-        }
-        Ok(out)
     }
+}
+
+/// Which lists are to be written.
+#[derive(Drop)]
+struct Wanted {
+    lists: String,
+    kept: String,
+    is_whole: bool,
+    tells_faults: bool,
+}
+
+/// Writes the lists that are wanted.
+fn push_lists(
+    alloc: Global,
+    out: &mut String,
+    output: &LexerOutput,
+    wanted: &Wanted,
+) -> Result<(), AllocError> {
+    push_trivia(out, output, wanted.lists.as_str())?;
+    push_kept_tokens(alloc, out, &output.tokens, wanted)?;
+    if wanted.tells_faults && !output.errors.is_empty() {
+        out.push_str("; faults: ")?;
+        push_faults(out, &output.errors)?;
+    }
+    Ok(())
+}
+
+/// Writes comments and white space, where they are among the lists.
+fn push_trivia(out: &mut String, output: &LexerOutput, lists: &str) -> Result<(), AllocError> {
+    if lists.contains("comments") {
+        out.push_str("; comments: ")?;
+        push_comments(out, &output.comments)?;
+    }
+    if lists.contains("blanks") {
+        out.push_str("; blanks: ")?;
+        push_blanks(out, &output.irregular_whitespaces)?;
+    }
+    Ok(())
+}
+
+/// Writes the tokens that were kept, where they are wanted or others had to be kept.
+fn push_kept_tokens(
+    alloc: Global,
+    out: &mut String,
+    tokens: &Tokens,
+    wanted: &Wanted,
+) -> Result<(), AllocError> {
+    let mut written = String::new(alloc);
+    push_tokens(&mut written, tokens)?;
+    let differs = wanted.is_whole && written.as_str() != wanted.kept.as_str();
+    if differs || wanted.lists.as_str().contains("tokens") {
+        push_text(out, written.as_str())
+    } else {
+        Ok(())
+    }
+}
+
+/// Writes tokens that are written already.
+fn push_text(out: &mut String, written: &str) -> Result<(), AllocError> {
+    out.push_str("; tokens: ")?;
+    out.push_str(written)
 }
 
 /// Does what the words of a row ask for, in order. Numbers say which tokens are read again where all are read; `first`
@@ -231,18 +335,34 @@ pub(crate) fn asked_of<C: LexerConfig>(
     mut asked: Asked<'_, C>,
     words: &str,
 ) -> Result<String, NoMemory> {
+    ask_all(alloc, &mut asked, words)?;
+    Ok(asked.finish()?)
+}
+
+/// The numbers among the words.
+fn numbers_of(alloc: Global, words: &str) -> Result<Vec<usize>, NoMemory> {
     let mut numbers = Vec::new(alloc);
     for word in words.split(' ') {
         if let Ok(number) = word.parse::<usize>() {
             numbers.push(number)?;
         }
     }
+    Ok(numbers)
+}
+
+/// Does what the words ask for.
+fn ask_all<C: LexerConfig>(
+    alloc: Global,
+    asked: &mut Asked<'_, C>,
+    words: &str,
+) -> Result<(), NoMemory> {
+    let numbers = numbers_of(alloc, words)?;
     for word in words.split(' ') {
         if word.parse::<usize>().is_err() && word != "first" {
             asked.ask(word, &numbers)?;
         }
     }
-    Ok(asked.finish()?)
+    Ok(())
 }
 
 /// A lexer of which the first token was given, and that token.

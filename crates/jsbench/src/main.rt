@@ -28,13 +28,20 @@ enum Part {
     Lexemes,
     /// Its tree.
     Tree,
-    /// Its tree, and the tokens that are kept.
+    /// Its tree, and what is kept beside it.
+    Kept(Kept),
+}
+
+/// What is told of what a parse keeps.
+#[derive(Debug, Clone, Copy)]
+enum Kept {
+    /// The tokens.
     Tokens,
-    /// Its tree, and the comments and the white space that are kept.
+    /// The comments and the white space.
     Trivia,
-    /// Its tree, and the names in it.
+    /// The names in the tree.
     Names,
-    /// Its tree, and how much is kept.
+    /// How much of all this there is.
     Counts,
 }
 
@@ -47,6 +54,29 @@ struct Asked {
     passes: Option<u32>,
 }
 
+/// What a word asks for; a number asks for nothing.
+fn part_of(word: &str) -> Option<Part> {
+    match word {
+        "parse" => Some(Part::Tree),
+        "tokens" => Some(Part::Kept(Kept::Tokens)),
+        "trivia" => Some(Part::Kept(Kept::Trivia)),
+        "names" => Some(Part::Kept(Kept::Names)),
+        "counts" => Some(Part::Kept(Kept::Counts)),
+        _ => None,
+    }
+}
+
+/// What is asked for, with one word more.
+fn with_word(asked: Asked, word: &str) -> Asked {
+    match part_of(word) {
+        Some(part) => Asked { part, ..asked },
+        None => Asked {
+            passes: word.parse::<u32>().ok(),
+            ..asked
+        },
+    }
+}
+
 /// What the arguments ask for.
 fn words_of<R: Env + AllocGlobal>(rt: &R) -> io::Result<Asked> {
     let mut asked = Asked {
@@ -54,14 +84,7 @@ fn words_of<R: Env + AllocGlobal>(rt: &R) -> io::Result<Asked> {
         passes: None,
     };
     for word in env::args(rt)?.skip(1) {
-        match word.as_str() {
-            "parse" => asked.part = Part::Tree,
-            "tokens" => asked.part = Part::Tokens,
-            "trivia" => asked.part = Part::Trivia,
-            "names" => asked.part = Part::Names,
-            "counts" => asked.part = Part::Counts,
-            number => asked.passes = number.parse::<u32>().ok(),
-        }
+        asked = with_word(asked, word.as_str());
     }
     Ok(asked)
 }
@@ -124,15 +147,23 @@ fn tell_tree<R: Print + AllocGlobal>(rt: &R, text: &str) -> io::Result<()> {
     )
 }
 
+/// Prints what a parse of a text keeps.
+fn tell_kept<R: Print + AllocGlobal>(rt: &R, text: &str, part: Kept) -> io::Result<()> {
+    let kept = kept_of(rt, text)?;
+    match part {
+        Kept::Tokens => tell_tokens(rt, &kept),
+        Kept::Trivia => tell_trivia(rt, &kept),
+        Kept::Names => tell_names(rt, &kept, text),
+        Kept::Counts => tell_counts(rt, &kept),
+    }
+}
+
 /// Prints what is in a text.
 fn tell<R: Print + AllocGlobal>(rt: &R, text: &str, part: Part) -> io::Result<()> {
     match part {
         Part::Lexemes => tell_lexemes(rt, text),
         Part::Tree => tell_tree(rt, text),
-        Part::Tokens => tell_tokens(rt, &kept_of(rt, text)?),
-        Part::Trivia => tell_trivia(rt, &kept_of(rt, text)?),
-        Part::Names => tell_names(rt, &kept_of(rt, text)?, text),
-        Part::Counts => tell_counts(rt, &kept_of(rt, text)?),
+        Part::Kept(kept) => tell_kept(rt, text, kept),
     }
 }
 
