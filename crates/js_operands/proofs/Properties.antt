@@ -116,7 +116,7 @@ word_apart ls d k h = go (one_of_kinds ls k) refl
     go true e = absurd (not_both read_words (λ k w e. one_of_kinds ls k) d k false false h e)
     go false e = e
 
--- what the name of a property begins with, of what is read: words, among them some that aren't read yet
+-- what the name of a property begins with, of what is read
 abbrev pub property_name_kinds : List Kind
 property_name_kinds = LBrack ∷ Str ∷ This ∷ Null ∷ True ∷ False ∷ Typeof ∷ Void ∷ Delete ∷ In ∷ Instanceof ∷ New ∷ Break ∷ Continue ∷ Debugger ∷ Throw ∷ If ∷ Else ∷ While ∷ Do ∷ With ∷ Var ∷ Const ∷ Case ∷ Catch ∷ Class ∷ Default ∷ Enum ∷ Export ∷ Extends ∷ Finally ∷ For ∷ Function ∷ Import ∷ Return ∷ Super ∷ Switch ∷ Try ∷ Yield ∷ Await ∷ Async ∷ Target ∷ number_kinds ++ name_kinds
 

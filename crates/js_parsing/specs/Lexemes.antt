@@ -178,7 +178,7 @@ is_plain y = is_read y && not (one_of_kinds other_goals y.kind)
 abbrev pub Plain : List ℕ → ℕ → Lexeme → Type 0
 Plain text s y = StandsBehind all_faults text s y × IsTrue (is_plain y)
 
--- A production that isn't built yet begins with a lexeme of these kinds. Where none of those that are built begins with it, a parser stops there, and nothing is said of what is derived.
+-- Kinds at which nothing would be said of what is derived where no production that is built begins with them. There are none: the productions that aren't built are no lines of the table `rule`.
 abbrev pub unbuilt_kinds : List Kind
 unbuilt_kinds = []
 

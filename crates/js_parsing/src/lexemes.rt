@@ -331,7 +331,8 @@ pub fn reads_here<C: ParserConfig>(p: &ParserImpl<'_, C>) -> bool
     is_read_kind(p.cur_kind())
 }
 
-/// Whether a production that isn't built yet begins with this lexeme: all that begins with the kinds that are read is built.
+/// Whether no claim is made where this lexeme stands and no production is met. One is made at each: the productions that aren't
+/// built are no lines of the table that parse functions are proved over.
 pub fn is_unbuilt(_kind: Kind) -> bool
     ensures { result ≡ one_of_kinds unbuilt_kinds _kind }
 {
