@@ -177,19 +177,24 @@ static KINDS: [(Kind, &str, &str); 142] = [
     (Kind::Undetermined, "Undetermined", "Undetermined"),
 ];
 
+/// Whether a kind has this text and this name, and is found by its text where that is a word.
+fn is_kind(kind: Kind, text: &str, name: &str) -> bool {
+    let is_word = kind.is_identifier_name() && kind != Kind::Ident;
+    let found = if is_word { kind } else { Kind::Ident };
+    kind.to_str() == text && kind.name() == name && Kind::match_keyword(text) == found
+}
+
 #[test]
 fn texts_and_names_of_kinds(rt: HostRuntime) {
     for &(kind, text, name) in &KINDS {
-        assert_eq!(rt; kind.to_str(), text);
-        assert_eq!(rt; kind.name(), name);
-        let is_word = kind.is_identifier_name() && kind != Kind::Ident;
-        assert_eq!(rt;
-            Kind::match_keyword(text),
-            if is_word { kind } else { Kind::Ident }
-        );
+        assert!(rt; is_kind(kind, text, name), "at {text}");
     }
+}
+
+#[test]
+fn texts_of_no_keyword(rt: HostRuntime) {
     for text in ["", "While", "whiles", "typ", "length"] {
-        assert_eq!(rt; Kind::match_keyword(text), Kind::Ident);
+        assert!(rt; Kind::match_keyword(text) == Kind::Ident, "at {text}");
     }
 }
 
@@ -218,15 +223,18 @@ static BINARY: [(Kind, BinaryOperator, &str); 22] = [
     (Kind::Star2, BinaryOperator::Exponential, "**"),
 ];
 
+/// Whether a kind stands for this operator, which has this text.
+fn is_binary(kind: Kind, operator: BinaryOperator, text: &str) -> bool {
+    if !kind.is_binary_operator() {
+        return false;
+    }
+    map_binary_operator(kind) == operator && operator.as_str() == text
+}
+
 #[test]
 fn binary_operators(rt: HostRuntime) {
     for &(kind, operator, text) in &BINARY {
-        assert_eq!(rt; operator.as_str(), text);
-        if kind.is_binary_operator() {
-            assert_eq!(rt; map_binary_operator(kind), operator);
-        } else {
-            assert!(rt; false);
-        }
+        assert!(rt; is_binary(kind, operator, text), "at {text}");
     }
 }
 
@@ -240,15 +248,18 @@ static UNARY: [(Kind, UnaryOperator, &str); 7] = [
     (Kind::Delete, UnaryOperator::Delete, "delete"),
 ];
 
+/// Whether a kind stands for this operator, which has this text.
+fn is_unary(kind: Kind, operator: UnaryOperator, text: &str) -> bool {
+    if !kind.is_unary_operator() {
+        return false;
+    }
+    map_unary_operator(kind) == operator && operator.as_str() == text
+}
+
 #[test]
 fn unary_operators(rt: HostRuntime) {
     for &(kind, operator, text) in &UNARY {
-        assert_eq!(rt; operator.as_str(), text);
-        if kind.is_unary_operator() {
-            assert_eq!(rt; map_unary_operator(kind), operator);
-        } else {
-            assert!(rt; false);
-        }
+        assert!(rt; is_unary(kind, operator, text), "at {text}");
     }
 }
 
@@ -258,15 +269,18 @@ static LOGICAL: [(Kind, LogicalOperator, &str); 3] = [
     (Kind::Question2, LogicalOperator::Coalesce, "??"),
 ];
 
+/// Whether a kind stands for this operator, which has this text.
+fn is_logical(kind: Kind, operator: LogicalOperator, text: &str) -> bool {
+    if !kind.is_logical_operator() {
+        return false;
+    }
+    map_logical_operator(kind) == operator && operator.as_str() == text
+}
+
 #[test]
 fn logical_operators(rt: HostRuntime) {
     for &(kind, operator, text) in &LOGICAL {
-        assert_eq!(rt; operator.as_str(), text);
-        if kind.is_logical_operator() {
-            assert_eq!(rt; map_logical_operator(kind), operator);
-        } else {
-            assert!(rt; false);
-        }
+        assert!(rt; is_logical(kind, operator, text), "at {text}");
     }
 }
 
@@ -275,15 +289,18 @@ static UPDATE: [(Kind, UpdateOperator, &str); 2] = [
     (Kind::Minus2, UpdateOperator::Decrement, "--"),
 ];
 
+/// Whether a kind stands for this operator, which has this text.
+fn is_update(kind: Kind, operator: UpdateOperator, text: &str) -> bool {
+    if !kind.is_update_operator() {
+        return false;
+    }
+    map_update_operator(kind) == operator && operator.as_str() == text
+}
+
 #[test]
 fn update_operators(rt: HostRuntime) {
     for &(kind, operator, text) in &UPDATE {
-        assert_eq!(rt; operator.as_str(), text);
-        if kind.is_update_operator() {
-            assert_eq!(rt; map_update_operator(kind), operator);
-        } else {
-            assert!(rt; false);
-        }
+        assert!(rt; is_update(kind, operator, text), "at {text}");
     }
 }
 
@@ -310,123 +327,163 @@ static ASSIGNMENT: [(Kind, AssignmentOperator, &str); 16] = [
     (Kind::Star2Eq, AssignmentOperator::Exponential, "**="),
 ];
 
+/// Whether a kind stands for this operator, which has this text.
+fn is_assignment(kind: Kind, operator: AssignmentOperator, text: &str) -> bool {
+    if !kind.is_assignment_operator() {
+        return false;
+    }
+    map_assignment_operator(kind) == operator && operator.as_str() == text
+}
+
 #[test]
 fn assignment_operators(rt: HostRuntime) {
     for &(kind, operator, text) in &ASSIGNMENT {
-        assert_eq!(rt; operator.as_str(), text);
-        if kind.is_assignment_operator() {
-            assert_eq!(rt; map_assignment_operator(kind), operator);
-        } else {
-            assert!(rt; false);
-        }
+        assert!(rt; is_assignment(kind, operator, text), "at {text}");
     }
 }
 
-static PRECEDENCES: [(&str, Precedence); 12] = [
-    ("??", Precedence::NullishCoalescing),
-    ("||", Precedence::LogicalOr),
-    ("&&", Precedence::LogicalAnd),
-    ("|", Precedence::BitwiseOr),
-    ("^", Precedence::BitwiseXor),
-    ("&", Precedence::BitwiseAnd),
-    ("===", Precedence::Equals),
-    ("satisfies", Precedence::Compare),
-    (">>>", Precedence::Shift),
-    ("-", Precedence::Add),
-    ("%", Precedence::Multiply),
-    ("**", Precedence::Exponentiation),
+static PRECEDENCES: [(Kind, Precedence); 12] = [
+    (Kind::Question2, Precedence::NullishCoalescing),
+    (Kind::Pipe2, Precedence::LogicalOr),
+    (Kind::Amp2, Precedence::LogicalAnd),
+    (Kind::Pipe, Precedence::BitwiseOr),
+    (Kind::Caret, Precedence::BitwiseXor),
+    (Kind::Amp, Precedence::BitwiseAnd),
+    (Kind::Eq3, Precedence::Equals),
+    (Kind::Satisfies, Precedence::Compare),
+    (Kind::ShiftRight3, Precedence::Shift),
+    (Kind::Minus, Precedence::Add),
+    (Kind::Percent, Precedence::Multiply),
+    (Kind::Star2, Precedence::Exponentiation),
 ];
+
+/// Whether a kind has this precedence, which is above that of the comma and goes to the right for the power alone.
+fn has_precedence(kind: Kind, precedence: Precedence) -> bool {
+    kind_to_precedence(kind) == Some(precedence)
+        && precedence.is_right_associative() == (kind == Kind::Star2)
+        && Precedence::Comma < precedence
+}
 
 #[test]
 fn precedences(rt: HostRuntime) {
-    for &(text, precedence) in &PRECEDENCES {
-        for &(kind, found, _) in &KINDS {
-            if found == text {
-                assert_eq!(rt; kind_to_precedence(kind), Some(precedence));
-            }
-        }
-        assert_eq!(rt; precedence.is_right_associative(), text == "**");
-        assert!(rt; Precedence::Comma < precedence);
+    for &(kind, precedence) in &PRECEDENCES {
+        assert!(rt; has_precedence(kind, precedence), "at {}", kind.to_str());
     }
-    assert_eq!(rt; kind_to_precedence(Kind::Comma), None);
+}
+
+#[test]
+fn comma_has_no_precedence(rt: HostRuntime) {
+    assert!(rt; kind_to_precedence(Kind::Comma).is_none());
+}
+
+static MESSAGES: [(DiagnosticKind, &str); 6] = [
+    (DiagnosticKind::UnexpectedToken, "Unexpected token"),
+    (DiagnosticKind::UnterminatedString, "Unterminated string"),
+    (DiagnosticKind::BinaryFile, "File appears to be binary."),
+    (DiagnosticKind::Flow, "Flow is not supported"),
+    (
+        DiagnosticKind::OverlongSource,
+        "Source length exceeds 4 GiB limit",
+    ),
+    (
+        DiagnosticKind::V8IntrinsicSpreadElem,
+        "V8 runtime calls cannot have spread elements as arguments",
+    ),
+];
+
+/// Whether a diagnostic of a kind is shown by this message.
+fn is_shown(alloc: Global, kind: DiagnosticKind, message: &str) -> bool {
+    let diagnostic = Diagnostic {
+        kind,
+        span: Span::new(12, 15),
+        first: None,
+        second: None,
+    };
+    match format!(in alloc; "{diagnostic}") {
+        Ok(text) => text.as_str() == message,
+        Err(_) => false,
+    }
 }
 
 #[test]
 fn fixed_messages(rt: HostRuntime) {
-    for (kind, message) in [
-        (DiagnosticKind::UnexpectedToken, "Unexpected token"),
-        (DiagnosticKind::UnterminatedString, "Unterminated string"),
-        (DiagnosticKind::BinaryFile, "File appears to be binary."),
-        (DiagnosticKind::Flow, "Flow is not supported"),
-        (
-            DiagnosticKind::OverlongSource,
-            "Source length exceeds 4 GiB limit",
-        ),
-        (
-            DiagnosticKind::V8IntrinsicSpreadElem,
-            "V8 runtime calls cannot have spread elements as arguments",
-        ),
-    ] {
-        let diagnostic = Diagnostic {
-            kind,
-            span: Span::new(12, 15),
-            first: None,
-            second: None,
-        };
-        match format!(in rt.alloc(); "{diagnostic}") {
-            Ok(text) => assert_eq!(rt; text.as_str(), message),
-            Err(_) => assert!(rt; false),
-        }
+    for &(kind, message) in &MESSAGES {
+        assert!(rt; is_shown(rt.alloc(), kind, message), "at {message}");
     }
-    assert_eq!(rt;
-        DiagnosticKind::V8IntrinsicSpreadElem.name(),
-        "v8_intrinsic_spread_elem"
-    );
-    assert_eq!(rt;
-        DiagnosticKind::V8IntrinsicSpreadElem.class(),
-        DiagnosticClass::Early
-    );
+}
+
+#[test]
+fn name_and_class_of_a_diagnostic(rt: HostRuntime) {
+    let kind = DiagnosticKind::V8IntrinsicSpreadElem;
+    let holds = kind.name() == "v8_intrinsic_spread_elem" && kind.class() == DiagnosticClass::Early;
+    assert!(rt; holds);
+}
+
+/// Whether a context that is made of the default one has the parameters that were set.
+fn has_parameters(context: Context) -> bool {
+    let has_both = context.has_await() && context.has_yield() && !context.has_in();
+    has_both && context == Context::Await | Context::Yield && Context::In < context
 }
 
 #[test]
 fn contexts(rt: HostRuntime) {
-    let context = Context::default();
-    assert!(rt; context.has_in());
-    let context = context.and_await(true).and_in(false).union_yield_if(true);
-    assert!(rt; context.has_await() && context.has_yield() && !context.has_in());
-    assert!(rt; context == Context::Await | Context::Yield);
-    assert!(rt; Context::In < context);
-    assert!(rt; StatementContext::Label.is_single_statement());
-    assert!(rt; !StatementContext::StatementList.is_single_statement());
-    assert!(rt; FunctionKind::Declaration.is_id_required());
-    assert!(rt; FunctionKind::Expression.is_expression());
+    let start = Context::default();
+    let context = start.and_await(true).and_in(false).union_yield_if(true);
+    assert!(rt; start.has_in() && has_parameters(context));
 }
 
 #[test]
-fn defaults(rt: HostRuntime) {
-    assert!(rt; SourceType::default().is_module());
-    assert!(rt; SourceType::unambiguous().is_unambiguous());
-    assert!(rt; SourceType::script().is_script());
-    assert!(rt; SourceType::commonjs().is_commonjs());
+fn contexts_of_statements_and_functions(rt: HostRuntime) {
+    let statements = StatementContext::Label.is_single_statement()
+        && !StatementContext::StatementList.is_single_statement();
+    let functions = FunctionKind::Declaration.is_id_required()
+        && FunctionKind::Expression.is_expression();
+    assert!(rt; statements && functions);
+}
+
+#[test]
+fn source_types(rt: HostRuntime) {
+    let holds = SourceType::default().is_module()
+        && SourceType::unambiguous().is_unambiguous()
+        && SourceType::script().is_script()
+        && SourceType::commonjs().is_commonjs();
+    assert!(rt; holds);
+}
+
+#[test]
+fn default_options(rt: HostRuntime) {
     let options = ParseOptions::default();
     assert!(rt;
         options.preserve_parens
             && !options.allow_v8_intrinsics
             && !options.allow_return_outside_function
     );
-    let token = Token::default();
-    assert_eq!(rt; token.kind(), Kind::Eof);
-    assert_eq!(rt; token.end(), 0);
 }
 
-fn fill_lists(alloc: Global) -> Result<usize, NoMemory> {
-    let span = Span::sized(2, 4).merge(Span::empty(9));
+#[test]
+fn default_token(rt: HostRuntime) {
+    let token = Token::default();
+    assert!(rt; token.kind() == Kind::Eof && token.end() == 0);
+}
+
+/// How many spans a list has that one is put into.
+fn fill_spans(alloc: Global, span: Span) -> Result<usize, NoMemory> {
     let mut spans = Spans::new(alloc);
     spans.push(span)?;
+    Ok(spans.len())
+}
+
+/// How many tokens a list has that two are put into and one is taken from.
+fn fill_tokens(alloc: Global, span: Span) -> Result<usize, NoMemory> {
     let mut tokens = Tokens::new(alloc);
     tokens.push(Token::new(Kind::Ident, span, true, false, false))?;
     tokens.push(Token::default())?;
     tokens.truncate(1);
+    Ok(tokens.len())
+}
+
+/// How many diagnostics a list has that one is put into.
+fn fill_diagnostics(alloc: Global, span: Span) -> Result<usize, NoMemory> {
     let mut diagnostics = Diagnostics::new(alloc);
     diagnostics.push(Diagnostic {
         kind: DiagnosticKind::Flow,
@@ -434,25 +491,39 @@ fn fill_lists(alloc: Global) -> Result<usize, NoMemory> {
         first: Some(span),
         second: None,
     })?;
-    Ok(spans.len() + tokens.len() + diagnostics.len())
+    Ok(diagnostics.len())
 }
 
 #[test]
 fn lists(rt: HostRuntime) {
-    match fill_lists(rt.alloc()) {
-        Ok(count) => assert_eq!(rt; count, 3),
-        Err(_) => assert!(rt; false),
+    let span = Span::sized(2, 4).merge(Span::empty(9));
+    let holds = matches!(fill_spans(rt.alloc(), span), Ok(1))
+        && matches!(fill_tokens(rt.alloc(), span), Ok(1))
+        && matches!(fill_diagnostics(rt.alloc(), span), Ok(1));
+    assert!(rt; holds);
+}
+
+/// Whether a text that is made of another is the same.
+fn is_text(alloc: Global, wanted: &str) -> bool {
+    match Text::from_str(alloc, wanted) {
+        Ok(text) => text.as_str() == wanted,
+        Err(_) => false,
     }
 }
 
 #[test]
 fn texts(rt: HostRuntime) {
-    match Text::from_str(rt.alloc(), "a\u{e9}") {
-        Ok(text) => assert_eq!(rt; text.as_str(), "a\u{e9}"),
-        Err(_) => assert!(rt; false),
-    }
+    assert!(rt; is_text(rt.alloc(), "a\u{e9}"));
+}
+
+#[test]
+fn text_of_a_token(rt: HostRuntime) {
     let token = Token::new(Kind::Ident, Span::new(1, 3), false, false, false);
-    assert_eq!(rt; token.text("abc"), "bc");
+    assert!(rt; token.text("abc") == "bc");
+}
+
+#[test]
+fn steps_are_counted(_rt: HostRuntime) {
     let mut steps = Steps::new();
     steps.tick();
 }
@@ -475,16 +546,18 @@ fn hash_of<H: Hasher>(a: Context, state: &mut H)
     a.hash(state);
 }
 
+/// Whether two contexts have the same hash.
+fn hash_alike(a: Context, b: Context) -> bool {
+    let (mut one, mut other) = (DefaultHasher::new(), DefaultHasher::new());
+    hash_of(a, &mut one);
+    hash_of(b, &mut other);
+    one.finish() == other.finish()
+}
+
 #[test]
 fn comparisons(rt: HostRuntime) {
-    assert!(rt; is_same(Context::In | Context::Await, Context::Await | Context::In));
-    assert!(rt; !is_same(Context::In, Context::Yield));
-    assert_eq!(rt;
-        order_of(Context::In | Context::Yield, Context::Await),
-        Ordering::Less
-    );
-    let (mut one, mut other) = (DefaultHasher::new(), DefaultHasher::new());
-    hash_of(Context::In | Context::Await, &mut one);
-    hash_of(Context::Await | Context::In, &mut other);
-    assert_eq!(rt; one.finish(), other.finish());
+    let (here, there) = (Context::In | Context::Await, Context::Await | Context::In);
+    let equal = is_same(here, there) && !is_same(Context::In, Context::Yield);
+    let order = order_of(Context::In | Context::Yield, Context::Await);
+    assert!(rt; equal && order == Ordering::Less && hash_alike(here, there));
 }

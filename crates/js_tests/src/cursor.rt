@@ -1,6 +1,6 @@
 //! Rows of what the moves over lexemes answer.
 
-ghost use Rattle.std.specs.Prelude.{◌≡◌, ◌≤◌, ◌<◌, length, IfOk};
+ghost use Rattle.std.specs.Prelude.{◌≡◌, ◌≤◌, ◌<◌, length, IfOk, IfSome};
 ghost use Rattle.js_base.specs.declared.TheConstants.{MAX_LEN};
 ghost use Rattle.js_cursor.specs.Checkpoints.{GoesOn};
 ghost use Rattle.js_cursor.specs.Places.{IsAt};
@@ -9,6 +9,7 @@ use js_base::{Diagnostic, DiagnosticKind, Kind, MAX_LEN, ParseOptions, SourceTyp
 use js_cursor::{CoverInitializer, ListStep, MAX_DEPTH, ParserImpl, Stop};
 use js_lex::NoTokensParserConfig;
 use js_tree::NodeId;
+use std::alloc::Global;
 
 /// A call at the first lexeme.
 #[derive(Clone, Copy)]
@@ -25,7 +26,7 @@ enum Call {
 
 /// What it answers: that it went well, that nothing was eaten, the kind of the lexeme behind, where a pattern ends, or the
 /// kind of the diagnostic that was kept last.
-#[derive(Debug, Clone, Copy, PartialEq, Eq)]
+#[derive(Clone, Copy, PartialEq, Eq)]
 enum Answer {
     Done,
     Stayed,
@@ -37,6 +38,26 @@ enum Answer {
 
 type Parser<'a> = ParserImpl<'a, NoTokensParserConfig>;
 
+/// The parser of a text as a script; none where the text is too long, or memory is wanting.
+fn parser_of(alloc: Global, source: &str) -> Option<Parser<'_>>
+    ensures { IfSome result (λ p. IsAt p) }
+{
+    if source.len() > MAX_LEN {
+        return None;
+    }
+    match Parser::new(
+        alloc,
+        source,
+        SourceType::script(),
+        ParseOptions::default(),
+        NoTokensParserConfig,
+    ) {
+        Ok(p) => Some(p),
+        Err(_) => None,
+    }
+}
+
+/// The answer of a call that gives up: the diagnostic that was kept last, or none.
 fn fatal(p: &Parser<'_>, stop: Stop) -> Answer {
     match stop {
         Stop::NoMemory => Answer::NoMemory,
@@ -47,23 +68,37 @@ fn fatal(p: &Parser<'_>, stop: Stop) -> Answer {
     }
 }
 
+/// The answer of a call that reads a pattern.
+fn pattern_read(given: Result<u32, Stop>) -> Result<Answer, Stop> {
+    match given {
+        Ok(end) => Ok(Answer::PatternEnds(end)),
+        Err(stop) => Err(stop),
+    }
+}
+
+/// The answer of a call that only moves.
+fn moved(given: Result<(), Stop>) -> Result<Answer, Stop> {
+    match given {
+        Ok(()) => Ok(Answer::Done),
+        Err(stop) => Err(stop),
+    }
+}
+
 /// Reads the current sign again, as what it may begin.
 fn re_lex(p: &mut Parser<'_>) -> Result<Answer, Stop>
     requires { IsAt p.old }
 {
     if p.at(Kind::Slash) {
-        return Ok(Answer::PatternEnds(p.re_lex_regex()?));
+        return pattern_read(p.re_lex_regex());
     }
     if p.at(Kind::SlashEq) {
-        return Ok(Answer::PatternEnds(p.re_lex_regex()?));
+        return pattern_read(p.re_lex_regex());
     }
     if p.at(Kind::RAngle) {
-        p.re_lex_right_angle()?;
-        return Ok(Answer::Done);
+        return moved(p.re_lex_right_angle());
     }
     if p.at(Kind::RCurly) {
-        p.re_lex_template_tail()?;
-        return Ok(Answer::Done);
+        return moved(p.re_lex_template_tail());
     }
     Ok(Answer::Stayed)
 }
@@ -84,6 +119,7 @@ fn given_by(given: Result<Answer, Stop>) -> Answer {
     }
 }
 
+/// Makes a call; what it answers.
 fn make(p: &mut Parser<'_>, call: Call) -> Answer
     requires { IsAt p.old }
 {
@@ -222,25 +258,20 @@ static CALLS: [(&str, Call, Answer, Kind, u32); 33] = [
     ("}a", Call::ReLex, Answer::Done, Kind::Undetermined, 0),
 ];
 
+/// Makes a call, and tells where the parser stands then.
+fn called(p: &mut Parser<'_>, call: Call) -> Outcome
+    requires { IsAt p.old }
+{
+    let answer = make(p, call);
+    Outcome::Called(answer, p.cur_kind(), p.prev_token_end())
+}
+
 #[test]
 fn calls(rt: HostRuntime) {
     for &(source, call, answer, kind, end) in &CALLS {
-        assert!(rt; source.len() <= MAX_LEN);
-        match Parser::new(
-            rt.alloc(),
-            source,
-            SourceType::script(),
-            ParseOptions::default(),
-            NoTokensParserConfig,
-        ) {
-            Err(_) => assert!(rt; false),
-            Ok(mut p) => {
-                let given = make(&mut p, call);
-                assert_eq!(rt; given, answer);
-                assert_eq!(rt; p.cur_kind(), kind);
-                assert_eq!(rt; p.prev_token_end(), end);
-            }
-        }
+        let found = outcome_at(rt.alloc(), source, Trial::Call(call));
+        let wanted = Some(Outcome::Called(answer, kind, end));
+        assert!(rt; found == wanted, "at {source}");
     }
 }
 
@@ -287,24 +318,20 @@ static STEPS: [(&str, Kind, bool, Option<ListStep>, Kind); 7] = [
     ("(]", Kind::RParen, false, None, Kind::RBrack),
 ];
 
+/// Makes a step in a list, and tells where the parser stands then.
+fn stepped(p: &mut Parser<'_>, close: Kind, first: bool) -> Outcome
+    requires { IsAt p.old }
+{
+    let given = step(p, close, first);
+    Outcome::Stepped(given, p.cur_kind())
+}
+
 #[test]
 fn steps(rt: HostRuntime) {
     for &(source, close, first, answer, kind) in &STEPS {
-        assert!(rt; source.len() <= MAX_LEN);
-        match Parser::new(
-            rt.alloc(),
-            source,
-            SourceType::script(),
-            ParseOptions::default(),
-            NoTokensParserConfig,
-        ) {
-            Err(_) => assert!(rt; false),
-            Ok(mut p) => {
-                let given = step(&mut p, close, first);
-                assert_eq!(rt; given, answer);
-                assert_eq!(rt; p.cur_kind(), kind);
-            }
-        }
+        let found = outcome_at(rt.alloc(), source, Trial::Step(close, first));
+        let wanted = Some(Outcome::Stepped(answer, kind));
+        assert!(rt; found == wanted, "at {source}");
     }
 }
 
@@ -319,6 +346,17 @@ fn on_and_back(p: &mut Parser<'_>) -> Result<Kind, Stop>
     Ok(next)
 }
 
+/// What is seen of a text when the parser went one lexeme on and back: the kinds of the first two lexemes, the end of the
+/// one before the first, and how many comments and faults are kept.
+#[derive(Clone, Copy, PartialEq, Eq)]
+struct Seen {
+    first: Kind,
+    second: Option<Kind>,
+    end: u32,
+    comments: usize,
+    faults: usize,
+}
+
 /// The text, the kinds of its first two lexemes, and how many comments and faults are kept before the first.
 static TURNS: [(&str, Kind, Kind, usize, usize); 4] = [
     ("/*1*/ a /*2*/ ;", Kind::Ident, Kind::Semicolon, 1, 0),
@@ -327,30 +365,41 @@ static TURNS: [(&str, Kind, Kind, usize, usize); 4] = [
     ("(", Kind::LParen, Kind::Eof, 0, 0),
 ];
 
+/// Goes one lexeme on and back, and lets the parser go.
+fn seen_by(mut p: Parser<'_>) -> Seen
+    requires { IsAt p }
+{
+    let second = on_and_back(&mut p).ok();
+    let (first, end) = (p.cur_kind(), p.prev_token_end());
+    let kept = p.into_parts().lexer.finish();
+    Seen {
+        first,
+        second,
+        end,
+        comments: kept.comments.len(),
+        faults: kept.errors.len(),
+    }
+}
+
+/// What is seen of a text; none where no parser is made.
+fn seen_in(alloc: Global, source: &str) -> Option<Seen> {
+    match parser_of(alloc, source) {
+        None => None,
+        Some(p) => Some(seen_by(p)),
+    }
+}
+
 #[test]
 fn turns(rt: HostRuntime) {
     for &(source, first, second, comments, faults) in &TURNS {
-        assert!(rt; source.len() <= MAX_LEN);
-        match Parser::new(
-            rt.alloc(),
-            source,
-            SourceType::script(),
-            ParseOptions::default(),
-            NoTokensParserConfig,
-        ) {
-            Err(_) => assert!(rt; false),
-            Ok(mut p) => {
-                match on_and_back(&mut p) {
-                    Ok(kind) => assert_eq!(rt; kind, second),
-                    Err(_) => assert!(rt; false),
-                }
-                assert_eq!(rt; p.cur_kind(), first);
-                assert_eq!(rt; p.prev_token_end(), 0);
-                let kept = p.into_parts().lexer.finish();
-                assert_eq!(rt; kept.comments.len(), comments);
-                assert_eq!(rt; kept.errors.len(), faults);
-            }
-        }
+        let wanted = Seen {
+            first,
+            second: Some(second),
+            end: 0,
+            comments,
+            faults,
+        };
+        assert!(rt; seen_in(rt.alloc(), source) == Some(wanted), "at {source}");
     }
 }
 
@@ -391,6 +440,7 @@ type Told = (DiagnosticKind, (u32, u32), (u32, u32), (u32, u32));
 /// No place.
 const NONE: (u32, u32) = (0, 0);
 
+/// The start and the end of a place, or no place.
 fn ends_of(span: Option<Span>) -> (u32, u32) {
     match span {
         Some(span) => (span.start, span.end),
@@ -472,28 +522,32 @@ static MARKERS: [(&str, bool, Told); 12] = [
     ),
 ];
 
+/// The kind and the places of a diagnostic, where there is one.
+fn told_of(found: Result<Diagnostic, Stop>) -> Option<Told> {
+    match found {
+        Err(_) => None,
+        Ok(found) => Some((
+            found.kind,
+            ends_of(Some(found.span)),
+            ends_of(found.first),
+            ends_of(found.second),
+        )),
+    }
+}
+
+/// Gives up, and tells of the diagnostic.
+fn given_up(p: &mut Parser<'_>, passed: bool) -> Outcome
+    requires { IsAt p.old }
+{
+    Outcome::GivenUp(told_of(give_up_at(p, passed)))
+}
+
 #[test]
 fn markers(rt: HostRuntime) {
     for &(source, passed, told) in &MARKERS {
-        assert!(rt; source.len() <= MAX_LEN);
-        match Parser::new(
-            rt.alloc(),
-            source,
-            SourceType::script(),
-            ParseOptions::default(),
-            NoTokensParserConfig,
-        ) {
-            Err(_) => assert!(rt; false),
-            Ok(mut p) => match give_up_at(&mut p, passed) {
-                Err(_) => assert!(rt; false),
-                Ok(found) => {
-                    assert_eq!(rt; found.kind, told.0);
-                    assert_eq!(rt; ends_of(Some(found.span)), told.1);
-                    assert_eq!(rt; ends_of(found.first), told.2);
-                    assert_eq!(rt; ends_of(found.second), told.3);
-                }
-            },
-        }
+        let found = outcome_at(rt.alloc(), source, Trial::GiveUp(passed));
+        let wanted = Some(Outcome::GivenUp(Some(told)));
+        assert!(rt; found == wanted, "at {source}");
     }
 }
 
@@ -677,7 +731,7 @@ fn turn_back(p: &mut Parser<'_>, deed: Deed) -> Result<bool, Stop>
 }
 
 /// What a parser shows of what it has kept and noted.
-#[derive(Debug, PartialEq, Eq, Drop)]
+#[derive(Clone, Copy, PartialEq, Eq)]
 struct Shown {
     start: u32,
     errors: usize,
@@ -732,32 +786,84 @@ fn there_and_back(p: &mut Parser<'_>, deed: Deed) -> Result<bool, Stop>
     turn_back(p, deed)
 }
 
+/// Does a deed and goes back: whether no level was entered then, and what the parser shows.
+fn turned_back(p: &mut Parser<'_>, deed: Deed) -> Outcome
+    requires { IsAt p.old }
+{
+    let outside = matches!(there_and_back(p, deed), Ok(true));
+    Outcome::TurnedBack(outside, show(p))
+}
+
+/// What a parser shows at the first lexeme when it has only the first shorthand and one or the other note.
+fn shown_before(failed: bool, operand_failed: bool) -> Shown {
+    Shown {
+        start: 1,
+        errors: 0,
+        visits: 0,
+        yields: false,
+        failed,
+        operand_failed,
+        comma: None,
+        first: Some(cover()),
+        second: None,
+    }
+}
+
 #[test]
 fn deeds(rt: HostRuntime) {
-    for &(deed, failed, operand_failed) in &DEEDS {
-        match Parser::new(
-            rt.alloc(),
-            " a /*1*/ 'b",
-            SourceType::script(),
-            ParseOptions::default(),
-            NoTokensParserConfig,
-        ) {
-            Err(_) => assert!(rt; false),
-            Ok(mut p) => {
-                assert!(rt; matches!(there_and_back(&mut p, deed), Ok(true)));
-                let expected = Shown {
-                    start: 1,
-                    errors: 0,
-                    visits: 0,
-                    yields: false,
-                    failed,
-                    operand_failed,
-                    comma: None,
-                    first: Some(cover()),
-                    second: None,
-                };
-                assert_eq!(rt; show(&mut p), expected);
-            }
-        }
+    for (i, &(deed, failed, operand_failed)) in DEEDS.iter().enumerate() {
+        let found = outcome_at(rt.alloc(), " a /*1*/ 'b", Trial::Deed(deed));
+        let shown = shown_before(failed, operand_failed);
+        assert!(rt;
+            found == Some(Outcome::TurnedBack(true, shown)),
+            "at row {i}"
+        );
+    }
+}
+
+/// What a parser is to do at the first lexeme of a text: a call, a step in the list, to give up at this lexeme or the next,
+/// or a deed and the way back.
+#[derive(Clone, Copy)]
+enum Trial {
+    Call(Call),
+    Step(Kind, bool),
+    GiveUp(bool),
+    Deed(Deed),
+}
+
+/// What comes of it: the answer, the kind of the current lexeme and the end of the one before; the step and that kind; what
+/// is told; whether no level was entered, and what the parser shows.
+#[derive(Clone, Copy, PartialEq, Eq)]
+enum Outcome {
+    Called(Answer, Kind, u32),
+    Stepped(Option<ListStep>, Kind),
+    GivenUp(Option<Told>),
+    TurnedBack(bool, Shown),
+}
+
+/// Makes a trial.
+fn outcome_of(p: &mut Parser<'_>, trial: Trial) -> Outcome
+    requires { IsAt p.old }
+{
+    match trial {
+        Trial::Call(call) => called(p, call),
+        Trial::Step(close, first) => stepped(p, close, first),
+        Trial::GiveUp(passed) => given_up(p, passed),
+        Trial::Deed(deed) => turned_back(p, deed),
+    }
+}
+
+/// Makes a trial, and lets the parser go.
+fn last_outcome(mut p: Parser<'_>, trial: Trial) -> Outcome
+    requires { IsAt p }
+{
+    outcome_of(&mut p, trial)
+}
+
+/// What comes of a trial in a text; none where no parser is made.
+fn outcome_at(alloc: Global, source: &str, trial: Trial) -> Option<Outcome> {
+    match parser_of(alloc, source) {
+        None => None,
+        Some(p) => Some(last_outcome(p, trial)),
     }
 }

@@ -30,74 +30,97 @@ fn string_has(alloc: Global, raw: &str, units: &[u16]) -> bool {
     }
 }
 
+/// The inside of a string, and its code units.
+static STRINGS: [(&str, &[u16]); 13] = [
+    ("", &[]),
+    (r"\uD83D\u{DE00}", &[0xD83D, 0xDE00]),
+    (r"\u{1F600}", &[0xD83D, 0xDE00]),
+    ("\u{1F600}", &[0xD83D, 0xDE00]),
+    (r"\uDE00\uD83D", &[0xDE00, 0xD83D]),
+    (r"\x41", &[0x41]),
+    (r"\101", &[0x41]),
+    (r"\0", &[0]),
+    (r"\400", &[0x20, 0x30]),
+    (r"\8", &[0x38]),
+    (r"\b\t\n\v\f\r\q", &[8, 9, 10, 11, 12, 13, 0x71]),
+    ("a\\\nb", &[0x61, 0x62]),
+    ("a\\\r\nb", &[0x61, 0x62]),
+];
+
 #[test]
 fn strings(rt: HostRuntime) {
-    let rows: [(&str, &[u16]); 13] = [
-        ("", &[]),
-        (r"\uD83D\u{DE00}", &[0xD83D, 0xDE00]),
-        (r"\u{1F600}", &[0xD83D, 0xDE00]),
-        ("\u{1F600}", &[0xD83D, 0xDE00]),
-        (r"\uDE00\uD83D", &[0xDE00, 0xD83D]),
-        (r"\x41", &[0x41]),
-        (r"\101", &[0x41]),
-        (r"\0", &[0]),
-        (r"\400", &[0x20, 0x30]),
-        (r"\8", &[0x38]),
-        (r"\b\t\n\v\f\r\q", &[8, 9, 10, 11, 12, 13, 0x71]),
-        ("a\\\nb", &[0x61, 0x62]),
-        ("a\\\r\nb", &[0x61, 0x62]),
-    ];
-    for (raw, units) in rows {
+    for &(raw, units) in &STRINGS {
         assert!(rt; string_has(rt.alloc(), raw, units), "{raw}");
+    }
+}
+
+/// A part of a template, and its code units; none where an escape is ill-formed.
+static PARTS: [(&str, Option<&[u16]>); 11] = [
+    ("", Some(&[])),
+    (r"a\u{1F600}", Some(&[0x61, 0xD83D, 0xDE00])),
+    (r"\uD83D", Some(&[0xD83D])),
+    (r"\0", Some(&[0])),
+    ("\r\n", Some(&[10])),
+    ("\r\r\n\n", Some(&[10, 10, 10])),
+    ("a\\\r\nb", Some(&[0x61, 0x62])),
+    (r"\01", None),
+    (r"\8", None),
+    (r"\u{110000}", None),
+    (r"\xg", None),
+];
+
+/// Whether there are these code units, or none.
+fn is_wanted(text: &Option<JsStr>, wanted: Option<&[u16]>) -> bool {
+    match (text, wanted) {
+        (Some(text), Some(units)) => has_units(text, units),
+        (None, None) => true,
+        _ => false,
+    }
+}
+
+/// Whether a part of a template stands for these code units, or for none.
+fn part_has(alloc: Global, raw: &str, wanted: Option<&[u16]>) -> bool {
+    match decode_template(alloc, raw) {
+        Ok(text) => is_wanted(&text, wanted),
+        Err(_) => false,
     }
 }
 
 #[test]
 fn template_parts(rt: HostRuntime) {
-    let rows: [(&str, Option<&[u16]>); 11] = [
-        ("", Some(&[])),
-        (r"a\u{1F600}", Some(&[0x61, 0xD83D, 0xDE00])),
-        (r"\uD83D", Some(&[0xD83D])),
-        (r"\0", Some(&[0])),
-        ("\r\n", Some(&[10])),
-        ("\r\r\n\n", Some(&[10, 10, 10])),
-        ("a\\\r\nb", Some(&[0x61, 0x62])),
-        (r"\01", None),
-        (r"\8", None),
-        (r"\u{110000}", None),
-        (r"\xg", None),
-    ];
-    for (raw, wanted) in rows {
-        match decode_template(rt.alloc(), raw) {
-            Ok(Some(text)) => match wanted {
-                Some(units) => assert!(rt; has_units(&text, units), "{raw}"),
-                None => assert!(rt; false, "{raw}"),
-            },
-            Ok(None) => assert!(rt; wanted.is_none(), "{raw}"),
-            Err(_) => assert!(rt; false, "{raw}"),
-        }
+    for &(raw, wanted) in &PARTS {
+        assert!(rt; part_has(rt.alloc(), raw, wanted), "{raw}");
     }
 }
 
 /// A part of a template whose escapes spell code units, these units, and whether each surrogate is half of a pair.
+static SURROGATES: [(&str, &[u16], bool); 5] = [
+    ("", &[], true),
+    (r"a\uD83D\uDE00", &[0x61, 0xD83D, 0xDE00], true),
+    (r"\uD83D", &[0xD83D], false),
+    (r"\uDE00\uD83D", &[0xDE00, 0xD83D], false),
+    (r"\uD83D\uD83D\uDE00", &[0xD83D, 0xD83D, 0xDE00], false),
+];
+
+/// Whether a text has as many code units as these and the same first one, and is well-formed or not.
+fn is_formed(text: &JsStr, units: &[u16], well_formed: bool) -> bool {
+    text.len() == units.len()
+        && text.unit(0) == units.first().copied()
+        && text.is_well_formed() == well_formed
+}
+
+/// Whether a part of a template stands for a text that `is_formed`.
+fn part_is(alloc: Global, raw: &str, units: &[u16], well_formed: bool) -> bool {
+    match decode_template(alloc, raw) {
+        Ok(Some(text)) => is_formed(&text, units, well_formed),
+        _ => false,
+    }
+}
+
 #[test]
 fn surrogates(rt: HostRuntime) {
-    let rows: [(&str, &[u16], bool); 5] = [
-        ("", &[], true),
-        (r"a\uD83D\uDE00", &[0x61, 0xD83D, 0xDE00], true),
-        (r"\uD83D", &[0xD83D], false),
-        (r"\uDE00\uD83D", &[0xDE00, 0xD83D], false),
-        (r"\uD83D\uD83D\uDE00", &[0xD83D, 0xD83D, 0xDE00], false),
-    ];
-    for (raw, units, well_formed) in rows {
-        match decode_template(rt.alloc(), raw) {
-            Ok(Some(text)) => {
-                assert_eq!(rt; text.len(), units.len());
-                assert_eq!(rt; text.unit(0), units.first().copied());
-                assert_eq!(rt; text.is_well_formed(), well_formed);
-            }
-            _ => assert!(rt; false, "{raw}"),
-        }
+    for &(raw, units, well_formed) in &SURROGATES {
+        assert!(rt; part_is(rt.alloc(), raw, units, well_formed), "{raw}");
     }
 }
 
@@ -126,16 +149,18 @@ fn name_is(alloc: Global, raw: &str, wanted: &str) -> bool {
     }
 }
 
+/// A name, and the text that it stands for.
+static NAMES: [(&str, &str); 5] = [
+    ("plain", "plain"),
+    (r"\u0061b", "ab"),
+    (r"\u{61}wait", "await"),
+    (r"x\u{1D7D8}", "x\u{1D7D8}"),
+    ("\u{E9}", "\u{E9}"),
+];
+
 #[test]
 fn names(rt: HostRuntime) {
-    let rows = [
-        ("plain", "plain"),
-        (r"\u0061b", "ab"),
-        (r"\u{61}wait", "await"),
-        (r"x\u{1D7D8}", "x\u{1D7D8}"),
-        ("\u{E9}", "\u{E9}"),
-    ];
-    for (raw, wanted) in rows {
+    for &(raw, wanted) in &NAMES {
         assert!(rt; name_is(rt.alloc(), raw, wanted), "{raw}");
     }
 }

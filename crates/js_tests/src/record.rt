@@ -56,279 +56,237 @@ type Fault = (Span, Span);
 /// A text, its nodes, the lines of its record, and its error.
 type Row = (&'static str, &'static [Step], &'static str, Option<Fault>);
 
-static DEFAULT_IMPORT: [Step; 4] = [
-    Step(NodeKind::StringLiteral, 14, 19, ""),
-    Step(NodeKind::BindingIdentifier, 7, 8, ""),
-    Step(NodeKind::ImportDefaultSpecifier, 7, 8, "n"),
-    Step(NodeKind::ImportDeclaration, 0, 19, "n-n"),
-];
-
-static NAMESPACE_IMPORT: [Step; 4] = [
-    Step(NodeKind::StringLiteral, 20, 25, ""),
-    Step(NodeKind::BindingIdentifier, 12, 14, ""),
-    Step(NodeKind::ImportNamespaceSpecifier, 7, 14, "n"),
-    Step(NodeKind::ImportDeclaration, 0, 25, "n-n"),
-];
-
-static NAMED_IMPORT: [Step; 5] = [
-    Step(NodeKind::StringLiteral, 23, 28, ""),
-    Step(NodeKind::IdentifierName, 9, 10, ""),
-    Step(NodeKind::BindingIdentifier, 14, 15, ""),
-    Step(NodeKind::ImportSpecifier, 9, 15, "nn"),
-    Step(NodeKind::ImportDeclaration, 0, 28, "n-n"),
-];
-
-static BARE_IMPORT: [Step; 2] = [
-    Step(NodeKind::StringLiteral, 7, 12, ""),
-    Step(NodeKind::ImportDeclaration, 0, 12, "n-"),
-];
-
-static EXPORT_ALL: [Step; 2] = [
-    Step(NodeKind::StringLiteral, 14, 19, ""),
-    Step(NodeKind::ExportAllDeclaration, 0, 19, "-n-"),
-];
-
-static EXPORT_NAME: [Step; 4] = [
-    Step(NodeKind::IdentifierReference, 9, 10, ""),
-    Step(NodeKind::IdentifierName, 9, 10, ""),
-    Step(NodeKind::ExportSpecifier, 9, 10, "nn"),
-    Step(NodeKind::ExportNamedDeclaration, 0, 13, "n"),
-];
-
-static EXPORT_UNDER_A_NAME: [Step; 4] = [
-    Step(NodeKind::IdentifierReference, 9, 10, ""),
-    Step(NodeKind::IdentifierName, 14, 15, ""),
-    Step(NodeKind::ExportSpecifier, 9, 15, "nn"),
-    Step(NodeKind::ExportNamedDeclaration, 0, 18, "n"),
-];
-
-static EXPORT_FROM: [Step; 5] = [
-    Step(NodeKind::StringLiteral, 23, 28, ""),
-    Step(NodeKind::IdentifierName, 9, 10, ""),
-    Step(NodeKind::IdentifierName, 14, 15, ""),
-    Step(NodeKind::ExportSpecifier, 9, 15, "nn"),
-    Step(NodeKind::ExportFromDeclaration, 0, 28, "n-n"),
-];
-
-static EXPORT_VARIABLE: [Step; 4] = [
-    Step(NodeKind::BindingIdentifier, 11, 12, ""),
-    Step(NodeKind::VariableDeclarator, 11, 12, "n-"),
-    Step(NodeKind::VariableDeclaration, 7, 12, "n"),
-    Step(NodeKind::ExportDeclaration, 0, 12, "n"),
-];
-
-static EXPORT_DEFAULT_FUNCTION: [Step; 5] = [
-    Step(NodeKind::BindingIdentifier, 24, 25, ""),
-    Step(NodeKind::FormalParameters, 25, 27, ""),
-    Step(NodeKind::FunctionBody, 28, 30, ""),
-    Step(NodeKind::FunctionDeclaration, 15, 30, "nnn"),
-    Step(NodeKind::ExportDefaultDeclaration, 0, 30, "n"),
-];
-
-static EXPORT_DEFAULT_NUMBER: [Step; 2] = [
-    Step(NodeKind::NumericLiteral, 15, 17, ""),
-    Step(NodeKind::ExportDefaultDeclaration, 0, 17, "n"),
-];
-
-static EXPORT_DEFAULT_FROM: [Step; 5] = [
-    Step(NodeKind::StringLiteral, 24, 29, ""),
-    Step(NodeKind::IdentifierName, 9, 16, ""),
-    Step(NodeKind::IdentifierName, 9, 16, ""),
-    Step(NodeKind::ExportSpecifier, 9, 16, "nn"),
-    Step(NodeKind::ExportFromDeclaration, 0, 29, "n-n"),
-];
-
-static IMPORT_META: [Step; 2] = [
-    Step(NodeKind::ImportMeta, 0, 11, ""),
-    Step(NodeKind::ImportMeta, 17, 28, ""),
-];
-
-static IMPORT_SOURCE: [Step; 4] = [
-    Step(NodeKind::StringLiteral, 19, 27, ""),
-    Step(NodeKind::BindingIdentifier, 7, 13, ""),
-    Step(NodeKind::ImportDefaultSpecifier, 7, 13, "n"),
-    Step(NodeKind::ImportDeclaration, 0, 27, "n-n"),
-];
-
-static LONE_SURROGATE: [Step; 2] = [
-    Step(NodeKind::StringLiteral, 14, 22, ""),
-    Step(NodeKind::ExportAllDeclaration, 0, 22, "-n-"),
-];
-
-static IMPORT_CALL: [Step; 6] = [
-    Step(NodeKind::IdentifierReference, 1, 2, ""),
-    Step(NodeKind::StringLiteral, 12, 15, ""),
-    Step(NodeKind::ImportExpression, 5, 16, "n-"),
-    Step(NodeKind::AssignmentExpression, 1, 16, "nn"),
-    Step(NodeKind::ParenthesizedExpression, 0, 17, "n"),
-    Step(NodeKind::ExpressionStatement, 0, 17, "n"),
-];
-
-static INNER_CALL: [Step; 3] = [
-    Step(NodeKind::StringLiteral, 14, 17, ""),
-    Step(NodeKind::ImportExpression, 7, 18, "n-"),
-    Step(NodeKind::ImportExpression, 0, 19, "n-"),
-];
-
-static RE_EXPORT: [Step; 12] = [
-    Step(NodeKind::StringLiteral, 18, 23, ""),
-    Step(NodeKind::IdentifierName, 9, 10, ""),
-    Step(NodeKind::BindingIdentifier, 9, 10, ""),
-    Step(NodeKind::ImportSpecifier, 9, 10, "nn"),
-    Step(NodeKind::ImportDeclaration, 0, 24, "n-n"),
-    Step(NodeKind::IdentifierReference, 33, 34, ""),
-    Step(NodeKind::IdentifierName, 33, 34, ""),
-    Step(NodeKind::ExportSpecifier, 33, 34, "nn"),
-    Step(NodeKind::ExportNamedDeclaration, 24, 37, "n"),
-    Step(NodeKind::IdentifierName, 49, 51, ""),
-    Step(NodeKind::StringLiteral, 57, 62, ""),
-    Step(NodeKind::ExportAllDeclaration, 37, 63, "nn-"),
-];
-
-static TWICE: [Step; 7] = [
-    Step(NodeKind::IdentifierReference, 9, 10, ""),
-    Step(NodeKind::IdentifierName, 9, 10, ""),
-    Step(NodeKind::ExportSpecifier, 9, 10, "nn"),
-    Step(NodeKind::IdentifierReference, 12, 13, ""),
-    Step(NodeKind::IdentifierName, 12, 13, ""),
-    Step(NodeKind::ExportSpecifier, 12, 13, "nn"),
-    Step(NodeKind::ExportNamedDeclaration, 0, 16, "nn"),
-];
-
-static TWO_DEFAULTS: [Step; 6] = [
-    Step(NodeKind::NumericLiteral, 15, 16, ""),
-    Step(NodeKind::ExportDefaultDeclaration, 0, 17, "n"),
-    Step(NodeKind::IdentifierReference, 27, 28, ""),
-    Step(NodeKind::IdentifierName, 32, 39, ""),
-    Step(NodeKind::ExportSpecifier, 27, 39, "nn"),
-    Step(NodeKind::ExportNamedDeclaration, 18, 42, "n"),
-];
-
 /// The rows.
-fn rows() -> [Row; 20] {
-    [
-        (
-            "import v from 'mod'",
-            &DEFAULT_IMPORT,
-            "syntax yes\nrequest 14..19 0..19 import\nimport 0..19 request 14..19 default 7..8 local 7..8\n",
-            None,
-        ),
-        (
-            "import * as ns from 'mod'",
-            &NAMESPACE_IMPORT,
-            "syntax yes\nrequest 20..25 0..25 import\nimport 0..25 request 20..25 namespace local 12..14\n",
-            None,
-        ),
-        (
-            "import { x as v } from 'mod'",
-            &NAMED_IMPORT,
-            "syntax yes\nrequest 23..28 0..28 import\nimport 0..28 request 23..28 name 9..10 local 14..15\n",
-            None,
-        ),
-        (
-            "import 'mod'",
-            &BARE_IMPORT,
-            "syntax yes\nrequest 7..12 0..12 import\n",
-            None,
-        ),
-        (
-            "export * from 'mod'",
-            &EXPORT_ALL,
-            "syntax yes\nrequest 14..19 0..19 export\nstar 0..19 0..19 request 14..19 import all-but-default export null local null\n",
-            None,
-        ),
-        (
-            "export { x }; var x",
-            &EXPORT_NAME,
-            "syntax yes\nexported 9..10\nlocal 0..13 9..10 request null import null export name 9..10 local name 9..10\n",
-            None,
-        ),
-        (
-            "export { x as v }; var x",
-            &EXPORT_UNDER_A_NAME,
-            "syntax yes\nexported 14..15\nlocal 0..18 9..15 request null import null export name 14..15 local name 9..10\n",
-            None,
-        ),
-        (
-            "export { x as v } from 'mod'",
-            &EXPORT_FROM,
-            "syntax yes\nrequest 23..28 0..28 export\nexported 14..15\nindirect 0..28 9..15 request 23..28 import name 9..10 export name 14..15 local null\n",
-            None,
-        ),
-        (
-            "export var v",
-            &EXPORT_VARIABLE,
-            "syntax yes\nexported 11..12\nlocal 0..12 7..12 request null import null export name 11..12 local name 11..12\n",
-            None,
-        ),
-        (
-            "export default function f() {}",
-            &EXPORT_DEFAULT_FUNCTION,
-            "syntax yes\nlocal 0..30 15..30 request null import null export default 7..14 local name 24..25\n",
-            None,
-        ),
-        (
-            "export default 42",
-            &EXPORT_DEFAULT_NUMBER,
-            "syntax yes\nlocal 0..17 15..17 request null import null export default 7..14 local null\n",
-            None,
-        ),
-        (
-            "export { default } from 'mod'",
-            &EXPORT_DEFAULT_FROM,
-            "syntax yes\nrequest 24..29 0..29 export\nexported 9..16\nindirect 0..29 9..16 request 24..29 import name 9..16 export name 9..16 local null\n",
-            None,
-        ),
-        (
-            "import.meta.foo; import.meta.bar",
-            &IMPORT_META,
-            "syntax yes\nmeta 0..11\nmeta 17..28\n",
-            None,
-        ),
-        (
-            "import source from 'source'",
-            &IMPORT_SOURCE,
-            "syntax yes\nrequest 19..27 0..27 import\nimport 0..27 request 19..27 default 7..13 local 7..13\n",
-            None,
-        ),
-        (
-            "export * from '\\uD800'",
-            &LONE_SURROGATE,
-            "syntax yes\n",
-            None,
-        ),
-        (
-            "(a = import('x'))",
-            &IMPORT_CALL,
-            "syntax no\ndynamic 5..16 request 12..15\n",
-            None,
-        ),
-        (
-            "import(import('x'))",
-            &INNER_CALL,
-            "syntax no\ndynamic 7..18 request 14..17\ndynamic 0..19 request 7..18\n",
-            None,
-        ),
-        (
-            "import { x } from 'mod';export { x };export * as ns from 'mod';",
-            &RE_EXPORT,
-            "syntax yes\nrequest 18..23 0..24 import\nrequest 57..62 37..63 export\nexported 33..34\nexported 49..51\nimport 0..24 request 18..23 name 9..10 local 9..10\nindirect 0..24 33..34 request 18..23 import name 9..10 export name 33..34 local null\nindirect 37..63 37..63 request 57..62 import all export name 49..51 local null\n",
-            None,
-        ),
-        (
-            "export { a, a }; var a",
-            &TWICE,
-            "syntax yes\nexported 12..13\nlocal 0..16 9..10 request null import null export name 9..10 local name 9..10\nlocal 0..16 12..13 request null import null export name 12..13 local name 12..13\n",
-            Some((Span { start: 9, end: 10 }, Span { start: 12, end: 13 })),
-        ),
-        (
-            "export default 1; export { a as default }; var a",
-            &TWO_DEFAULTS,
-            "syntax yes\nexported 32..39\nlocal 0..17 15..16 request null import null export default 7..14 local null\nlocal 18..42 27..39 request null import null export name 32..39 local name 27..28\n",
-            Some((Span { start: 7, end: 14 }, Span { start: 32, end: 39 })),
-        ),
-    ]
-}
+static ROWS: [Row; 20] = [
+    (
+        "import v from 'mod'",
+        &[
+            Step(NodeKind::StringLiteral, 14, 19, ""),
+            Step(NodeKind::BindingIdentifier, 7, 8, ""),
+            Step(NodeKind::ImportDefaultSpecifier, 7, 8, "n"),
+            Step(NodeKind::ImportDeclaration, 0, 19, "n-n"),
+        ],
+        "syntax yes\nrequest 14..19 0..19 import\nimport 0..19 request 14..19 default 7..8 local 7..8\n",
+        None,
+    ),
+    (
+        "import * as ns from 'mod'",
+        &[
+            Step(NodeKind::StringLiteral, 20, 25, ""),
+            Step(NodeKind::BindingIdentifier, 12, 14, ""),
+            Step(NodeKind::ImportNamespaceSpecifier, 7, 14, "n"),
+            Step(NodeKind::ImportDeclaration, 0, 25, "n-n"),
+        ],
+        "syntax yes\nrequest 20..25 0..25 import\nimport 0..25 request 20..25 namespace local 12..14\n",
+        None,
+    ),
+    (
+        "import { x as v } from 'mod'",
+        &[
+            Step(NodeKind::StringLiteral, 23, 28, ""),
+            Step(NodeKind::IdentifierName, 9, 10, ""),
+            Step(NodeKind::BindingIdentifier, 14, 15, ""),
+            Step(NodeKind::ImportSpecifier, 9, 15, "nn"),
+            Step(NodeKind::ImportDeclaration, 0, 28, "n-n"),
+        ],
+        "syntax yes\nrequest 23..28 0..28 import\nimport 0..28 request 23..28 name 9..10 local 14..15\n",
+        None,
+    ),
+    (
+        "import 'mod'",
+        &[
+            Step(NodeKind::StringLiteral, 7, 12, ""),
+            Step(NodeKind::ImportDeclaration, 0, 12, "n-"),
+        ],
+        "syntax yes\nrequest 7..12 0..12 import\n",
+        None,
+    ),
+    (
+        "export * from 'mod'",
+        &[
+            Step(NodeKind::StringLiteral, 14, 19, ""),
+            Step(NodeKind::ExportAllDeclaration, 0, 19, "-n-"),
+        ],
+        "syntax yes\nrequest 14..19 0..19 export\nstar 0..19 0..19 request 14..19 import all-but-default export null local null\n",
+        None,
+    ),
+    (
+        "export { x }; var x",
+        &[
+            Step(NodeKind::IdentifierReference, 9, 10, ""),
+            Step(NodeKind::IdentifierName, 9, 10, ""),
+            Step(NodeKind::ExportSpecifier, 9, 10, "nn"),
+            Step(NodeKind::ExportNamedDeclaration, 0, 13, "n"),
+        ],
+        "syntax yes\nexported 9..10\nlocal 0..13 9..10 request null import null export name 9..10 local name 9..10\n",
+        None,
+    ),
+    (
+        "export { x as v }; var x",
+        &[
+            Step(NodeKind::IdentifierReference, 9, 10, ""),
+            Step(NodeKind::IdentifierName, 14, 15, ""),
+            Step(NodeKind::ExportSpecifier, 9, 15, "nn"),
+            Step(NodeKind::ExportNamedDeclaration, 0, 18, "n"),
+        ],
+        "syntax yes\nexported 14..15\nlocal 0..18 9..15 request null import null export name 14..15 local name 9..10\n",
+        None,
+    ),
+    (
+        "export { x as v } from 'mod'",
+        &[
+            Step(NodeKind::StringLiteral, 23, 28, ""),
+            Step(NodeKind::IdentifierName, 9, 10, ""),
+            Step(NodeKind::IdentifierName, 14, 15, ""),
+            Step(NodeKind::ExportSpecifier, 9, 15, "nn"),
+            Step(NodeKind::ExportFromDeclaration, 0, 28, "n-n"),
+        ],
+        "syntax yes\nrequest 23..28 0..28 export\nexported 14..15\nindirect 0..28 9..15 request 23..28 import name 9..10 export name 14..15 local null\n",
+        None,
+    ),
+    (
+        "export var v",
+        &[
+            Step(NodeKind::BindingIdentifier, 11, 12, ""),
+            Step(NodeKind::VariableDeclarator, 11, 12, "n-"),
+            Step(NodeKind::VariableDeclaration, 7, 12, "n"),
+            Step(NodeKind::ExportDeclaration, 0, 12, "n"),
+        ],
+        "syntax yes\nexported 11..12\nlocal 0..12 7..12 request null import null export name 11..12 local name 11..12\n",
+        None,
+    ),
+    (
+        "export default function f() {}",
+        &[
+            Step(NodeKind::BindingIdentifier, 24, 25, ""),
+            Step(NodeKind::FormalParameters, 25, 27, ""),
+            Step(NodeKind::FunctionBody, 28, 30, ""),
+            Step(NodeKind::FunctionDeclaration, 15, 30, "nnn"),
+            Step(NodeKind::ExportDefaultDeclaration, 0, 30, "n"),
+        ],
+        "syntax yes\nlocal 0..30 15..30 request null import null export default 7..14 local name 24..25\n",
+        None,
+    ),
+    (
+        "export default 42",
+        &[
+            Step(NodeKind::NumericLiteral, 15, 17, ""),
+            Step(NodeKind::ExportDefaultDeclaration, 0, 17, "n"),
+        ],
+        "syntax yes\nlocal 0..17 15..17 request null import null export default 7..14 local null\n",
+        None,
+    ),
+    (
+        "export { default } from 'mod'",
+        &[
+            Step(NodeKind::StringLiteral, 24, 29, ""),
+            Step(NodeKind::IdentifierName, 9, 16, ""),
+            Step(NodeKind::IdentifierName, 9, 16, ""),
+            Step(NodeKind::ExportSpecifier, 9, 16, "nn"),
+            Step(NodeKind::ExportFromDeclaration, 0, 29, "n-n"),
+        ],
+        "syntax yes\nrequest 24..29 0..29 export\nexported 9..16\nindirect 0..29 9..16 request 24..29 import name 9..16 export name 9..16 local null\n",
+        None,
+    ),
+    (
+        "import.meta.foo; import.meta.bar",
+        &[
+            Step(NodeKind::ImportMeta, 0, 11, ""),
+            Step(NodeKind::ImportMeta, 17, 28, ""),
+        ],
+        "syntax yes\nmeta 0..11\nmeta 17..28\n",
+        None,
+    ),
+    (
+        "import source from 'source'",
+        &[
+            Step(NodeKind::StringLiteral, 19, 27, ""),
+            Step(NodeKind::BindingIdentifier, 7, 13, ""),
+            Step(NodeKind::ImportDefaultSpecifier, 7, 13, "n"),
+            Step(NodeKind::ImportDeclaration, 0, 27, "n-n"),
+        ],
+        "syntax yes\nrequest 19..27 0..27 import\nimport 0..27 request 19..27 default 7..13 local 7..13\n",
+        None,
+    ),
+    (
+        "export * from '\\uD800'",
+        &[
+            Step(NodeKind::StringLiteral, 14, 22, ""),
+            Step(NodeKind::ExportAllDeclaration, 0, 22, "-n-"),
+        ],
+        "syntax yes\n",
+        None,
+    ),
+    (
+        "(a = import('x'))",
+        &[
+            Step(NodeKind::IdentifierReference, 1, 2, ""),
+            Step(NodeKind::StringLiteral, 12, 15, ""),
+            Step(NodeKind::ImportExpression, 5, 16, "n-"),
+            Step(NodeKind::AssignmentExpression, 1, 16, "nn"),
+            Step(NodeKind::ParenthesizedExpression, 0, 17, "n"),
+            Step(NodeKind::ExpressionStatement, 0, 17, "n"),
+        ],
+        "syntax no\ndynamic 5..16 request 12..15\n",
+        None,
+    ),
+    (
+        "import(import('x'))",
+        &[
+            Step(NodeKind::StringLiteral, 14, 17, ""),
+            Step(NodeKind::ImportExpression, 7, 18, "n-"),
+            Step(NodeKind::ImportExpression, 0, 19, "n-"),
+        ],
+        "syntax no\ndynamic 7..18 request 14..17\ndynamic 0..19 request 7..18\n",
+        None,
+    ),
+    (
+        "import { x } from 'mod';export { x };export * as ns from 'mod';",
+        &[
+            Step(NodeKind::StringLiteral, 18, 23, ""),
+            Step(NodeKind::IdentifierName, 9, 10, ""),
+            Step(NodeKind::BindingIdentifier, 9, 10, ""),
+            Step(NodeKind::ImportSpecifier, 9, 10, "nn"),
+            Step(NodeKind::ImportDeclaration, 0, 24, "n-n"),
+            Step(NodeKind::IdentifierReference, 33, 34, ""),
+            Step(NodeKind::IdentifierName, 33, 34, ""),
+            Step(NodeKind::ExportSpecifier, 33, 34, "nn"),
+            Step(NodeKind::ExportNamedDeclaration, 24, 37, "n"),
+            Step(NodeKind::IdentifierName, 49, 51, ""),
+            Step(NodeKind::StringLiteral, 57, 62, ""),
+            Step(NodeKind::ExportAllDeclaration, 37, 63, "nn-"),
+        ],
+        "syntax yes\nrequest 18..23 0..24 import\nrequest 57..62 37..63 export\nexported 33..34\nexported 49..51\nimport 0..24 request 18..23 name 9..10 local 9..10\nindirect 0..24 33..34 request 18..23 import name 9..10 export name 33..34 local null\nindirect 37..63 37..63 request 57..62 import all export name 49..51 local null\n",
+        None,
+    ),
+    (
+        "export { a, a }; var a",
+        &[
+            Step(NodeKind::IdentifierReference, 9, 10, ""),
+            Step(NodeKind::IdentifierName, 9, 10, ""),
+            Step(NodeKind::ExportSpecifier, 9, 10, "nn"),
+            Step(NodeKind::IdentifierReference, 12, 13, ""),
+            Step(NodeKind::IdentifierName, 12, 13, ""),
+            Step(NodeKind::ExportSpecifier, 12, 13, "nn"),
+            Step(NodeKind::ExportNamedDeclaration, 0, 16, "nn"),
+        ],
+        "syntax yes\nexported 12..13\nlocal 0..16 9..10 request null import null export name 9..10 local name 9..10\nlocal 0..16 12..13 request null import null export name 12..13 local name 12..13\n",
+        Some((Span { start: 9, end: 10 }, Span { start: 12, end: 13 })),
+    ),
+    (
+        "export default 1; export { a as default }; var a",
+        &[
+            Step(NodeKind::NumericLiteral, 15, 16, ""),
+            Step(NodeKind::ExportDefaultDeclaration, 0, 17, "n"),
+            Step(NodeKind::IdentifierReference, 27, 28, ""),
+            Step(NodeKind::IdentifierName, 32, 39, ""),
+            Step(NodeKind::ExportSpecifier, 27, 39, "nn"),
+            Step(NodeKind::ExportNamedDeclaration, 18, 42, "n"),
+        ],
+        "syntax yes\nexported 32..39\nlocal 0..17 15..16 request null import null export default 7..14 local null\nlocal 18..42 27..39 request null import null export name 32..39 local name 27..28\n",
+        Some((Span { start: 7, end: 14 }, Span { start: 32, end: 39 })),
+    ),
+];
 
 /// The span of the word `default` behind `export` in the rows.
 static DEFAULT_WORD: Span = Span { start: 7, end: 14 };
@@ -480,7 +438,48 @@ fn slots_of(
     Ok(taken)
 }
 
+/// Makes the node of a step and visits it; whether it is read from the text.
+fn visit_step(
+    alloc: Global,
+    record: &mut ModuleRecordBuilder,
+    tree: &mut ParserAstBuilder,
+    free: &mut Vec<NodeId>,
+    source: &str,
+    step: &Step,
+) -> Result<bool, NoMemory> {
+    let Step(kind, start, end, slots) = step;
+    let span = Span {
+        start: *start,
+        end: *end,
+    };
+    let children = slots_of(alloc, free, slots)?;
+    let id = tree.node(*kind, span, Op::None, NodeFlags::default(), None, children)?;
+    if !is_visited(tree, source, id) {
+        return Ok(false);
+    }
+    visit(record, tree, source, id, *kind)?;
+    free.push(id)?;
+    Ok(true)
+}
+
 /// Visits the nodes of a row, each when it is made; whether each is read from the text.
+fn visit_steps(
+    alloc: Global,
+    record: &mut ModuleRecordBuilder,
+    tree: &mut ParserAstBuilder,
+    source: &str,
+    steps: &[Step],
+) -> Result<bool, NoMemory> {
+    let mut free = Vec::new(alloc);
+    for step in steps {
+        if !visit_step(alloc, record, tree, &mut free, source, step)? {
+            return Ok(false);
+        }
+    }
+    Ok(true)
+}
+
+/// Visits the nodes of a row in a tree of their own.
 fn visit_all(
     alloc: Global,
     record: &mut ModuleRecordBuilder,
@@ -488,21 +487,7 @@ fn visit_all(
     steps: &[Step],
 ) -> Result<bool, NoMemory> {
     let mut tree = ParserAstBuilder::new(alloc)?;
-    let mut free = Vec::new(alloc);
-    for Step(kind, start, end, slots) in steps {
-        let span = Span {
-            start: *start,
-            end: *end,
-        };
-        let children = slots_of(alloc, &mut free, slots)?;
-        let id = tree.node(*kind, span, Op::None, NodeFlags::default(), None, children)?;
-        if !is_visited(&tree, source, id) {
-            return Ok(false);
-        }
-        visit(record, &tree, source, id, *kind)?;
-        free.push(id)?;
-    }
-    Ok(true)
+    visit_steps(alloc, record, &mut tree, source, steps)
 }
 
 /// Whether these are the errors: this one alone, or none.
@@ -563,28 +548,37 @@ fn holds(
 
 #[test]
 fn records_of_rows(rt: HostRuntime) -> Result<(), Fail> {
-    let alloc = rt.alloc();
-    for (source, steps, lines, fault) in rows() {
-        assert!(rt; holds(alloc, source, steps, lines, fault)?, "at {source}");
+    for &(source, steps, lines, fault) in &ROWS {
+        assert!(rt;
+            holds(rt.alloc(), source, steps, lines, fault)?,
+            "at {source}"
+        );
     }
     Ok(())
+}
+
+/// Visits an `import()` in a tree of its own.
+fn visit_call(alloc: Global, record: &mut ModuleRecordBuilder) -> Result<(), NoMemory> {
+    let mut tree = ParserAstBuilder::new(alloc)?;
+    let (span, specifier) = (Span { start: 0, end: 11 }, Span { start: 7, end: 10 });
+    import_call(&mut tree, record, span, specifier)
+}
+
+/// Whether a record has no module syntax until it is set, and no errors then.
+fn takes_syntax(record: &mut ModuleRecordBuilder) -> Result<bool, NoMemory> {
+    if record.has_module_syntax() {
+        return Ok(false);
+    }
+    record.set_module_syntax()?;
+    let errors = record.errors()?;
+    Ok(record.has_module_syntax() && errors.is_empty())
 }
 
 /// The record of calls alone has no module syntax, and `set_module_syntax` gives it. Neither is an error.
 #[test]
 fn module_syntax_is_set(rt: HostRuntime) -> Result<(), Fail> {
-    let alloc = rt.alloc();
-    let mut tree = ParserAstBuilder::new(alloc)?;
-    let mut record = ModuleRecordBuilder::new(alloc, SourceType::module());
-    import_call(
-        &mut tree,
-        &mut record,
-        Span { start: 0, end: 11 },
-        Span { start: 7, end: 10 },
-    )?;
-    assert!(rt; !record.has_module_syntax());
-    record.set_module_syntax()?;
-    assert!(rt; record.has_module_syntax());
-    assert!(rt; record.errors()?.is_empty());
+    let mut record = ModuleRecordBuilder::new(rt.alloc(), SourceType::module());
+    visit_call(rt.alloc(), &mut record)?;
+    assert!(rt; takes_syntax(&mut record)?);
     Ok(())
 }

@@ -15,6 +15,7 @@ use std::test::Fail;
 
 /// A node to be made: what it is, its places, its op, the bits of its flags, and its slots: `n` is the next of the nodes
 /// that are in no slot yet, `-` an empty slot.
+#[derive(Clone, Copy)]
 struct Step(NodeKind, u32, u32, Op, u16, &'static str);
 
 /// The flags of these bits.
@@ -251,43 +252,64 @@ fn built(alloc: Global, steps: &[Step], end: u32) -> Result<Tree, NoMemory> {
     builder.finish(Span { start: 0, end }, children)
 }
 
+/// Whether a tree has these lines, whose memory is taken exactly.
+fn has_lines(alloc: Global, tree: &Tree, lines: &str) -> Result<bool, NoMemory> {
+    let bytes = tree.tree_lines(alloc)?;
+    Ok(bytes.as_slice() == lines.as_bytes() && bytes.capacity() == lines.len())
+}
+
+/// Whether a tree of steps has so many nodes, of which Program is the first.
+fn has_nodes(tree: &Tree, steps: &[Step], count: usize) -> bool {
+    tree.node_count() == count
+        && tree.kinds().len() == steps.len().wrapping_add(1)
+        && tree.kinds().first().copied() == Some(NodeKind::Program)
+}
+
+/// Whether the tree of a row has its lines and its nodes.
+fn row_holds(alloc: Global, row: Row) -> Result<bool, NoMemory> {
+    let (steps, end, lines, count) = row;
+    let tree = built(alloc, steps, end)?;
+    if !has_nodes(&tree, steps, count) {
+        return Ok(false);
+    }
+    has_lines(alloc, &tree, lines)
+}
+
 /// The lines of each tree, whose memory was taken exactly, and how many nodes it has.
 #[test]
 fn lines_of_trees(rt: HostRuntime) -> Result<(), Fail> {
-    let alloc = rt.alloc();
     let rows: [Row; 4] = [
         (&[], 0, "Program 0..0\n", 1),
         (&TARGET, 26, TARGET_LINES, 13),
         (&PATTERN, 39, PATTERN_LINES, 17),
         (&WORDS, 7, WORDS_LINES, 10),
     ];
-    for (steps, end, lines, count) in rows {
-        let tree = built(alloc, steps, end)?;
-        let bytes = tree.tree_lines(alloc)?;
-        assert_eq!(rt; bytes.as_slice(), lines.as_bytes());
-        assert_eq!(rt; bytes.capacity(), lines.len());
-        assert_eq!(rt; tree.node_count(), count);
-        assert_eq!(rt; tree.kinds().len(), steps.len().wrapping_add(1));
-        assert_eq!(rt; tree.kinds().first().copied(), Some(NodeKind::Program));
+    for row in rows {
+        assert!(rt; row_holds(rt.alloc(), row)?, "at {}", row.2);
     }
     Ok(())
+}
+
+/// The children of a target of four slots, of which the second is empty.
+static TARGETS: [Option<NodeId>; 4] = [Some(NodeId(1)), None, Some(NodeId(5)), Some(NodeId(9))];
+
+/// Whether the tree of the target has its node, and none behind its last one.
+fn has_target(tree: &Tree) -> bool {
+    let target = NodeId(10);
+    if !tree.contains(target) || tree.contains(NodeId(13)) {
+        return false;
+    }
+    tree.kind(target) == NodeKind::ArrayAssignmentTarget
+        && tree.children(target) == TARGETS.as_slice()
+        && tree.child_count(target) == 4
+        && tree.span(target).end == 22
 }
 
 /// The node of a target has four slots, of which the second is empty.
 #[test]
 fn children_of_a_target(rt: HostRuntime) -> Result<(), Fail> {
     let tree = built(rt.alloc(), &TARGET, 26)?;
-    let target = NodeId(10);
-    assert!(rt; tree.contains(target));
-    assert!(rt; !tree.contains(NodeId(13)));
-    assert_eq!(rt; tree.kind(target), NodeKind::ArrayAssignmentTarget);
-    let children = tree.children(target);
-    assert_eq!(rt;
-        children,
-        [Some(NodeId(1)), None, Some(NodeId(5)), Some(NodeId(9))].as_slice()
-    );
-    assert_eq!(rt; tree.child_count(target), 4);
-    assert_eq!(rt; tree.span(target).end, 22);
+    assert!(rt; has_target(&tree));
     Ok(())
 }
 
@@ -304,24 +326,62 @@ fn are_numbered(ids: &[NodeId], numbers: &[usize]) -> bool {
     ids.len() == numbers.len()
 }
 
+/// Whether a node binds the names of these nodes.
+fn binds(
+    alloc: Global,
+    builder: &ParserAstBuilder,
+    number: usize,
+    wanted: &[usize],
+) -> Result<bool, NoMemory> {
+    let id = NodeId(number);
+    if !builder.contains(id) {
+        return Ok(false);
+    }
+    let found = builder.bound_names(alloc, id)?;
+    Ok(are_numbered(found.as_slice(), wanted))
+}
+
+/// Whether a node of a finished tree binds the names of these nodes.
+fn binds_finished(
+    alloc: Global,
+    tree: &Tree,
+    number: usize,
+    wanted: &[usize],
+) -> Result<bool, NoMemory> {
+    let id = NodeId(number);
+    if !tree.contains(id) {
+        return Ok(false);
+    }
+    let found = tree.bound_names(alloc, id)?;
+    Ok(are_numbered(found.as_slice(), wanted))
+}
+
+/// Whether a node of the pattern binds the names of these nodes before the tree is finished.
+fn pattern_binds(alloc: Global, number: usize, wanted: &[usize]) -> Result<bool, NoMemory> {
+    let mut builder = ParserAstBuilder::new(alloc)?;
+    made(alloc, &mut builder, &PATTERN)?;
+    binds(alloc, &builder, number, wanted)
+}
+
+/// The same when the tree is finished.
+fn finished_pattern_binds(
+    alloc: Global,
+    number: usize,
+    wanted: &[usize],
+) -> Result<bool, NoMemory> {
+    let tree = built(alloc, &PATTERN, 39)?;
+    binds_finished(alloc, &tree, number, wanted)
+}
+
 /// The names that a nested pattern binds, the rest's too, before and after the tree is finished.
 #[test]
 fn bound_names_of_a_pattern(rt: HostRuntime) -> Result<(), Fail> {
-    let alloc = rt.alloc();
-    let mut builder = ParserAstBuilder::new(alloc)?;
-    let children = made(alloc, &mut builder, &PATTERN)?;
-    for (number, wanted) in &BOUND {
-        let id = NodeId(*number);
-        assert!(rt; builder.contains(id));
-        let found = builder.bound_names(alloc, id)?;
-        assert!(rt; are_numbered(found.as_slice(), wanted), "at {number}");
-    }
-    let tree = builder.finish(Span { start: 0, end: 39 }, children)?;
-    for (number, wanted) in &BOUND {
-        let id = NodeId(*number);
-        assert!(rt; tree.contains(id));
-        let found = tree.bound_names(alloc, id)?;
-        assert!(rt; are_numbered(found.as_slice(), wanted), "at {number}");
+    for &(number, wanted) in &BOUND {
+        assert!(rt; pattern_binds(rt.alloc(), number, wanted)?, "at {number}");
+        assert!(rt;
+            finished_pattern_binds(rt.alloc(), number, wanted)?,
+            "at {number}, finished"
+        );
     }
     Ok(())
 }
@@ -429,22 +489,72 @@ fn is_wanted(found: &Option<Text>, wanted: &str) -> bool {
     }
 }
 
+/// The step of a node of a kind at a whole text.
+fn step_of(source: &str, kind: NodeKind) -> Step {
+    let end = u32::try_from(source.len()).unwrap_or(0);
+    Step(kind, 0, end, Op::None, 0, "")
+}
+
+/// Makes the node of a kind at a whole text.
+fn leaf_of(
+    alloc: Global,
+    builder: &mut ParserAstBuilder,
+    source: &str,
+    kind: NodeKind,
+) -> Result<NodeId, NoMemory> {
+    let mut free = Vec::new(alloc);
+    step_made(alloc, builder, &mut free, &step_of(source, kind))
+}
+
+/// The tree of the node of a kind at a whole text.
+fn tree_of(alloc: Global, source: &str, kind: NodeKind) -> Result<Tree, NoMemory> {
+    let step = step_of(source, kind);
+    built(alloc, &[step], step.2)
+}
+
+/// The number of that node.
+const LEAF: NodeId = NodeId(1);
+
+/// Whether the node of a kind at a whole text is read as this before the tree is finished.
+fn is_reading(
+    alloc: Global,
+    source: &str,
+    kind: NodeKind,
+    reader: Reader,
+    wanted: &str,
+) -> Result<bool, NoMemory> {
+    let mut builder = ParserAstBuilder::new(alloc)?;
+    let id = leaf_of(alloc, &mut builder, source, kind)?;
+    let found = read(alloc, &builder, id, source, reader)?;
+    Ok(is_wanted(&found, wanted))
+}
+
+/// The same when the tree is finished.
+fn is_finished_reading(
+    alloc: Global,
+    source: &str,
+    kind: NodeKind,
+    reader: Reader,
+    wanted: &str,
+) -> Result<bool, NoMemory> {
+    let tree = tree_of(alloc, source, kind)?;
+    let found = read_finished(alloc, &tree, LEAF, source, reader)?;
+    Ok(is_wanted(&found, wanted))
+}
+
 /// What each reader gives, before and after the tree is finished.
 #[test]
 fn readings(rt: HostRuntime) -> Result<(), Fail> {
     let alloc = rt.alloc();
-    for (source, kind, reader, wanted) in &READINGS {
-        let mut builder = ParserAstBuilder::new(alloc)?;
-        let span = Span {
-            start: 0,
-            end: u32::try_from(source.len()).unwrap_or(0),
-        };
-        let id = builder.leaf(*kind, span, Op::None, flags_of(0), None)?;
-        let found = read(alloc, &builder, id, source, *reader)?;
-        assert!(rt; is_wanted(&found, wanted), "at {source}");
-        let tree = builder.finish(span, vec![in alloc; Some(id)]?)?;
-        let found = read_finished(alloc, &tree, id, source, *reader)?;
-        assert!(rt; is_wanted(&found, wanted), "at {source}");
+    for &(source, kind, reader, wanted) in &READINGS {
+        assert!(rt;
+            is_reading(alloc, source, kind, reader, wanted)?,
+            "at {source}"
+        );
+        assert!(rt;
+            is_finished_reading(alloc, source, kind, reader, wanted)?,
+            "at {source}, finished"
+        );
     }
     Ok(())
 }
@@ -510,63 +620,121 @@ fn is_value(found: &Option<JsStr>, wanted: Option<&str>) -> bool {
     }
 }
 
+/// Whether the code units of the node of a kind at a whole text are these before the tree is finished.
+fn has_value(
+    alloc: Global,
+    source: &str,
+    kind: NodeKind,
+    wanted: Option<&str>,
+) -> Result<bool, NoMemory> {
+    let mut builder = ParserAstBuilder::new(alloc)?;
+    let id = leaf_of(alloc, &mut builder, source, kind)?;
+    let found = units_of(alloc, &builder, id, source)?;
+    Ok(is_value(&found, wanted))
+}
+
+/// The same when the tree is finished.
+fn has_finished_value(
+    alloc: Global,
+    source: &str,
+    kind: NodeKind,
+    wanted: Option<&str>,
+) -> Result<bool, NoMemory> {
+    let tree = tree_of(alloc, source, kind)?;
+    let found = units_finished(alloc, &tree, LEAF, source)?;
+    Ok(is_value(&found, wanted))
+}
+
 /// The code units of each, before and after the tree is finished.
 #[test]
 fn values(rt: HostRuntime) -> Result<(), Fail> {
-    let alloc = rt.alloc();
-    for (source, kind, wanted) in &VALUES {
-        let mut builder = ParserAstBuilder::new(alloc)?;
-        let end = u32::try_from(source.len()).unwrap_or(0);
-        let span = Span { start: 0, end };
-        let id = builder.leaf(*kind, span, Op::None, flags_of(0), None)?;
-        let found = units_of(alloc, &builder, id, source)?;
-        assert!(rt; is_value(&found, *wanted), "at {source}");
-        let tree = builder.finish(span, vec![in alloc; Some(id)]?)?;
-        let found = units_finished(alloc, &tree, id, source)?;
-        assert!(rt; is_value(&found, *wanted), "at {source}");
+    for &(source, kind, wanted) in &VALUES {
+        assert!(rt; has_value(rt.alloc(), source, kind, wanted)?, "at {source}");
+        assert!(rt;
+            has_finished_value(rt.alloc(), source, kind, wanted)?,
+            "at {source}, finished"
+        );
     }
     Ok(())
+}
+
+/// The text of two names, of which the second is written with an escape.
+static TWO_NAMES: &str = "a; \\u0061";
+
+/// Makes the nodes of the two names, and keeps the second.
+fn two_names(alloc: Global, builder: &mut ParserAstBuilder) -> Result<(NodeId, NodeId), NoMemory> {
+    let kind = NodeKind::IdentifierReference;
+    let name = Text::from_str(alloc, "a")?;
+    let first = builder.leaf(kind, Span { start: 0, end: 1 }, Op::None, flags_of(0), None)?;
+    let place = Span { start: 3, end: 9 };
+    let second = builder.leaf(kind, place, Op::None, flags_of(0), Some(name))?;
+    Ok((first, second))
+}
+
+/// Whether a node is named `a`, and the name is kept or not.
+fn is_named(
+    alloc: Global,
+    builder: &ParserAstBuilder,
+    id: NodeId,
+    owned: bool,
+) -> Result<bool, NoMemory> {
+    if !builder.contains(id) || builder.owns_name(id) != owned {
+        return Ok(false);
+    }
+    let found = read(alloc, builder, id, TWO_NAMES, Reader::Name)?;
+    Ok(is_wanted(&found, "a"))
+}
+
+/// Marks the first of two nodes; whether it alone is marked then.
+fn marks_first(builder: &mut ParserAstBuilder, first: NodeId, second: NodeId) -> bool {
+    if !builder.contains(first) {
+        return false;
+    }
+    builder.set_flags(first, flags_of(0x2000));
+    if !builder.contains(first) || !builder.contains(second) {
+        return false;
+    }
+    builder.flags(first).pife && !builder.flags(second).pife
+}
+
+/// Whether the first of two nodes is named by the text and the second keeps its name, and the first alone can be marked.
+fn are_kept(alloc: Global, builder: &mut ParserAstBuilder) -> Result<bool, NoMemory> {
+    let (first, second) = two_names(alloc, builder)?;
+    let is_read = is_named(alloc, builder, first, false)?;
+    let is_kept = is_named(alloc, builder, second, true)?;
+    Ok(is_read && is_kept && marks_first(builder, first, second))
 }
 
 /// A name that is kept stands under its own number: in `a; \u0061` the second name's.
 #[test]
 fn kept_names(rt: HostRuntime) -> Result<(), Fail> {
-    let alloc = rt.alloc();
-    let source = "a; \\u0061";
-    let mut builder = ParserAstBuilder::for_text(alloc, source.len())?;
-    let kind = NodeKind::IdentifierReference;
-    let first = builder.leaf(kind, Span { start: 0, end: 1 }, Op::None, flags_of(0), None)?;
-    let name = Some(Text::from_str(alloc, "a")?);
-    let second = builder.leaf(kind, Span { start: 3, end: 9 }, Op::None, flags_of(0), name)?;
-    for (id, owned) in [(first, false), (second, true)] {
-        assert!(rt; builder.contains(id));
-        assert_eq!(rt; builder.owns_name(id), owned);
-        match read(alloc, &builder, id, source, Reader::Name)? {
-            Some(text) => assert_eq!(rt; text.as_str(), "a"),
-            None => assert!(rt; false),
-        }
-    }
-    builder.set_flags(first, flags_of(0x2000));
-    assert!(rt; builder.contains(second));
-    assert!(rt; !builder.flags(second).pife);
-    assert!(rt; builder.contains(first));
-    assert!(rt; builder.flags(first).pife);
+    let mut builder = ParserAstBuilder::for_text(rt.alloc(), TWO_NAMES.len())?;
+    assert!(rt; are_kept(rt.alloc(), &mut builder)?);
     Ok(())
+}
+
+/// Makes nodes that stand each in the next, and tells the outermost.
+fn nested(builder: &mut ParserAstBuilder, count: u32) -> Result<Option<NodeId>, NoMemory> {
+    let span = Span { start: 0, end: 1 };
+    let kind = NodeKind::ParenthesizedExpression;
+    let mut inner = None;
+    for _ in 0..count {
+        inner = Some(builder.node_of_one(kind, span, Op::None, flags_of(0), inner)?);
+    }
+    Ok(inner)
+}
+
+/// The tree of nodes that stand each in the next.
+fn nested_tree(alloc: Global, count: u32) -> Result<Tree, NoMemory> {
+    let mut builder = ParserAstBuilder::new(alloc)?;
+    let outermost = nested(&mut builder, count)?;
+    builder.finish(Span { start: 0, end: 1 }, vec![in alloc; outermost]?)
 }
 
 /// A tree as deep as it has nodes, whose lines would have more bytes than there may be.
 #[test]
 fn too_deep(rt: HostRuntime) -> Result<(), Fail> {
-    let alloc = rt.alloc();
-    let mut builder = ParserAstBuilder::new(alloc)?;
-    let span = Span { start: 0, end: 1 };
-    let mut inner = None;
-    for _ in 0..60_000u32 {
-        let kind = NodeKind::ParenthesizedExpression;
-        inner = Some(builder.node_of_one(kind, span, Op::None, flags_of(0), inner)?);
-    }
-    let tree = builder.finish(span, vec![in alloc; inner]?)?;
-    assert_eq!(rt; tree.node_count(), 60_001);
-    assert!(rt; tree.tree_lines(alloc).is_err());
+    let tree = nested_tree(rt.alloc(), 60_000)?;
+    assert!(rt; tree.node_count() == 60_001 && tree.tree_lines(rt.alloc()).is_err());
     Ok(())
 }

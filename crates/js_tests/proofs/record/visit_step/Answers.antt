@@ -1,5 +1,5 @@
 use Rattle.std.proofs.Common.{refl}
-use Rattle.js_tests.proofs.record.visit_all.Goals as goal
+use Rattle.js_tests.proofs.record.visit_step.Goals as goal
 
 pub visit-requires : goal.visit-requires
 visit-requires c = c.if-not-is_visited.ensures refl
