@@ -1,6 +1,6 @@
 //! Which list an export entry goes to: ParseModule (ECMA-262, 16.2.1.7.1), step 10.
 
-ghost use Rattle.std.specs.Prelude.{◌≡◌, ◌++◌, ◌∷◌, [], IfOk, OnOk, Some, cond};
+ghost use Rattle.std.specs.Prelude.{◌≡◌, ◌++◌, ◌∷◌, [], IfOk, OnOk, Some, ◌<◌, ◌+◌, length, take, cond};
 ghost use Rattle.std.specs.List.{flat_map};
 ghost use Rattle.std.specs.Option.{option_copied};
 ghost use Rattle.js_grammar.specs.ModuleRecords as def;
@@ -16,16 +16,31 @@ use indexmap::IndexMap;
 use js_base::{List, NoMemory, Span, Text};
 use std::alloc::Global;
 
+/// Adds the import entry at a place of the list, if it is the first one that has its local name.
+fn add_first(
+    alloc: Global,
+    firsts: &mut IndexMap<Text, usize>,
+    imports: &ImportEntries,
+    i: usize,
+) -> Result<(), NoMemory>
+    requires in_list { i < length imports.now }
+    requires so_far { AreFirst firsts.old.entries imports.now (take i imports.now) }
+    ensures { OnOk result (AreFirst firsts.new.entries imports.now (take (i + 1) imports.now)) }
+{
+    let name = Text::from_str(alloc, imports[i].local_text())?;
+    if !firsts.contains_key(&name) {
+        firsts.insert(name, i)?;
+    }
+    Ok(())
+}
+
 /// Of each local name of the import entries, the first entry that has it, by its place in the list.
 fn first_imports(alloc: Global, imports: &ImportEntries) -> Result<IndexMap<Text, usize>, NoMemory>
     ensures { IfOk result (λ m. AreFirst m.entries imports.now imports.now) }
 {
     let mut firsts = IndexMap::new(alloc);
     for i in 0..imports.len() {
-        let name = Text::from_str(alloc, imports[i].local_text())?;
-        if !firsts.contains_key(&name) {
-            firsts.insert(name, i)?;
-        }
+        add_first(alloc, &mut firsts, imports, i)?;
     }
     Ok(firsts)
 }
@@ -86,12 +101,7 @@ fn re_export(
     ensures { IfOk result (λ e. e ≡ def.re_export import.now name entry) }
 {
     let module_request = import.module_request.copied(alloc)?;
-    Ok(with_request(
-        import.statement_span,
-        module_request,
-        name,
-        entry,
-    ))
+    Ok(with_request(import.statement_span, module_request, name, entry))
 }
 
 /// Places an export of a name that another module has, by the import of that name.
