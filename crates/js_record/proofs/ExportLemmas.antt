@@ -8,6 +8,10 @@ use Rattle.js_grammar.specs.ModuleRecords.{ImportEntry, DynamicImport, Requested
 use Rattle.js_record.specs.declared.record.Exports.{Exports}
 use Rattle.js_record.specs.Exports.{IsMadeOf, locals, indirects}
 
+pub errors_right : (p : Part) (imports : List ImportEntry) (e : Exports) → imports ≡ p.imports → IsMadeOf e imports p.exports p.bindings p.skipped_defaults → e.errors ≡ errors_of_part p
+errors_right p imports e i m =
+    m.errors_are ∙ ap (λ v. map (duplicate_export (fold with_binding [] p.bindings)) (replaced [] p.bindings) ++ duplicate_defaults (defaults_among (locals v p.exports) ++ (defaults_among (indirects v p.exports) ++ p.skipped_defaults))) i
+
 abbrev pub made : Part → List ImportEntry → List (List ℕ × List RequestedModule) → List Span → List DynamicImport → Exports → ModuleRecord × List Diagnostic
 made p imports modules metas dynamic e = (
   record {
@@ -31,8 +35,7 @@ made_right p imports modules metas dynamic e i m r q d =
     let local : e.places.local ≡ locals p.imports p.exports = m.local ∙ ap (λ v. locals v p.exports) i in
     let indirect : e.places.indirect ≡ indirects p.imports p.exports = m.indirect ∙ ap (λ v. indirects v p.exports) i in
     let star : e.places.star ≡ flat_map (λ ee. if_star (place p.imports ee)) p.exports = m.star ∙ ap (λ v. flat_map (λ ee. if_star (place v ee)) p.exports) i in
-    let errors : e.errors ≡ map (duplicate_export (fold with_binding [] p.bindings)) (replaced [] p.bindings) ++ duplicate_defaults (defaults_among (locals p.imports p.exports) ++ (defaults_among (indirects p.imports p.exports) ++ p.skipped_defaults)) =
-    m.errors_are ∙ ap (λ v. map (duplicate_export (fold with_binding [] p.bindings)) (replaced [] p.bindings) ++ duplicate_defaults (defaults_among (locals v p.exports) ++ (defaults_among (indirects v p.exports) ++ p.skipped_defaults))) i in
+    let errors = errors_right p imports e i m in
     λ j. (
       record {
         has_module_syntax = p.is_module_syntax;

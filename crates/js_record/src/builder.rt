@@ -7,7 +7,7 @@ ghost use Rattle.js_record.specs.Shown.{IsRead, IsTree, OfTree};
 
 use crate::copied::copies;
 use crate::part::Part;
-use crate::record::{ModuleRecord, record_of};
+use crate::record::{ModuleRecord, errors_of, record_of};
 use crate::visiting;
 use js_base::{Diagnostics, NoMemory, SourceType, Span};
 use js_tree::{NodeId, ParserAstBuilder};
@@ -229,8 +229,7 @@ impl ModuleRecordBuilder {
     {
         let visits = copies(self.alloc, &self.visits)?;
         let whole = Part::whole(self.alloc, visits)?;
-        let (_, errors) = record_of(self.alloc, whole)?;
-        Ok(errors)
+        errors_of(self.alloc, whole)
     }
 
     /// The record of all visits, with its export entries told apart (ECMA-262, 16.2.1.7.1, step 10), and the early

@@ -56,13 +56,11 @@ impl Model for Part {
     ghost view = { λ p. record { is_module_syntax = p.is_module_syntax; imports = p.imports.items; exports = p.exports.items; requests = p.requests.items; bindings = p.bindings.items; skipped_defaults = p.skipped_defaults.items; metas = p.metas.items; dynamic = p.dynamic.items } };
 }
 
-/// Puts items behind others. On an error some of them may stand there.
-fn append<T: Drop>(to: &mut Vec<T>, from: Vec<T>) -> Result<(), NoMemory>
+/// Puts items behind others.
+fn append<T: Drop>(to: &mut Vec<T>, mut from: Vec<T>) -> Result<(), NoMemory>
     ensures { OnOk result (to.new.items ≡ to.old.items ++ from.items) }
 {
-    for item in from {
-        to.push(item)?;
-    }
+    to.append(&mut from)?;
     Ok(())
 }
 

@@ -6,7 +6,10 @@ ghost use Rattle.js_grammar.specs.ModuleRecords.{own_export_names, with_request,
 ghost use Rattle.js_record.specs.Exports.{IsMadeOf};
 
 use crate::distinct::are_all_distinct;
-use crate::entry::{DynamicImports, ExportEntries, ExportEntry, ImportEntries, RequestedModules};
+use crate::entry::{
+    DynamicImport, DynamicImports, ExportEntries, ExportEntry, ImportEntries, ImportEntry,
+    RequestedModules,
+};
 use crate::name::NameSpan;
 use crate::part::{Part, Request, listed};
 use crate::placing::{Places, place_all};
@@ -225,31 +228,95 @@ fn exports_of(
     })
 }
 
-/// The record of all that the declarations of a module add, and its early errors.
-pub(crate) fn record_of(alloc: Global, part: Part) -> Result<(ModuleRecord, Diagnostics), NoMemory>
-    ensures { IfOk result (λ r. r ≡ (record_of_part part, errors_of_part part)) }
+/// The import entries of a module, and its exports, which are told apart by them.
+#[derive(Drop)]
+struct Entries {
+    imports: ImportEntries,
+    exports: Exports,
+}
+
+/// Lists the import entries of a module, and tells its exports apart by them.
+fn entries_of(
+    alloc: Global,
+    imports: Vec<ImportEntry>,
+    exports: Vec<ExportEntry>,
+    bindings: Vec<NameSpan>,
+    skipped: &[Span],
+) -> Result<Entries, NoMemory>
+    ensures imports { IfOk result (λ e. e.imports ≡ imports.items) }
+    ensures exports { IfOk result (λ e. IsMadeOf e.exports e.imports exports.items bindings.items skipped.now) }
 {
-    let imports = listed(alloc, part.imports)?;
-    let exports = exports_of(
+    let imports = listed(alloc, imports)?;
+    let exports = exports_of(alloc, &imports, exports, bindings, skipped)?;
+    Ok(Entries { imports, exports })
+}
+
+/// What a record has beside the entries and the names that are exported.
+#[derive(Drop)]
+struct Uses {
+    requested_modules: IndexMap<Text, RequestedModules>,
+    import_metas: Spans,
+    dynamic_imports: DynamicImports,
+}
+
+/// Lists the requests of modules, by their specifiers, each `import.meta` and each `import()`.
+fn uses_of(
+    alloc: Global,
+    requests: Vec<Request>,
+    metas: Vec<Span>,
+    dynamic: Vec<DynamicImport>,
+) -> Result<Uses, NoMemory>
+    ensures requested { IfOk result (λ u. u.requested_modules.entries ≡ fold with_request [] requests.items) }
+    ensures metas { IfOk result (λ u. u.import_metas ≡ metas.items) }
+    ensures dynamic { IfOk result (λ u. u.dynamic_imports ≡ dynamic.items) }
+{
+    let requested_modules = requested(alloc, requests)?;
+    let import_metas = listed(alloc, metas)?;
+    let dynamic_imports = listed(alloc, dynamic)?;
+    Ok(Uses {
+        requested_modules,
+        import_metas,
+        dynamic_imports,
+    })
+}
+
+/// The early errors of all that the declarations of a module add.
+pub(crate) fn errors_of(alloc: Global, part: Part) -> Result<Diagnostics, NoMemory>
+    ensures { IfOk result (λ ds. ds ≡ errors_of_part part) }
+{
+    let entries = entries_of(
         alloc,
-        &imports,
+        part.imports,
         part.exports,
         part.bindings,
         &part.skipped_defaults,
     )?;
-    let requested_modules = requested(alloc, part.requests)?;
-    let import_metas = listed(alloc, part.metas)?;
-    let dynamic_imports = listed(alloc, part.dynamic)?;
+    let exports = entries.exports;
+    Ok(exports.errors)
+}
+
+/// The record of all that the declarations of a module add, and its early errors.
+pub(crate) fn record_of(alloc: Global, part: Part) -> Result<(ModuleRecord, Diagnostics), NoMemory>
+    ensures { IfOk result (λ r. r ≡ (record_of_part part, errors_of_part part)) }
+{
+    let entries = entries_of(
+        alloc,
+        part.imports,
+        part.exports,
+        part.bindings,
+        &part.skipped_defaults,
+    )?;
+    let uses = uses_of(alloc, part.requests, part.metas, part.dynamic)?;
     let record = ModuleRecord {
         has_module_syntax: part.is_module_syntax,
-        requested_modules,
-        import_entries: imports,
-        local_export_entries: exports.places.local,
-        indirect_export_entries: exports.places.indirect,
-        star_export_entries: exports.places.star,
-        exported_bindings: exports.bindings,
-        import_metas,
-        dynamic_imports,
+        requested_modules: uses.requested_modules,
+        import_entries: entries.imports,
+        local_export_entries: entries.exports.places.local,
+        indirect_export_entries: entries.exports.places.indirect,
+        star_export_entries: entries.exports.places.star,
+        exported_bindings: entries.exports.bindings,
+        import_metas: uses.import_metas,
+        dynamic_imports: uses.dynamic_imports,
     };
-    Ok((record, exports.errors))
+    Ok((record, entries.exports.errors))
 }

@@ -1,11 +1,11 @@
 //! What a node adds to a record, by its children (ECMA-262, 16.2.2, 16.2.3).
 
-ghost use Rattle.std.specs.Prelude.{◌≡◌, ◌<◌, ◌++◌, length, map, IfOk, OnOk, Some, All};
+ghost use Rattle.std.specs.Prelude.{◌≡◌, ◌<◌, ◌++◌, ◌∷◌, length, map, IfOk, OnOk, Some, All};
 ghost use Rattle.std.specs.List.{flat_map};
 ghost use Rattle.std.specs.Prelude.{[], None};
 ghost use Rattle.js_grammar.specs.Modules as def;
 ghost use Rattle.js_grammar.specs.NodeNames.{span_of};
-ghost use Rattle.js_grammar.specs.Modules.{defaults_of, declared_entry, named};
+ghost use Rattle.js_grammar.specs.Modules.{syntax, defaults_of, declared_entry, named};
 ghost use Rattle.js_grammar.specs.BoundNames.{bound_names};
 ghost use Rattle.js_tree.specs.Labels.{kind_of};
 ghost use Rattle.js_tree.specs.Nodes.{node_at};
@@ -368,6 +368,21 @@ fn star_entry(
     })
 }
 
+/// The export entry of `export *`, alone in a list.
+fn star_entries(
+    alloc: Global,
+    statement: Span,
+    specifier: &NameSpan,
+    names: &Vec<NameSpan>,
+) -> Result<Vec<ExportEntry>, NoMemory>
+    ensures { IfOk result (λ es. es.items ≡ def.star_entry statement specifier.now names.now.items ∷ []) }
+{
+    let entry = star_entry(alloc, statement, specifier, names)?;
+    let mut entries = Vec::new(alloc);
+    entries.push(entry)?;
+    Ok(entries)
+}
+
 /// What `export *` with this module specifier adds, under these names: one or none.
 fn of_export_all(
     alloc: Global,
@@ -383,8 +398,7 @@ fn of_export_all(
     let Some(specifier) = specifier_of(alloc, tree, source, target)? else {
         return of_names(alloc, statement, names);
     };
-    let mut exports = Vec::new(alloc);
-    exports.push(star_entry(alloc, statement, &specifier, &names)?)?;
+    let exports = star_entries(alloc, statement, &specifier, &names)?;
     of_export_from(alloc, statement, &specifier, exports, names)
 }
 
@@ -426,6 +440,15 @@ fn default_name(kind: NodeKind, itself: NameSpan, names: Vec<NameSpan>) -> Expor
     }
 }
 
+/// What an export declaration of one entry adds.
+fn of_entry(alloc: Global, entry: ExportEntry) -> Result<Part, NoMemory>
+    ensures { IfOk result (λ p. p ≡ record syntax { exports = entry ∷ [] }) }
+{
+    let mut part = Part::syntax(alloc);
+    part.exports.push(entry)?;
+    Ok(part)
+}
+
 /// What `export default` of this declaration or expression adds.
 fn of_export_default(
     alloc: Global,
@@ -449,9 +472,7 @@ fn of_export_default(
         export_name: ExportExportName::Default(word),
         local_name,
     };
-    let mut part = Part::syntax(alloc);
-    part.exports.push(entry)?;
-    Ok(part)
+    of_entry(alloc, entry)
 }
 
 /// What `export default` adds, with the place of the word `default`.
@@ -523,6 +544,20 @@ fn bound_names(
     names_of(alloc, tree, source, &ids)
 }
 
+/// The export entry of a name that a declaration binds.
+fn declared_entry(
+    alloc: Global,
+    statement: Span,
+    declaration: Span,
+    name: &NameSpan,
+) -> Result<ExportEntry, NoMemory>
+    ensures { IfOk result (λ e. e ≡ declared_entry statement declaration name.now) }
+{
+    let own = name.copied(alloc)?;
+    let exported = name.copied(alloc)?;
+    Ok(own_entry(statement, declaration, exported, own))
+}
+
 /// The export entries of the names that an exported declaration binds.
 fn declared_entries(
     alloc: Global,
@@ -534,9 +569,7 @@ fn declared_entries(
 {
     let mut entries = Vec::new(alloc);
     for name in names {
-        let own = name.copied(alloc)?;
-        let name = name.copied(alloc)?;
-        entries.push(own_entry(statement, declaration, name, own))?;
+        entries.push(declared_entry(alloc, statement, declaration, name)?)?;
     }
     Ok(entries)
 }

@@ -1,7 +1,7 @@
 use Rattle.std.proofs.Common.{◌≡◌}
 use Rattle.std.specs.List.{flat_map}
 use Rattle.js_grammar.specs.ModuleRecords.{place, if_local, if_indirect, if_star}
-use Rattle.js_record.proofs.placing.place_all.Given as goal
+use Rattle.js_record.proofs.placing.place_each.Given as goal
 
 -- the lists have the entries so far
 abbrev pub invariant-loop-entry : goal.invariant-loop-entry
