@@ -191,6 +191,7 @@ fn texts_and_names_of_kinds(rt: HostRuntime) {
     }
 }
 
+/// Words that are no keyword.
 #[test]
 fn texts_of_no_keyword(rt: HostRuntime) {
     for text in ["", "While", "whiles", "typ", "length"] {
@@ -371,6 +372,7 @@ fn precedences(rt: HostRuntime) {
     }
 }
 
+/// The comma separates expressions, and has no precedence as an operator.
 #[test]
 fn comma_has_no_precedence(rt: HostRuntime) {
     assert!(rt; kind_to_precedence(Kind::Comma).is_none());
@@ -412,6 +414,7 @@ fn fixed_messages(rt: HostRuntime) {
     }
 }
 
+/// The name and the class of one kind.
 #[test]
 fn name_and_class_of_a_diagnostic(rt: HostRuntime) {
     let kind = DiagnosticKind::V8IntrinsicSpreadElem;
@@ -432,6 +435,7 @@ fn contexts(rt: HostRuntime) {
     assert!(rt; start.has_in() && has_parameters(context));
 }
 
+/// Where a statement and a function stand.
 #[test]
 fn contexts_of_statements_and_functions(rt: HostRuntime) {
     let statements = StatementContext::Label.is_single_statement()
@@ -441,6 +445,7 @@ fn contexts_of_statements_and_functions(rt: HostRuntime) {
     assert!(rt; statements && functions);
 }
 
+/// Each source type, and the default one.
 #[test]
 fn source_types(rt: HostRuntime) {
     let holds = SourceType::default().is_module()
@@ -450,6 +455,7 @@ fn source_types(rt: HostRuntime) {
     assert!(rt; holds);
 }
 
+/// What is on and off where nothing is asked for.
 #[test]
 fn default_options(rt: HostRuntime) {
     let options = ParseOptions::default();
@@ -460,6 +466,7 @@ fn default_options(rt: HostRuntime) {
     );
 }
 
+/// The token before the first.
 #[test]
 fn default_token(rt: HostRuntime) {
     let token = Token::default();
@@ -516,30 +523,35 @@ fn texts(rt: HostRuntime) {
     assert!(rt; is_text(rt.alloc(), "a\u{e9}"));
 }
 
+/// The text between the ends of a token.
 #[test]
 fn text_of_a_token(rt: HostRuntime) {
     let token = Token::new(Kind::Ident, Span::new(1, 3), false, false, false);
     assert!(rt; token.text("abc") == "bc");
 }
 
+/// A step is counted.
 #[test]
 fn steps_are_counted(_rt: HostRuntime) {
     let mut steps = Steps::new();
     steps.tick();
 }
 
+/// Whether two contexts are equal.
 fn is_same(a: Context, b: Context) -> bool
     ensures { IsTrue result ↔ (bits_of a ≡ bits_of b) }
 {
     a == b
 }
 
+/// The order of two contexts.
 fn order_of(a: Context, b: Context) -> Ordering
     ensures { result ≡ nat_cmp (bits_of a) (bits_of b) }
 {
     a.cmp(&b)
 }
 
+/// Puts a context into a hash.
 fn hash_of<H: Hasher>(a: Context, state: &mut H)
     ensures { state.new ≡ fold H.write state.old (fed.u16 (bits_of a)) }
 {

@@ -14,7 +14,6 @@ use js_base::{Diagnostics, NoMemory, SourceType, Span};
 use js_record::{ModuleRecord, ModuleRecordBuilder};
 use js_tree::{NodeFlags, NodeId, NodeKind, Op, ParserAstBuilder};
 use std::alloc::Global;
-use std::test::Fail;
 
 /// Makes the node of a declaration over slots that were made before, and visits it, as a parse function does.
 fn declare(
@@ -56,8 +55,8 @@ type Fault = (Span, Span);
 /// A text, its nodes, the lines of its record, and its error.
 type Row = (&'static str, &'static [Step], &'static str, Option<Fault>);
 
-/// The rows.
-static ROWS: [Row; 20] = [
+/// Imports, and calls and properties of `import`.
+static IMPORTS: [Row; 8] = [
     (
         "import v from 'mod'",
         &[
@@ -102,34 +101,59 @@ static ROWS: [Row; 20] = [
         None,
     ),
     (
+        "import.meta.foo; import.meta.bar",
+        &[
+            Step(NodeKind::ImportMeta, 0, 11, ""),
+            Step(NodeKind::ImportMeta, 17, 28, ""),
+        ],
+        "syntax yes\nmeta 0..11\nmeta 17..28\n",
+        None,
+    ),
+    (
+        "import source from 'source'",
+        &[
+            Step(NodeKind::StringLiteral, 19, 27, ""),
+            Step(NodeKind::BindingIdentifier, 7, 13, ""),
+            Step(NodeKind::ImportDefaultSpecifier, 7, 13, "n"),
+            Step(NodeKind::ImportDeclaration, 0, 27, "n-n"),
+        ],
+        "syntax yes\nrequest 19..27 0..27 import\nimport 0..27 request 19..27 default 7..13 local 7..13\n",
+        None,
+    ),
+    (
+        "(a = import('x'))",
+        &[
+            Step(NodeKind::IdentifierReference, 1, 2, ""),
+            Step(NodeKind::StringLiteral, 12, 15, ""),
+            Step(NodeKind::ImportExpression, 5, 16, "n-"),
+            Step(NodeKind::AssignmentExpression, 1, 16, "nn"),
+            Step(NodeKind::ParenthesizedExpression, 0, 17, "n"),
+            Step(NodeKind::ExpressionStatement, 0, 17, "n"),
+        ],
+        "syntax no\ndynamic 5..16 request 12..15\n",
+        None,
+    ),
+    (
+        "import(import('x'))",
+        &[
+            Step(NodeKind::StringLiteral, 14, 17, ""),
+            Step(NodeKind::ImportExpression, 7, 18, "n-"),
+            Step(NodeKind::ImportExpression, 0, 19, "n-"),
+        ],
+        "syntax no\ndynamic 7..18 request 14..17\ndynamic 0..19 request 7..18\n",
+        None,
+    ),
+];
+
+/// Exports alone.
+static EXPORTS: [Row; 7] = [
+    (
         "export * from 'mod'",
         &[
             Step(NodeKind::StringLiteral, 14, 19, ""),
             Step(NodeKind::ExportAllDeclaration, 0, 19, "-n-"),
         ],
         "syntax yes\nrequest 14..19 0..19 export\nstar 0..19 0..19 request 14..19 import all-but-default export null local null\n",
-        None,
-    ),
-    (
-        "export { x }; var x",
-        &[
-            Step(NodeKind::IdentifierReference, 9, 10, ""),
-            Step(NodeKind::IdentifierName, 9, 10, ""),
-            Step(NodeKind::ExportSpecifier, 9, 10, "nn"),
-            Step(NodeKind::ExportNamedDeclaration, 0, 13, "n"),
-        ],
-        "syntax yes\nexported 9..10\nlocal 0..13 9..10 request null import null export name 9..10 local name 9..10\n",
-        None,
-    ),
-    (
-        "export { x as v }; var x",
-        &[
-            Step(NodeKind::IdentifierReference, 9, 10, ""),
-            Step(NodeKind::IdentifierName, 14, 15, ""),
-            Step(NodeKind::ExportSpecifier, 9, 15, "nn"),
-            Step(NodeKind::ExportNamedDeclaration, 0, 18, "n"),
-        ],
-        "syntax yes\nexported 14..15\nlocal 0..18 9..15 request null import null export name 14..15 local name 9..10\n",
         None,
     ),
     (
@@ -189,26 +213,6 @@ static ROWS: [Row; 20] = [
         None,
     ),
     (
-        "import.meta.foo; import.meta.bar",
-        &[
-            Step(NodeKind::ImportMeta, 0, 11, ""),
-            Step(NodeKind::ImportMeta, 17, 28, ""),
-        ],
-        "syntax yes\nmeta 0..11\nmeta 17..28\n",
-        None,
-    ),
-    (
-        "import source from 'source'",
-        &[
-            Step(NodeKind::StringLiteral, 19, 27, ""),
-            Step(NodeKind::BindingIdentifier, 7, 13, ""),
-            Step(NodeKind::ImportDefaultSpecifier, 7, 13, "n"),
-            Step(NodeKind::ImportDeclaration, 0, 27, "n-n"),
-        ],
-        "syntax yes\nrequest 19..27 0..27 import\nimport 0..27 request 19..27 default 7..13 local 7..13\n",
-        None,
-    ),
-    (
         "export * from '\\uD800'",
         &[
             Step(NodeKind::StringLiteral, 14, 22, ""),
@@ -217,27 +221,30 @@ static ROWS: [Row; 20] = [
         "syntax yes\n",
         None,
     ),
+];
+
+/// Exports of names that stand elsewhere in the text, or that are exported twice.
+static LISTS: [Row; 5] = [
     (
-        "(a = import('x'))",
+        "export { x }; var x",
         &[
-            Step(NodeKind::IdentifierReference, 1, 2, ""),
-            Step(NodeKind::StringLiteral, 12, 15, ""),
-            Step(NodeKind::ImportExpression, 5, 16, "n-"),
-            Step(NodeKind::AssignmentExpression, 1, 16, "nn"),
-            Step(NodeKind::ParenthesizedExpression, 0, 17, "n"),
-            Step(NodeKind::ExpressionStatement, 0, 17, "n"),
+            Step(NodeKind::IdentifierReference, 9, 10, ""),
+            Step(NodeKind::IdentifierName, 9, 10, ""),
+            Step(NodeKind::ExportSpecifier, 9, 10, "nn"),
+            Step(NodeKind::ExportNamedDeclaration, 0, 13, "n"),
         ],
-        "syntax no\ndynamic 5..16 request 12..15\n",
+        "syntax yes\nexported 9..10\nlocal 0..13 9..10 request null import null export name 9..10 local name 9..10\n",
         None,
     ),
     (
-        "import(import('x'))",
+        "export { x as v }; var x",
         &[
-            Step(NodeKind::StringLiteral, 14, 17, ""),
-            Step(NodeKind::ImportExpression, 7, 18, "n-"),
-            Step(NodeKind::ImportExpression, 0, 19, "n-"),
+            Step(NodeKind::IdentifierReference, 9, 10, ""),
+            Step(NodeKind::IdentifierName, 14, 15, ""),
+            Step(NodeKind::ExportSpecifier, 9, 15, "nn"),
+            Step(NodeKind::ExportNamedDeclaration, 0, 18, "n"),
         ],
-        "syntax no\ndynamic 7..18 request 14..17\ndynamic 0..19 request 7..18\n",
+        "syntax yes\nexported 14..15\nlocal 0..18 9..15 request null import null export name 14..15 local name 9..10\n",
         None,
     ),
     (
@@ -546,15 +553,36 @@ fn holds(
     builds(alloc, builder, lines, fault)
 }
 
+/// Whether what was to be shown is so; not where memory is wanting.
+fn is_so(given: Result<bool, NoMemory>) -> bool {
+    matches!(given, Ok(true))
+}
+
+/// The rows of imports.
 #[test]
-fn records_of_rows(rt: HostRuntime) -> Result<(), Fail> {
-    for &(source, steps, lines, fault) in &ROWS {
-        assert!(rt;
-            holds(rt.alloc(), source, steps, lines, fault)?,
-            "at {source}"
-        );
+fn records_of_imports(rt: HostRuntime) {
+    for &(source, steps, lines, fault) in &IMPORTS {
+        let given = is_so(holds(rt.alloc(), source, steps, lines, fault));
+        assert!(rt; given, "at {source}");
     }
-    Ok(())
+}
+
+/// The rows of exports.
+#[test]
+fn records_of_exports(rt: HostRuntime) {
+    for &(source, steps, lines, fault) in &EXPORTS {
+        let given = is_so(holds(rt.alloc(), source, steps, lines, fault));
+        assert!(rt; given, "at {source}");
+    }
+}
+
+/// The rows of names that stand elsewhere.
+#[test]
+fn records_of_lists(rt: HostRuntime) {
+    for &(source, steps, lines, fault) in &LISTS {
+        let given = is_so(holds(rt.alloc(), source, steps, lines, fault));
+        assert!(rt; given, "at {source}");
+    }
 }
 
 /// Visits an `import()` in a tree of its own.
@@ -574,11 +602,15 @@ fn takes_syntax(record: &mut ModuleRecordBuilder) -> Result<bool, NoMemory> {
     Ok(record.has_module_syntax() && errors.is_empty())
 }
 
+/// Whether the record of a call has no module syntax until it is set.
+fn is_syntax_set(alloc: Global) -> Result<bool, NoMemory> {
+    let mut record = ModuleRecordBuilder::new(alloc, SourceType::module());
+    visit_call(alloc, &mut record)?;
+    takes_syntax(&mut record)
+}
+
 /// The record of calls alone has no module syntax, and `set_module_syntax` gives it. Neither is an error.
 #[test]
-fn module_syntax_is_set(rt: HostRuntime) -> Result<(), Fail> {
-    let mut record = ModuleRecordBuilder::new(rt.alloc(), SourceType::module());
-    visit_call(rt.alloc(), &mut record)?;
-    assert!(rt; takes_syntax(&mut record)?);
-    Ok(())
+fn module_syntax_is_set(rt: HostRuntime) {
+    assert!(rt; is_so(is_syntax_set(rt.alloc())));
 }

@@ -11,7 +11,6 @@ use js_tree::{
     Op, ParserAstBuilder, PropertyKind, Tree,
 };
 use std::alloc::Global;
-use std::test::Fail;
 
 /// A node to be made: what it is, its places, its op, the bits of its flags, and its slots: `n` is the next of the nodes
 /// that are in no slot yet, `-` an empty slot.
@@ -252,6 +251,11 @@ fn built(alloc: Global, steps: &[Step], end: u32) -> Result<Tree, NoMemory> {
     builder.finish(Span { start: 0, end }, children)
 }
 
+/// Whether what was to be shown is so; not where memory is wanting.
+fn is_so(given: Result<bool, NoMemory>) -> bool {
+    matches!(given, Ok(true))
+}
+
 /// Whether a tree has these lines, whose memory is taken exactly.
 fn has_lines(alloc: Global, tree: &Tree, lines: &str) -> Result<bool, NoMemory> {
     let bytes = tree.tree_lines(alloc)?;
@@ -277,7 +281,7 @@ fn row_holds(alloc: Global, row: Row) -> Result<bool, NoMemory> {
 
 /// The lines of each tree, whose memory was taken exactly, and how many nodes it has.
 #[test]
-fn lines_of_trees(rt: HostRuntime) -> Result<(), Fail> {
+fn lines_of_trees(rt: HostRuntime) {
     let rows: [Row; 4] = [
         (&[], 0, "Program 0..0\n", 1),
         (&TARGET, 26, TARGET_LINES, 13),
@@ -285,9 +289,9 @@ fn lines_of_trees(rt: HostRuntime) -> Result<(), Fail> {
         (&WORDS, 7, WORDS_LINES, 10),
     ];
     for row in rows {
-        assert!(rt; row_holds(rt.alloc(), row)?, "at {}", row.2);
+        let given = is_so(row_holds(rt.alloc(), row));
+        assert!(rt; given, "at {}", row.2);
     }
-    Ok(())
 }
 
 /// The children of a target of four slots, of which the second is empty.
@@ -305,12 +309,16 @@ fn has_target(tree: &Tree) -> bool {
         && tree.span(target).end == 22
 }
 
+/// Whether the tree of the target `has_target`.
+fn is_target_made(alloc: Global) -> Result<bool, NoMemory> {
+    let tree = built(alloc, &TARGET, 26)?;
+    Ok(has_target(&tree))
+}
+
 /// The node of a target has four slots, of which the second is empty.
 #[test]
-fn children_of_a_target(rt: HostRuntime) -> Result<(), Fail> {
-    let tree = built(rt.alloc(), &TARGET, 26)?;
-    assert!(rt; has_target(&tree));
-    Ok(())
+fn children_of_a_target(rt: HostRuntime) {
+    assert!(rt; is_so(is_target_made(rt.alloc())));
 }
 
 /// Nodes of the pattern, and those of the names that each binds.
@@ -375,15 +383,12 @@ fn finished_pattern_binds(
 
 /// The names that a nested pattern binds, the rest's too, before and after the tree is finished.
 #[test]
-fn bound_names_of_a_pattern(rt: HostRuntime) -> Result<(), Fail> {
+fn bound_names_of_a_pattern(rt: HostRuntime) {
     for &(number, wanted) in &BOUND {
-        assert!(rt; pattern_binds(rt.alloc(), number, wanted)?, "at {number}");
-        assert!(rt;
-            finished_pattern_binds(rt.alloc(), number, wanted)?,
-            "at {number}, finished"
-        );
+        let before = is_so(pattern_binds(rt.alloc(), number, wanted));
+        let after = is_so(finished_pattern_binds(rt.alloc(), number, wanted));
+        assert!(rt; before && after, "at {number}");
     }
-    Ok(())
 }
 
 /// Whether a span lies in a text of ASCII, whose characters no span splits.
@@ -544,19 +549,12 @@ fn is_finished_reading(
 
 /// What each reader gives, before and after the tree is finished.
 #[test]
-fn readings(rt: HostRuntime) -> Result<(), Fail> {
-    let alloc = rt.alloc();
+fn readings(rt: HostRuntime) {
     for &(source, kind, reader, wanted) in &READINGS {
-        assert!(rt;
-            is_reading(alloc, source, kind, reader, wanted)?,
-            "at {source}"
-        );
-        assert!(rt;
-            is_finished_reading(alloc, source, kind, reader, wanted)?,
-            "at {source}, finished"
-        );
+        let before = is_so(is_reading(rt.alloc(), source, kind, reader, wanted));
+        let after = is_so(is_finished_reading(rt.alloc(), source, kind, reader, wanted));
+        assert!(rt; before && after, "at {source}");
     }
-    Ok(())
 }
 
 /// A text, the kind of the node at its whole, a string literal or a part of a template, and the text of ASCII that its code
@@ -647,15 +645,12 @@ fn has_finished_value(
 
 /// The code units of each, before and after the tree is finished.
 #[test]
-fn values(rt: HostRuntime) -> Result<(), Fail> {
+fn values(rt: HostRuntime) {
     for &(source, kind, wanted) in &VALUES {
-        assert!(rt; has_value(rt.alloc(), source, kind, wanted)?, "at {source}");
-        assert!(rt;
-            has_finished_value(rt.alloc(), source, kind, wanted)?,
-            "at {source}, finished"
-        );
+        let before = is_so(has_value(rt.alloc(), source, kind, wanted));
+        let after = is_so(has_finished_value(rt.alloc(), source, kind, wanted));
+        assert!(rt; before && after, "at {source}");
     }
-    Ok(())
 }
 
 /// The text of two names, of which the second is written with an escape.
@@ -705,12 +700,16 @@ fn are_kept(alloc: Global, builder: &mut ParserAstBuilder) -> Result<bool, NoMem
     Ok(is_read && is_kept && marks_first(builder, first, second))
 }
 
+/// Whether the two names `are_kept` in a tree of their own.
+fn two_names_are_kept(alloc: Global) -> Result<bool, NoMemory> {
+    let mut builder = ParserAstBuilder::for_text(alloc, TWO_NAMES.len())?;
+    are_kept(alloc, &mut builder)
+}
+
 /// A name that is kept stands under its own number: in `a; \u0061` the second name's.
 #[test]
-fn kept_names(rt: HostRuntime) -> Result<(), Fail> {
-    let mut builder = ParserAstBuilder::for_text(rt.alloc(), TWO_NAMES.len())?;
-    assert!(rt; are_kept(rt.alloc(), &mut builder)?);
-    Ok(())
+fn kept_names(rt: HostRuntime) {
+    assert!(rt; is_so(two_names_are_kept(rt.alloc())));
 }
 
 /// Makes nodes that stand each in the next, and tells the outermost.
@@ -731,10 +730,14 @@ fn nested_tree(alloc: Global, count: u32) -> Result<Tree, NoMemory> {
     builder.finish(Span { start: 0, end: 1 }, vec![in alloc; outermost]?)
 }
 
+/// Whether a tree of nodes that stand each in the next has so many, and no lines.
+fn has_no_lines(alloc: Global, count: u32, nodes: usize) -> Result<bool, NoMemory> {
+    let tree = nested_tree(alloc, count)?;
+    Ok(tree.node_count() == nodes && tree.tree_lines(alloc).is_err())
+}
+
 /// A tree as deep as it has nodes, whose lines would have more bytes than there may be.
 #[test]
-fn too_deep(rt: HostRuntime) -> Result<(), Fail> {
-    let tree = nested_tree(rt.alloc(), 60_000)?;
-    assert!(rt; tree.node_count() == 60_001 && tree.tree_lines(rt.alloc()).is_err());
-    Ok(())
+fn too_deep(rt: HostRuntime) {
+    assert!(rt; is_so(has_no_lines(rt.alloc(), 60_000, 60_001)));
 }
