@@ -108,10 +108,10 @@ within m (lexeme p) w = tt
 within m a w = w.1
 
 -- a mark of parentheses is on functions alone
-mark_of : (k : NodeKind) (o : Op) (n : ℕ) (s : Span) → (is_lexical (with_pife (record { kind = k; op = o; flags = n; span = s })).kind ≡ is_lexical k) × ((with_pife (record { kind = k; op = o; flags = n; span = s })).span ≡ s)
-mark_of function_expression o n s = (refl, refl)
-mark_of arrow_function_expression o n s = (refl, refl)
-mark_of k o n s = (refl, refl)
+pife_of : (k : NodeKind) (o : Op) (n : ℕ) (s : Span) → (is_lexical (with_pife (record { kind = k; op = o; flags = n; span = s })).kind ≡ is_lexical k) × ((with_pife (record { kind = k; op = o; flags = n; span = s })).span ≡ s)
+pife_of function_expression o n s = (refl, refl)
+pife_of arrow_function_expression o n s = (refl, refl)
+pife_of k o n s = (refl, refl)
 
 module _ (Q : Span → Type 0) where
   -- each such node among the slots has a span of which Q is so
@@ -151,7 +151,7 @@ module _ (Q : Span → Type 0) (L : ℕ → Lexeme → Type 0) (told : (i : ℕ)
   each_in (is_such {n = n} d c) w l a b = let x = each_in d (rule_fits n) l tt tt in (x.0, (x.1.0, b))
   each_in (is_marked {h = h} {n = n} {l = m} {cs = cs} d) w l a b =
       let x = each_in d (rule_fits n) l tt tt in
-      let y = mark_of m.kind m.op m.flags m.span in
+      let y = pife_of m.kind m.op m.flags m.span in
       (λ q. subst (λ (v : Label → Label). Q (v m).span) (sym w) (subst Q (sym y.1) (x.0 (sym y.0 ∙ (ap (λ (v : Label → Label). is_lexical (v m).kind) (sym w) ∙ q)))), (x.1.0, b))
   each_in (is_node {m = m} {a = g} d) w l a b = (at_node m g w d l, (each_in d (within m g w) l a tt, b))
   each_in (is_ended {ks = ks} {cs = cs} {us = us} q d x) w l a b = subst (Each Q) (sym q) (joined Q cs us (each_in d w l a tt) (each_in x (tt, tt) (lexed_behind L d l) a b))
