@@ -29,12 +29,12 @@ enum Part {
     /// Its tree.
     Tree,
     /// Its tree, and what is kept beside it.
-    Kept(Kept),
+    Detail(Detail),
 }
 
 /// What is told of what a parse keeps.
 #[derive(Debug, Clone, Copy)]
-enum Kept {
+enum Detail {
     /// The tokens.
     Tokens,
     /// The comments and the white space.
@@ -58,10 +58,10 @@ struct Asked {
 fn part_of(word: &str) -> Option<Part> {
     match word {
         "parse" => Some(Part::Tree),
-        "tokens" => Some(Part::Kept(Kept::Tokens)),
-        "trivia" => Some(Part::Kept(Kept::Trivia)),
-        "names" => Some(Part::Kept(Kept::Names)),
-        "counts" => Some(Part::Kept(Kept::Counts)),
+        "tokens" => Some(Part::Detail(Detail::Tokens)),
+        "trivia" => Some(Part::Detail(Detail::Trivia)),
+        "names" => Some(Part::Detail(Detail::Names)),
+        "counts" => Some(Part::Detail(Detail::Counts)),
         _ => None,
     }
 }
@@ -148,13 +148,13 @@ fn tell_tree<R: Print + AllocGlobal>(rt: &R, text: &str) -> io::Result<()> {
 }
 
 /// Prints what a parse of a text keeps.
-fn tell_kept<R: Print + AllocGlobal>(rt: &R, text: &str, part: Kept) -> io::Result<()> {
+fn tell_kept<R: Print + AllocGlobal>(rt: &R, text: &str, detail: Detail) -> io::Result<()> {
     let kept = kept_of(rt, text)?;
-    match part {
-        Kept::Tokens => tell_tokens(rt, &kept),
-        Kept::Trivia => tell_trivia(rt, &kept),
-        Kept::Names => tell_names(rt, &kept, text),
-        Kept::Counts => tell_counts(rt, &kept),
+    match detail {
+        Detail::Tokens => tell_tokens(rt, &kept),
+        Detail::Trivia => tell_trivia(rt, &kept),
+        Detail::Names => tell_names(rt, &kept, text),
+        Detail::Counts => tell_counts(rt, &kept),
     }
 }
 
@@ -163,7 +163,7 @@ fn tell<R: Print + AllocGlobal>(rt: &R, text: &str, part: Part) -> io::Result<()
     match part {
         Part::Lexemes => tell_lexemes(rt, text),
         Part::Tree => tell_tree(rt, text),
-        Part::Kept(kept) => tell_kept(rt, text, kept),
+        Part::Detail(detail) => tell_kept(rt, text, detail),
     }
 }
 
