@@ -24,7 +24,7 @@ pub enum DiagnosticClass {
 
 /// The kinds of diagnostics. Each is what stands at the diagnostic's span; the numbers are the sections of ECMA-262
 /// whose rule it breaks.
-#[derive(Debug, Clone, Copy, PartialEq, Eq)]
+#[derive(Clone, Copy, PartialEq, Eq)]
 pub enum DiagnosticKind {
     /// A character at which no token begins (12.6).
     InvalidCharacter,

@@ -1,7 +1,7 @@
 //! The kinds of lexemes (ECMA-262, sections 12.7 to 12.9).
 
 /// The kind of a lexeme. The kind of a word is that of its decoded text.
-#[derive(Debug, Clone, Copy, PartialEq, Eq)]
+#[derive(Clone, Copy, PartialEq, Eq)]
 pub enum Kind {
     /// The reserved word `break`.
     Break,

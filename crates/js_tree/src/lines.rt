@@ -3,7 +3,7 @@
 ghost use Rattle.std.specs.Prelude.{◌≡◌, ◌++◌, ◌∷◌, ◌<◌, ◌≤◌, ◌^◌, ◌*◌, ◌+◌, [], ℕ, length, IfOk, OnOk, Some, cond, get_or};
 ghost use Rattle.std.specs.Fmt.{decimal};
 ghost use Rattle.std.specs.Option.{option_copied};
-ghost use Rattle.js_grammar.specs.Lines.{op_text, flag_words, words_of, label_text, places_text, indent, tree_text};
+ghost use Rattle.js_grammar.specs.Lines.{op_text, flag_words, words_of, kind_text, label_text, places_text, indent, tree_text};
 ghost use Rattle.js_grammar.specs.Trees.{Tree as SeenTree};
 ghost use Rattle.js_tree.specs.Labels.{op_of, number_of};
 ghost use Rattle.js_tree.specs.Nodes.{node_at, label};
@@ -187,14 +187,22 @@ fn push_slots(
 }
 
 impl Columns {
+    /// Writes the kind of a node and, behind a blank, its span.
+    fn write_kind(&self, out: &mut Vec<u8>, id: NodeId) -> Result<(), NoMemory>
+        requires { id.0 < length self.now }
+        ensures { OnOk result (out.new.items ≡ out.old.items ++ (kind_text (label (node_at self.now id)).kind ++ (32 ∷ places_text (label (node_at self.now id)).span.from (label (node_at self.now id)).span.to))) }
+    {
+        out.extend_from_slice(self.kind(id).name().as_bytes())?;
+        out.push(b' ')?;
+        write_span(out, self.span(id))
+    }
+
     /// Writes what a node is: its kind, its span, its op and its flags.
     fn write_label(&self, out: &mut Vec<u8>, id: NodeId) -> Result<(), NoMemory>
         requires { id.0 < length self.now }
         ensures { OnOk result (out.new.items ≡ out.old.items ++ label_text (label (node_at self.now id))) }
     {
-        out.extend_from_slice(self.kind(id).name().as_bytes())?;
-        out.push(b' ')?;
-        write_span(out, self.span(id))?;
+        self.write_kind(out, id)?;
         write_op(out, self.op(id))?;
         if self.has_no_flag(id) {
             return Ok(());
