@@ -3,7 +3,7 @@ use Rattle.std.proofs.Common.{ℕ, ◌≡◌, List, [], ◌∷◌, length, Bool,
 use Rattle.std.specs.Prelude.{Result, Ok, Err, MatchResult, Option, is_some, if◌then◌else◌}
 use Rattle.std.proofs.lemmas.Bool.{false≢true}
 use Rattle.js_base.specs.declared.kind.Kind.{Kind}
-use Rattle.js_base.specs.declared.kind.Kind.TheVariants.{This, Null, True, False, Decimal, Float, Binary, Octal, Hex, PositiveExponential, NegativeExponential, DecimalBigInt, BinaryBigInt, OctalBigInt, HexBigInt, Str, RegExp, Slash, SlashEq, NoSubstitutionTemplate, TemplateHead, LParen, LBrack, LCurly, Percent, Minus, Plus, Bang, Tilde, Typeof, Void, Delete, Function}
+use Rattle.js_base.specs.declared.kind.Kind.TheVariants.{This, Null, True, False, Decimal, Float, Binary, Octal, Hex, PositiveExponential, NegativeExponential, DecimalBigInt, BinaryBigInt, OctalBigInt, HexBigInt, Str, RegExp, Slash, SlashEq, NoSubstitutionTemplate, TemplateHead, LParen, LBrack, LCurly, Percent, Minus, Plus, Bang, Tilde, Typeof, Void, Delete, Function, RAngle}
 use Rattle.js_base.specs.declared.operator.UnaryOperator.{UnaryOperator}
 use Rattle.js_base.specs.Kinds.{same_kind, one_of_kinds}
 use Rattle.js_base.specs.KindSets.{number_kinds}
@@ -38,12 +38,13 @@ use Rattle.js_cursor.specs.declared.stop.Stop.{Stop}
 use Rattle.js_cursor.specs.declared.stop.Stop.TheVariants.{Fatal, NoMemory}
 use Rattle.js_parsing.specs.Lexemes.{Plain, escaped_word, is_read, may_name, name_kinds, read_kinds, signs}
 use Rattle.js_parsing.specs.States.{At, Same, NodesLie}
-use Rattle.js_parsing.specs.Moves.{Moved, MadeHere, LeafTaken, TakesLeaf, plain_label}
+use Rattle.js_parsing.specs.Moves.{IsWholeHere, Moved, MadeHere, LeafTaken, TakesLeaf, plain_label, unpassable}
 use Rattle.js_parsing.specs.Answers.{Underived, Answer, Numbered, Outcome, beside}
 use Rattle.js_operands.specs.Functions.{NoFunctionHere}
 use Rattle.js_operands.specs.Numbers.{node_of_number, op_of_number}
 use Rattle.js_operands.proofs.AsyncWords.{no_expression}
 use Rattle.js_parsing.specs.Operators.{unary_kinds}
+use Rattle.js_parsing.proofs.Here.{uncut}
 use Rattle.js_parsing.proofs.Moving.{same_both, same_with, beside_nodes}
 use Rattle.js_parsing.proofs.Dead.{live, lives}
 use Rattle.js_parsing.proofs.NameKinds.{at_name, listed_name, name_apart, name_passes, name_read, name_test}
@@ -261,6 +262,18 @@ not_same a k b n = go (same_kind a k) refl
 
 pub none_of_these : (k : Kind) → (k ≡ This → ⊥) → (k ≡ Null → ⊥) → (k ≡ True → ⊥) → (k ≡ False → ⊥) → (k ≡ Str → ⊥) → (k ≡ RegExp → ⊥) → (k ≡ Slash → ⊥) → (k ≡ SlashEq → ⊥) → (k ≡ NoSubstitutionTemplate → ⊥) → (k ≡ TemplateHead → ⊥) → (k ≡ LParen → ⊥) → (k ≡ LBrack → ⊥) → (k ≡ Function → ⊥) → (k ≡ LCurly → ⊥) → (k ≡ Percent → ⊥) → one_of_kinds number_kinds k ≡ false → one_of_kinds primary_kinds k ≡ false
 none_of_these k b c d e f x y z v w g j o u h n = not_same This k _ b ∙ (not_same Null k _ c ∙ (not_same True k _ d ∙ (not_same False k _ e ∙ (not_same Str k _ f ∙ (not_same RegExp k _ x ∙ (not_same Slash k _ y ∙ (not_same SlashEq k _ z ∙ (not_same NoSubstitutionTemplate k _ v ∙ (not_same TemplateHead k _ w ∙ (not_same LParen k _ g ∙ (not_same LBrack k _ j ∙ (not_same Function k _ o ∙ (not_same LCurly k _ u ∙ (not_same Percent k _ h ∙ n))))))))))))))
+
+abbrev numbers : Look
+numbers k w e = one_of_kinds number_kinds k
+
+is_not : (b : Bool) → not b ≡ true → b ≡ false
+is_not true h = absurd (false≢true h)
+is_not false h = refl
+
+-- a number may be passed
+pub number_whole : {text : List ℕ} {f : Flags} {p : Parser} → At text f p → one_of_kinds number_kinds p.token.kind ≡ true → IsWholeHere p
+unfolding covers
+number_whole {p = p} a h = (uncut a (is_not (same_kind RAngle p.token.kind) (covered numbers (λ k w e. not (same_kind RAngle k)) refl p.token.kind false false h)), is_not (unpassable p.token.kind) (covered numbers (λ k w e. not (unpassable k)) refl p.token.kind false false h))
 
 -- a number, read so
 pub number_outcome : (text : List ℕ) (f : Flags) (p q : Parser) (nk : NodeKindMade) (o : OpMade) (k : Kind) (r : Result NodeId Stop) → one_of_kinds number_kinds p.token.kind ≡ true → k ≡ p.token.kind → nk ≡ node_of_number k → o ≡ op_of_number k → At text f p → p.token.escaped ≡ false → MatchResult r (λ id. TakesLeaf nk o p q id) OnlyMemory → Outcome text f (at Primary f) p q r

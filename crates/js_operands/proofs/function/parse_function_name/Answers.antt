@@ -7,6 +7,7 @@ use Rattle.js_cursor.specs.Places.{goal as goal_at}
 use Rattle.js_operands.specs.declared.function.FunctionForm.{FunctionForm}
 use Rattle.js_operands.specs.Functions.{NamesFunction, TakesName}
 use Rattle.js_operands.proofs.Functions.{name_refused, nameless_marked, names_so, names_word}
+use Rattle.js_operands.proofs.Members.{word_whole}
 use Rattle.js_operands.proofs.function.parse_function_name.Goals as goal
 
 pub returns-in-Expression : goal.returns-in-Expression
@@ -20,3 +21,6 @@ error-requires-clause-mark g c = subst (λ (d : Diagnostic). Mark (goal_at c.arg
 
 pub parse_name-requires-clause-word : goal.parse_name-requires-clause-word
 parse_name-requires-clause-word g c = names_word c.args.form c.args.is_async c.args.is_generator c.args.p.now (names_so c.args.form c.args.is_async c.args.is_generator c.args.p.now c.if-function_name_stands.true c.function_name_stands.ensures)
+
+pub parse_name-requires-clause-whole : goal.parse_name-requires-clause-whole
+parse_name-requires-clause-whole g c = word_whole c.requires (names_word c.args.form c.args.is_async c.args.is_generator c.args.p.now (names_so c.args.form c.args.is_async c.args.is_generator c.args.p.now c.if-function_name_stands.true c.function_name_stands.ensures))

@@ -7,6 +7,7 @@ use Rattle.js_tree.specs.declared.op.Op.TheVariants as op
 use Rattle.js_parsing.proofs.Escapes.{plain_here, word_plain, no_name_where}
 use Rattle.js_parsing.proofs.Giving.{gives_up_here}
 use Rattle.js_parsing.proofs.NameKinds.{name_at, name_so}
+use Rattle.js_parsing.proofs.Signs.{whole_sign}
 use Rattle.js_operands.proofs.Operands.{escaped_fails, leaf_outcome, this_path, null_path, true_path, false_path, string_path, primary_fails, none_of_these}
 use Rattle.js_parsing.specs.Lexemes.{slashes}
 use Rattle.js_operands.specs.Templates.{heads}
@@ -54,3 +55,15 @@ parse_function_expression-requires-clause-word t c = inl (plain_here c.args.p.no
 
 pub parse_number-requires-clause-plain : goal.parse_number-requires-clause-plain
 parse_number-requires-clause-plain t c = word_plain _ _ (no_name_where (one_of_kinds number_kinds) c.args.p.now.token.kind (sym (ap (one_of_kinds number_kinds) c.cur_kind.ensures) ∙ (sym c.is_number.ensures ∙ c.if-is_number.true)) refl) (sym c.escaped_word_stands.ensures ∙ c.if-escaped_word_stands.false)
+
+pub parse_leaf-requires-clause-whole : goal.parse_leaf-requires-clause-whole
+parse_leaf-requires-clause-whole t c = whole_sign This c.requires.at (sym c.cur_kind-2.ensures ∙ c.in-This.is) refl refl
+
+pub parse_leaf-requires-in-Null-clause-whole : goal.parse_leaf-requires-in-Null-clause-whole
+parse_leaf-requires-in-Null-clause-whole t c = whole_sign Null c.requires.at (sym c.cur_kind-2.ensures ∙ c.in-Null.is) refl refl
+
+pub parse_leaf-requires-in-True-clause-whole : goal.parse_leaf-requires-in-True-clause-whole
+parse_leaf-requires-in-True-clause-whole t c = elim c.in-True.is [
+  | inl e ↦ whole_sign True c.requires.at (sym c.cur_kind-2.ensures ∙ e) refl refl
+  | inr e ↦ whole_sign False c.requires.at (sym c.cur_kind-2.ensures ∙ e) refl refl
+]
