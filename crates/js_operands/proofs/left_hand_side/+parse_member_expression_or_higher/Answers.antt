@@ -1,4 +1,4 @@
-use Rattle.std.proofs.Common.{◌∙◌, ap, arith}
+use Rattle.std.proofs.Common.{◌∙◌, ap, arith, refl}
 use Rattle.js_base.specs.declared.kind.Kind.TheVariants.{Dot, New, QuestionDot, LParen, Super}
 use Rattle.std.proofs.lemmas.Result.{err_from_is_err_and}
 use Rattle.js_cursor.specs.Parsers.{Parser}
@@ -8,6 +8,7 @@ use Rattle.js_operands.proofs.Members.{at_callee, callee_room, entered_stops, me
 use Rattle.js_operands.proofs.NewTargets.{behind_new}
 use Rattle.js_operands.proofs.Supers.{arguments_at, arguments_before, arguments_checked, arguments_marked, bare_before, bare_checked, bare_marked, callee_node}
 use Rattle.js_parsing.proofs.Moving.{deeper, left_at, standing, stops_behind, stops_so}
+use Rattle.js_parsing.proofs.Signs.{whole_sign}
 use Rattle.js_parsing.proofs.Nesting.{nested_room, nests_later, later_room}
 use Rattle.js_operands.proofs.left_hand_side.+parse_member_expression_or_higher.Goals as goal
 use Rattle.js_parsing.specs.Classes.{ends_parse}
@@ -277,3 +278,9 @@ check_new_callee-requires-then-stands-clause-mark g t c = λ j.
     let x = c.in_ok-callee.ensures _ _ (deeper m.at h) in
     let y = new_taken c.requires.at s.0 s.1 m u h c.leave.ensures x (stands_so c.leave.new.self QuestionDot c.if-stands-3.false c.stands-then-stands-2.ensures) (stands_so c.leave.new.self LParen c.if-stands-4.false c.stands-then-stands-3.ensures) (c.end_span-span.ensures.start ∙ c.cur_start-start.ensures) c.end_span-span.ensures.end c.in_ok-node-2.ensures in
     bare_marked c.requires.at s m u h c.leave.ensures x _ c.stands-begins_super.ensures c.is_super_alone-super_alone.ensures y (ap (λ (z : Parser). z.prev_token_end) c.in_ok-node-2.ensures.stays) c.cur_start-callee_start.ensures j
+
+pub advance-requires-clause-whole : goal.advance-requires-clause-whole
+advance-requires-clause-whole g t c = whole_sign New c.requires.at (stands_so c.args.p.now New c.if-stands.true c.stands.ensures).0 refl refl
+
+pub parse_super_member-requires-clause-word : goal.parse_super_member-requires-clause-word
+parse_super_member-requires-clause-word g t c = stands_so c.args.p.now Super c.if-stands-5.true c.stands-2.ensures
