@@ -8,9 +8,9 @@ ghost use Rattle.js_base.specs.Contexts.{bits_of};
 use js_base::{
     AssignmentOperator, BinaryOperator, Context, Diagnostic, DiagnosticClass, DiagnosticKind,
     Diagnostics, FunctionKind, Kind, LogicalOperator, NoMemory, ParseOptions, Precedence,
-    SourceType, Span, Spans, StatementContext, Steps, Text, Token, Tokens, UnaryOperator,
-    UpdateOperator, kind_to_precedence, map_assignment_operator, map_binary_operator,
-    map_logical_operator, map_unary_operator, map_update_operator,
+    SourceType, Span, Spans, StatementContext, Steps, Text, TickLedger, Token, Tokens,
+    UnaryOperator, UpdateOperator, kind_to_precedence, map_assignment_operator,
+    map_binary_operator, map_logical_operator, map_unary_operator, map_update_operator,
 };
 use std::alloc::Global;
 use std::cmp::Ordering;
@@ -530,11 +530,20 @@ fn text_of_a_token(rt: HostRuntime) {
     assert!(rt; token.text("abc") == "bc");
 }
 
-/// A step is counted.
-#[test]
-fn steps_are_counted(_rt: HostRuntime) {
+/// Two steps. What is tested is its contract, since nothing of a count is there when the program runs.
+fn two_steps() -> Steps<TickLedger>
+    ensures { result ≡ 2 }
+{
     let mut steps = Steps::new();
     steps.tick();
+    steps.tick();
+    steps
+}
+
+/// Steps are counted.
+#[test]
+fn steps_are_counted(_rt: HostRuntime) {
+    drop(two_steps());
 }
 
 /// Whether two contexts are equal.

@@ -10,4 +10,6 @@ mod decoding;
 #[cfg(test)]
 mod record;
 #[cfg(test)]
+mod rows;
+#[cfg(test)]
 mod tree;

@@ -2,7 +2,6 @@
 
 ghost use Rattle.std.specs.Prelude.{◌≡◌, ◌<◌, length, Some, IsSome, IsTrue, chars};
 ghost use Rattle.js_base.specs.Decoding.{name_text};
-ghost use Rattle.js_base.specs.Spans.{LiesIn};
 ghost use Rattle.js_base.specs.declared.kind.Kind.TheVariants.{Str};
 ghost use Rattle.js_grammar.specs.NodeNames.{without_sign, IsReadFrom};
 ghost use Rattle.js_grammar.specs.Strings.{string_kind};
@@ -10,6 +9,7 @@ ghost use Rattle.js_record.specs.Checked.{AreUnder, AreHeld, IsSound, AreSound};
 ghost use Rattle.js_record.specs.NodeKinds.{is_string, is_word};
 ghost use Rattle.js_record.specs.Shown.{IsRead, label_at};
 
+use crate::rows::{is_so, lies_in, slots_of};
 use js_base::{Diagnostics, NoMemory, SourceType, Span};
 use js_record::{ModuleRecord, ModuleRecordBuilder};
 use js_tree::{NodeFlags, NodeId, NodeKind, Op, ParserAstBuilder};
@@ -298,13 +298,6 @@ static LISTS: [Row; 5] = [
 /// The span of the word `default` behind `export` in the rows.
 static DEFAULT_WORD: Span = Span { start: 7, end: 14 };
 
-/// Whether a span lies in a text of ASCII, whose characters no span splits.
-fn lies_in(source: &str, span: Span) -> bool
-    ensures { IsTrue result → LiesIn span source.now }
-{
-    source.is_ascii() && span.start <= span.end && span.end as usize <= source.len()
-}
-
 /// Whether it is one of the names of the rows.
 fn is_name(text: &str) -> bool
     ensures { IsTrue result → IsSome (name_text (chars (without_sign text.now))) }
@@ -431,20 +424,6 @@ fn visit(
     }
 }
 
-/// The slots of a step, taken from the end of the nodes that are in none yet.
-fn slots_of(
-    alloc: Global,
-    free: &mut Vec<NodeId>,
-    slots: &str,
-) -> Result<Vec<Option<NodeId>>, NoMemory> {
-    let mut taken = Vec::new(alloc);
-    for slot in slots.bytes().rev() {
-        taken.push(if slot == b'n' { free.pop() } else { None })?;
-    }
-    taken.reverse();
-    Ok(taken)
-}
-
 /// Makes the node of a step and visits it; whether it is read from the text.
 fn visit_step(
     alloc: Global,
@@ -551,11 +530,6 @@ fn holds(
         return Ok(false);
     }
     builds(alloc, builder, lines, fault)
-}
-
-/// Whether what was to be shown is so; not where memory is wanting.
-fn is_so(given: Result<bool, NoMemory>) -> bool {
-    matches!(given, Ok(true))
 }
 
 /// The rows of imports.

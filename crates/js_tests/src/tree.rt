@@ -1,10 +1,10 @@
 //! Trees and their lines, and what is read from nodes, as rows of plain data.
 
 ghost use Rattle.std.specs.Prelude.{◌≡◌, IsTrue, Some, chars};
-ghost use Rattle.js_base.specs.Spans.{LiesIn};
 ghost use Rattle.js_base.specs.declared.kind.Kind.TheVariants.{Str};
 ghost use Rattle.js_grammar.specs.Strings.{string_kind};
 
+use crate::rows::{is_so, lies_in, slots_of};
 use js_base::{AssignmentOperator, JsStr, NoMemory, Span, Text};
 use js_tree::{
     BigintBase, ClauseWord, DeclarationKind, MethodKind, NodeFlags, NodeId, NodeKind, NumberBase,
@@ -189,20 +189,6 @@ static WORDS_LINES: &str =
 /// The steps, the end of Program, the lines, and how many nodes there are.
 type Row = (&'static [Step], u32, &'static str, usize);
 
-/// The slots of a step, taken from the end of the nodes that are in none yet.
-fn slots_of(
-    alloc: Global,
-    free: &mut Vec<NodeId>,
-    slots: &str,
-) -> Result<Vec<Option<NodeId>>, NoMemory> {
-    let mut taken = Vec::new(alloc);
-    for slot in slots.bytes().rev() {
-        taken.push(if slot == b'n' { free.pop() } else { None })?;
-    }
-    taken.reverse();
-    Ok(taken)
-}
-
 /// Makes the node of a step, by the call for its number of slots.
 fn step_made(
     alloc: Global,
@@ -249,11 +235,6 @@ fn built(alloc: Global, steps: &[Step], end: u32) -> Result<Tree, NoMemory> {
     let mut builder = ParserAstBuilder::new(alloc)?;
     let children = made(alloc, &mut builder, steps)?;
     builder.finish(Span { start: 0, end }, children)
-}
-
-/// Whether what was to be shown is so; not where memory is wanting.
-fn is_so(given: Result<bool, NoMemory>) -> bool {
-    matches!(given, Ok(true))
 }
 
 /// Whether a tree has these lines, whose memory is taken exactly.
@@ -389,13 +370,6 @@ fn bound_names_of_a_pattern(rt: HostRuntime) {
         let after = is_so(finished_pattern_binds(rt.alloc(), number, wanted));
         assert!(rt; before && after, "at {number}");
     }
-}
-
-/// Whether a span lies in a text of ASCII, whose characters no span splits.
-fn lies_in(source: &str, span: Span) -> bool
-    ensures { IsTrue result → LiesIn span source.now }
-{
-    source.is_ascii() && span.start <= span.end && span.end as usize <= source.len()
 }
 
 /// Whether it is one of the string literals of the rows.

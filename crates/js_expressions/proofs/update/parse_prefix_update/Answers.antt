@@ -1,6 +1,6 @@
 use Rattle.std.proofs.Common.{arith, refl, ◌∙◌}
 use Rattle.std.proofs.lemmas.Result.{err_from_is_err_and}
-use Rattle.js_parsing.proofs.Signs.{plain_sign}
+use Rattle.js_parsing.proofs.Signs.{plain_sign, whole_sign}
 use Rattle.js_parsing.proofs.Giving.{gives_up_here}
 use Rattle.js_parsing.proofs.Moving.{standing, stops_behind, same_both}
 use Rattle.js_parsing.proofs.Nesting.{nested_room}
@@ -72,3 +72,6 @@ returns t c = λ text f a.
     let m = c.in_ok-advance.ensures text f a in
     let x = c.in_ok-operand.ensures text f m.at in
     prefix_answers _ a c.requires.operator (row_update c.cur_kind.ensures c.map_update_operator-operator.ensures.row) m x (c.in-Some.ensures _ _ _ _ x.holds) (c.end_span-span.ensures.start ∙ c.cur_start-start.ensures) c.end_span-span.ensures.end c.in_ok-node.ensures
+
+pub advance-requires-clause-whole : goal.advance-requires-clause-whole
+advance-requires-clause-whole t c = let u = update_plain _ c.requires.operator in whole_sign _ c.requires.at refl u.1 u.2
