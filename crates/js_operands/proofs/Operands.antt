@@ -38,13 +38,12 @@ use Rattle.js_cursor.specs.declared.stop.Stop.{Stop}
 use Rattle.js_cursor.specs.declared.stop.Stop.TheVariants.{Fatal, NoMemory}
 use Rattle.js_parsing.specs.Lexemes.{Plain, escaped_word, is_read, may_name, name_kinds, read_kinds, signs}
 use Rattle.js_parsing.specs.States.{At, Same, NodesLie}
-use Rattle.js_parsing.specs.Moves.{IsWholeHere, Moved, MadeHere, LeafTaken, TakesLeaf, plain_label, unpassable}
+use Rattle.js_parsing.specs.Moves.{Moved, MadeHere, LeafTaken, TakesLeaf, plain_label, unpassable}
 use Rattle.js_parsing.specs.Answers.{Underived, Answer, Numbered, Outcome, beside}
 use Rattle.js_operands.specs.Functions.{NoFunctionHere}
 use Rattle.js_operands.specs.Numbers.{node_of_number, op_of_number}
 use Rattle.js_operands.proofs.AsyncWords.{no_expression}
 use Rattle.js_parsing.specs.Operators.{unary_kinds}
-use Rattle.js_parsing.proofs.Here.{uncut}
 use Rattle.js_parsing.proofs.Moving.{same_both, same_with, beside_nodes}
 use Rattle.js_parsing.proofs.Dead.{live, lives}
 use Rattle.js_parsing.proofs.NameKinds.{at_name, listed_name, name_apart, name_passes, name_read, name_test}
@@ -61,6 +60,10 @@ of_unary P k h a b c d e f g = first_or P Minus k _ _ refl h a (λ h. first_or P
 
 abbrev names : Kind → UnaryOperator → Type 0
 names k o = row_in unary_operators k ≡ Some o → unary_kind o ≡ k
+
+-- and it may be passed
+pub unary_passable : (k : Kind) → one_of_kinds unary_kinds k ≡ true → (same_kind RAngle k ≡ false) × (unpassable k ≡ false)
+unary_passable k h = of_unary (λ k. (same_kind RAngle k ≡ false) × (unpassable k ≡ false)) k h (refl, refl) (refl, refl) (refl, refl) (refl, refl) (refl, refl) (refl, refl) (refl, refl)
 
 pub unary_named : (k : Kind) (o : UnaryOperator) → one_of_kinds unary_kinds k ≡ true → row_in unary_operators k ≡ Some o → unary_kind o ≡ k
 unary_named k o h = of_unary (λ k. names k o) k h (λ e. cc) (λ e. cc) (λ e. cc) (λ e. cc) (λ e. cc) (λ e. cc) (λ e. cc)
@@ -271,9 +274,9 @@ is_not true h = absurd (false≢true h)
 is_not false h = refl
 
 -- a number may be passed
-pub number_whole : {text : List ℕ} {f : Flags} {p : Parser} → At text f p → one_of_kinds number_kinds p.token.kind ≡ true → IsWholeHere p
+pub number_passable : (k : Kind) → one_of_kinds number_kinds k ≡ true → (same_kind RAngle k ≡ false) × (unpassable k ≡ false)
 unfolding covers
-number_whole {p = p} a h = (uncut a (is_not (same_kind RAngle p.token.kind) (covered numbers (λ k w e. not (same_kind RAngle k)) refl p.token.kind false false h)), is_not (unpassable p.token.kind) (covered numbers (λ k w e. not (unpassable k)) refl p.token.kind false false h))
+number_passable k h = (is_not (same_kind RAngle k) (covered numbers (λ k w e. not (same_kind RAngle k)) refl k false false h), is_not (unpassable k) (covered numbers (λ k w e. not (unpassable k)) refl k false false h))
 
 -- a number, read so
 pub number_outcome : (text : List ℕ) (f : Flags) (p q : Parser) (nk : NodeKindMade) (o : OpMade) (k : Kind) (r : Result NodeId Stop) → one_of_kinds number_kinds p.token.kind ≡ true → k ≡ p.token.kind → nk ≡ node_of_number k → o ≡ op_of_number k → At text f p → p.token.escaped ≡ false → MatchResult r (λ id. TakesLeaf nk o p q id) OnlyMemory → Outcome text f (at Primary f) p q r

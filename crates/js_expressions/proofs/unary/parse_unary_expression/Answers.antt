@@ -2,8 +2,9 @@ use Rattle.std.proofs.Common.{◌∙◌, refl, arith}
 use Rattle.std.proofs.lemmas.Result.{err_from_is_err_and}
 use Rattle.js_parsing.proofs.Moving.{standing, stops_behind}
 use Rattle.js_parsing.proofs.Nesting.{nested_room}
+use Rattle.js_parsing.proofs.Signs.{whole_sign}
 use Rattle.js_parsing.proofs.Verdicts.{grown_then}
-use Rattle.js_operands.proofs.Operands.{row_here, unary_outcome, unary_fails}
+use Rattle.js_operands.proofs.Operands.{row_here, unary_passable, unary_outcome, unary_fails}
 use Rattle.js_expressions.proofs.unary.parse_unary_expression.Goals as goal
 
 pub unary-requires : goal.unary-requires
@@ -25,3 +26,6 @@ pub returns : goal.returns
 returns t c = λ text f a.
     let m = c.in_ok-advance.ensures text f a in
     unary_outcome _ _ c.requires.operator (row_here c.cur_kind.ensures c.map_unary_operator-operator.ensures.row) a c.requires.plain m (c.in_ok-argument.ensures text f m.at) (c.end_span-span.ensures.start ∙ c.cur_start-start.ensures) c.end_span-span.ensures.end c.in_ok-node.ensures
+
+pub advance-requires-clause-whole : goal.advance-requires-clause-whole
+advance-requires-clause-whole t c = let u = unary_passable _ c.requires.operator in whole_sign _ c.requires.at refl u.0 u.1

@@ -1,8 +1,10 @@
-use Rattle.js_operands.proofs.Operands.{number_outcome, number_whole}
+use Rattle.std.proofs.Common.{refl}
+use Rattle.js_parsing.proofs.Signs.{whole_sign}
+use Rattle.js_operands.proofs.Operands.{number_outcome, number_passable}
 use Rattle.js_operands.proofs.primary.parse_number.Goals as goal
 
 pub returns : goal.returns
 returns t c = λ text f a. number_outcome text f _ _ _ _ _ c.parse_leaf.result c.requires.number c.cur_kind-kind.ensures c.number_node.ensures.node c.number_op.ensures a c.requires.plain c.parse_leaf.ensures
 
 pub parse_leaf-requires-clause-whole : goal.parse_leaf-requires-clause-whole
-parse_leaf-requires-clause-whole t c = number_whole c.requires.at c.requires.number
+parse_leaf-requires-clause-whole t c = let u = number_passable _ c.requires.number in whole_sign _ c.requires.at refl u.0 u.1
