@@ -1,5 +1,7 @@
 -- The record of a part, put together of its members.
-use Rattle.std.proofs.Common.{◌≡◌, List, [], ◌++◌, map, ap, ◌∙◌}
+use Rattle.std.proofs.Common.{◌≡◌, List, [], ◌∷◌, ◌++◌, map, sym, ap, ◌∙◌}
+use Rattle.std.proofs.lemmas.Grind.{flat_map-append}
+use Rattle.std.proofs.lemmas.List.{append-nil}
 use Rattle.std.specs.Prelude.{ℕ, fold}
 use Rattle.std.specs.List.{flat_map}
 use Rattle.js_base.specs.declared.span.Span.{Span}
@@ -7,6 +9,10 @@ use Rattle.js_base.specs.declared.diagnostic.Diagnostic.{Diagnostic}
 use Rattle.js_grammar.specs.ModuleRecords.{ImportEntry, DynamicImport, RequestedModule, ModuleRecord, Part, place, if_star, with_request, with_binding, replaced, duplicate_export, duplicate_defaults, defaults_among, record_of_part, errors_of_part}
 use Rattle.js_record.specs.declared.record.Exports.{Exports}
 use Rattle.js_record.specs.Exports.{IsMadeOf, locals, indirects}
+
+-- what members give, and one member more
+pub one_more : {X A : Type 0} (f : X → List A) (xs : List X) (x : X) (old new : List A) → old ≡ flat_map f xs → new ≡ old ++ f x → new ≡ flat_map f (xs ++ x ∷ [])
+one_more f xs x old new h n = n ∙ ap (λ v. v ++ f x) h ∙ ap (λ v. flat_map f xs ++ v) (sym (append-nil (f x))) ∙ sym (flat_map-append f xs (x ∷ []))
 
 pub errors_right : (p : Part) (imports : List ImportEntry) (e : Exports) → imports ≡ p.imports → IsMadeOf e imports p.exports p.bindings p.skipped_defaults → e.errors ≡ errors_of_part p
 errors_right p imports e i m =

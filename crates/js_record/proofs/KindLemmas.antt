@@ -1,8 +1,10 @@
 -- What nodes of a kind stand for.
-use Rattle.std.proofs.Common.{◌≡◌, ℕ, true, false, List, Some, None, refl, sym, true≢false}
+use Rattle.std.proofs.Common.{◌≡◌, ℕ, true, false, List, Some, None, refl, sym, ap, true≢false}
 use Rattle.std.specs.Prelude.{IsSome}
 use Rattle.js_base.specs.declared.kind.Kind.TheVariants.{Str}
-use Rattle.js_grammar.specs.NodeNames.{word_at, string_at, string_by, name_by, IsReadAs, characters_at}
+use Rattle.js_grammar.specs.ModuleRecords.{NameSpan, imported, namespace_object, imported_default}
+use Rattle.js_grammar.specs.Modules.{import_names}
+use Rattle.js_grammar.specs.NodeNames.{span_of, word_at, string_at, string_by, name_by, IsReadAs, characters_at}
 use Rattle.js_grammar.specs.Strings.{string_kind}
 use Rattle.js_grammar.specs.Trees.{Label}
 use Rattle.js_tree.specs.declared.kind.NodeKind.{NodeKind}
@@ -51,3 +53,16 @@ module _ (text : List ℕ) (l : Label) where
   no_word node.PrivateIdentifier h s = absurd (true≢false h)
   no_word node.StringLiteral h s = absurd (true≢false s)
   no_word _ h s = refl
+
+-- what an import takes by its kind
+module _ (l : Label) (a b : NameSpan) where
+  pub default_import : (k : NodeKind) → k ≡ node.ImportDefaultSpecifier → import_names (kind_of k) l a b ≡ (imported_default (span_of l), a)
+  default_import k e = ap (λ v. import_names (kind_of v) l a b) e
+
+  pub namespace_import : (k : NodeKind) → k ≡ node.ImportNamespaceSpecifier → import_names (kind_of k) l a b ≡ (namespace_object, a)
+  namespace_import k e = ap (λ v. import_names (kind_of v) l a b) e
+
+  pub name_import : (k : NodeKind) → (k ≡ node.ImportDefaultSpecifier → ⊥) → (k ≡ node.ImportNamespaceSpecifier → ⊥) → import_names (kind_of k) l a b ≡ (imported a, b)
+  name_import node.ImportDefaultSpecifier d n = absurd (d refl)
+  name_import node.ImportNamespaceSpecifier d n = absurd (n refl)
+  name_import _ d n = refl

@@ -1,7 +1,8 @@
 -- The maps of a record as the definitions have them.
-use Rattle.std.proofs.Common.{◌≡◌, ℕ, Bool, true, false, cond, List, [], ◌∷◌, ◌++◌, Some, None, refl, sym, ap, ◌∙◌, true≢false, is_some, unwrap_or, append_assoc}
+use Rattle.std.proofs.Common.{◌≡◌, ℕ, ◌+◌, ◌<◌, Bool, true, false, cond, List, [], ◌∷◌, ◌++◌, map, take, length, get_or, Some, None, refl, sym, ap, ◌∙◌, true≢false, is_some, unwrap_or, append_assoc}
 use Rattle.std.specs.Prelude.{bytes_eq, fold}
 use Rattle.std.specs.Map.{lookup, set_value}
+use Rattle.std.proofs.lemmas.List.{take_more, map-append}
 use Rattle.indexmap.specs.IndexMap.{insert_entry}
 use Rattle.js_base.specs.declared.span.Span.{Span}
 use Rattle.js_grammar.specs.ModuleRecords.{NameSpan, RequestedModule, Request, with_request, with_binding, replaced_by, replaced}
@@ -55,3 +56,9 @@ replaced_more es [] b = append-nil (replaced_by es b)
 replaced_more es (c ∷ bs) b =
     ap (λ v. replaced_by es c ++ v) (replaced_more (with_binding es c) bs b)
     ∙ sym (append_assoc (replaced_by es c) (replaced (with_binding es c) bs) (replaced_by (fold with_binding (with_binding es c) bs) b))
+
+-- what members give, each one thing, and one member more
+pub mapped_more : {X A : Type 0} (f : X → A) (xs : List X) (i : ℕ) (x : X) (old new : List A) → i < length xs → x ≡ get_or xs i x → old ≡ map f (take i xs) → new ≡ old ++ f x ∷ [] → new ≡ map f (take (i + 1) xs)
+mapped_more f xs i x old new w at h n =
+    let more : take (i + 1) xs ≡ take i xs ++ x ∷ [] = take_more xs i x w ∙ ap (λ v. take i xs ++ v ∷ []) (sym at) in
+    n ∙ ap (λ v. v ++ f x ∷ []) h ∙ sym (map-append f (take i xs) (x ∷ [])) ∙ ap (map f) (sym more)
