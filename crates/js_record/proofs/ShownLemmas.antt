@@ -1,9 +1,9 @@
 -- Lists of numbers and the slots that they stand for.
-use Rattle.std.proofs.Common.{◌≡◌, ℕ, ◌+◌, ◌<◌, List, [], ◌∷◌, ◌++◌, Option, Some, take, length, get_or, sym, ap, ◌∙◌, subst, true≢false, is_some}
+use Rattle.std.proofs.Common.{◌≡◌, ℕ, ◌+◌, ◌<◌, ◌≤◌, List, [], ◌∷◌, ◌++◌, Option, Some, take, length, get_or, sym, ap, ◌∙◌, subst, true≢false, is_some}
 use Rattle.std.specs.Prelude.{All}
 use Rattle.std.specs.List.{flat_map}
 use Rattle.std.proofs.lemmas.Grind.{flat_map-append}
-use Rattle.std.proofs.lemmas.List.{take_more, append-nil}
+use Rattle.std.proofs.lemmas.List.{take_more, take_all, append-nil}
 use Rattle.std.proofs.lemmas.List.Elements.{All-from_recursion, recursion_from_All}
 use Rattle.js_tree.specs.declared.id.NodeId.{NodeId}
 use Rattle.js_record.specs.Shown.{first_of, rest_of}
@@ -31,3 +31,7 @@ module _ {E : Type 0} (f : Option NodeId → List E) (ids : List (Option NodeId)
   -- a slot that shows nothing
   pub none_shown : (new : List E) → [] ≡ f slot → new ≡ old → new ≡ flat_map f (take (i + 1) ids)
   none_shown new e n = next_shown new (n ∙ sym (append-nil old) ∙ ap (λ v. old ++ v) e)
+
+-- what all slots show
+pub all_shown : {E : Type 0} (f : Option NodeId → List E) (ids : List (Option NodeId)) (i : ℕ) (new : List E) → length ids ≤ i → new ≡ flat_map f (take i ids) → new ≡ flat_map f ids
+all_shown f ids i new w h = h ∙ ap (flat_map f) (take_all i ids w)

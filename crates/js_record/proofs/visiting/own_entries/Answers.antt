@@ -1,7 +1,7 @@
 use Rattle.std.proofs.Common.{◌++◌, ◌∷◌, [], None, Some, refl, ap, subst, ◌∙◌}
 use Rattle.js_grammar.specs.Modules.{own_entry}
 use Rattle.js_record.specs.Shown.{IsDeep, first_shown, second_shown, own_shown}
-use Rattle.js_record.proofs.ShownLemmas.{next_shown, none_shown}
+use Rattle.js_record.proofs.ShownLemmas.{next_shown, none_shown, all_shown}
 use Rattle.js_record.proofs.visiting.own_entries.Goals as goal
 use Rattle.js_record.proofs.visiting.own_entries.Goals.{in-Some+in_ok-name+in_ok-own+in_ok-push, in_default}
 
@@ -30,3 +30,6 @@ loop-slot-preserved c =
           ∙ (λ j. own_entry c.args.statement (w.span.ensures j) ((w.in_ok-name.ensures ∙ ap (second_shown ns text) w.children-slots.ensures) j) ((w.in_ok-own.ensures ∙ ap (first_shown ns text) w.children-slots.ensures) j)))))
       | in_default w ↦ rw w.entries-is (none_shown f c.args.slots.now c.loop-slot.slot-index None None c.loop-slot-test.true w.in_default.is old c.loop-slot.invariant _ refl refl)
     ]
+
+pub returns : goal.returns
+returns c = all_shown (own_shown c.args.tree.now c.args.source.now c.args.statement) c.args.slots.now c.loop-slot.slot-index c.loop-slot.entries.items c.loop-slot-test.false c.loop-slot.invariant
