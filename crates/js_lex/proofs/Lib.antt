@@ -31,6 +31,7 @@ pub mod Decodings
 pub mod KindsOfLexemes
 pub mod PunctuatorLexemes
 pub mod PunctuatorScans
+pub mod PunctuatorTexts
 pub mod Punctuators
 pub mod FlagsSeen
 pub mod FlagFaults

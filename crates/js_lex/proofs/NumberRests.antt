@@ -1,6 +1,7 @@
 -- Readings of what is left of a number, from those of what is left behind a front of it.
-use Rattle.std.proofs.Common.{◌≡◌, ℕ, ◌+◌, ◌==◌, Bool, true, false, List, [], ◌∷◌, ◌++◌, refl, sym, ap, subst, ◌∙◌, not, ◌&&◌, ◌||◌, append_assoc, arith, Option, Some, None}
-use Rattle.std.specs.Prelude.{is_some, IsCharBoundary, Result, Ok, Err, MatchResult}
+use Rattle.std.proofs.Common.{◌≡◌, ◌<◌, ℕ, ◌+◌, ◌==◌, Bool, true, false, List, [], ◌∷◌, ◌++◌, refl, sym, ap, subst, ◌∙◌, not, ◌&&◌, ◌||◌, append_assoc, arith, Option, Some, None}
+use Rattle.std.specs.Prelude.{is_some, IsCharBoundary, Result, Ok, Err, MatchResult, IfErr}
+use Rattle.std.proofs.lemmas.Str.{len_utf8_bounds}
 use Rattle.std.specs.List.{list_all}
 use Rattle.std.proofs.lemmas.Bool.{eqb-true}
 use Rattle.js_base.specs.declared.kind.Kind.{Kind}
@@ -178,6 +179,28 @@ broken_digits {radix = radix} r {text = text} {n = n} d k =
           (fronts_go_on (digits (in_radix radix) r false) d.word (behind text n.end) d.on)
           (record { unstopped = λ w more e s m t. (let a : false ≡ true = s in cc); boundary = d.stands.boundary; ordered = omega arith });
     }
+
+either-begins : (p q : ℕ → Bool) (cs : List ℕ) → begins (λ c. p c || q c) cs ≡ false → begins p cs ≡ false
+either-begins p q [] h = refl
+either-begins p q (c ∷ cs) h = neither-left (p c) (q c) h
+
+-- where a decimal digit stands, digits go on behind the place
+pub digits_pass : {text : List ℕ} {i : ℕ} {n : Digits} → AreDigits 10 text i n → begins is_decimal (behind text i) ≡ true → i < n.end
+digits_pass {text = text} {i = i} {n = n} d h = go d.word d.stands
+  where
+    go : (w : List ℕ) → Word text i n.end w → i < n.end
+    go [] s = absurd (
+        let a : begins is_decimal (behind text n.end) ≡ true = subst (λ (cs : List ℕ). begins is_decimal cs ≡ true) s.splits h in
+        let b : begins is_decimal (behind text n.end) ≡ false = either-begins is_decimal (λ c. n.complete && (c == 95)) (behind text n.end) d.end in
+        cc)
+    go (c ∷ w) s = let e = s.end in let l = (len_utf8_bounds c).0 in omega arith
+
+pub err_behind : {r : Rest} {before : Bool} {text : List ℕ} {i j : ℕ} {result : Result Number ℕ} → i < j → Reads r before text j result → IfErr result (λ place. i < place)
+err_behind {r = r} {before = before} {text = text} {i = i} {j = j} {result = result} l x = go result x.is
+  where
+    go : (o : Result Number ℕ) → MatchResult o (λ n. IsRest r before text j n) (λ place. IsBroken r text j place) → IfErr o (λ place. i < place)
+    go (Ok n) m = tt
+    go (Err place) m = let o = m.ordered in omega arith
 
 pub or-left : (a b : Bool) → a ≡ true → a ≡ (a || b)
 or-left true b h = refl

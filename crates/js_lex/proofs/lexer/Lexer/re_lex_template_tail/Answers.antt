@@ -1,9 +1,10 @@
-use Rattle.std.proofs.Common.{subst, ap}
-use Rattle.std.specs.Prelude.{IsUtf8}
+use Rattle.std.proofs.Common.{subst, ap, ◌≤◌}
+use Rattle.std.specs.Prelude.{IsUtf8, length}
+use Rattle.js_base.specs.declared.TheConstants.{MAX_LEN}
 use Rattle.js_grammar.specs.Lexemes.{template_tail}
 use Rattle.js_lex.specs.States.{State}
 use Rattle.js_lex.specs.Settling.{ScanEnds}
-use Rattle.js_lex.proofs.Again.{ok_again, ends_again, brace_for, scans_for}
+use Rattle.js_lex.proofs.Again.{ok_again, ends_again, fits_again, brace_for, starts_for, scans_for}
 use Rattle.js_lex.proofs.lexer.Lexer.re_lex_template_tail.Goals as goal
 
 pub template_tail_at-scan-requires-clause-opening : goal.template_tail_at-scan-requires-clause-opening
@@ -16,3 +17,14 @@ pub returns-clause-ok : goal.returns-clause-ok
 returns-clause-ok g c =
     let e = ap (λ (s : State). s.text) c.self.view_is in
     ok_again template_tail c.args.self.now c.settle_again.new.self c.args.token c.template_tail_at-scan.result c.settle_again.result (subst IsUtf8 e c.self.invariant.utf8) c.requires.given.lies.starts_whole (scans_for template_tail c.args.self.now c.args.token c.self.inside.source_text.now c.start.result c.template_tail_at-scan.result e c.start.ensures c.template_tail_at-scan.ensures) c.settle_again.ensures.same c.settle_again.ensures.ok
+
+pub settle_again-requires-clause-fits : goal.settle_again-requires-clause-fits
+settle_again-requires-clause-fits g c =
+    let e = ap (λ (s : State). s.text) c.self.view_is in
+    fits_again template_tail c.args.self.now.text c.args.token.span.start MAX_LEN c.template_tail_at-scan.result (subst (λ v. length v ≤ MAX_LEN) e c.self.invariant.short) (scans_for template_tail c.args.self.now c.args.token c.self.inside.source_text.now c.start.result c.template_tail_at-scan.result e c.start.ensures c.template_tail_at-scan.ensures)
+
+pub settle_again-requires-clause-starts : goal.settle_again-requires-clause-starts
+settle_again-requires-clause-starts g c = c.requires.given.lies.starts_whole
+
+pub template_tail_at-scan-requires-clause-boundary : goal.template_tail_at-scan-requires-clause-boundary
+template_tail_at-scan-requires-clause-boundary g c = starts_for c.args.self.now c.args.token c.self.inside.source_text.now c.start.result (ap (λ (s : State). s.text) c.self.view_is) c.start.ensures c.requires.given
