@@ -15,9 +15,9 @@ returns c =
     let out = c.args.out.now.items in
     on_ok c.write_text-2.result
     (λ e. behind out _ c.write_labelled.new.out.items _ c.write_text-2.new.out.items c.in_ok-write_labelled.ensures
-            (behind c.write_labelled.new.out.items _ c.write_labelled-2.new.out.items _ c.write_text-2.new.out.items c.in_ok-write_labelled-2.ensures
-            (behind c.write_labelled-2.new.out.items _ c.write_text.new.out.items _ c.write_text-2.new.out.items c.in_ok-write_text.ensures
-            (behind c.write_text.new.out.items _ c.write_import_name.new.out.items _ c.write_text-2.new.out.items c.in_ok-write_import_name.ensures
-            (behind c.write_import_name.new.out.items _ c.write_labelled-3.new.out.items _ c.write_text-2.new.out.items c.in_ok-write_labelled-3.ensures e))))
+    (behind c.write_labelled.new.out.items _ c.write_labelled-2.new.out.items _ c.write_text-2.new.out.items c.in_ok-write_labelled-2.ensures
+    (behind c.write_labelled-2.new.out.items _ c.write_text.new.out.items _ c.write_text-2.new.out.items c.in_ok-write_text.ensures
+    (behind c.write_text.new.out.items _ c.write_import_name.new.out.items _ c.write_text-2.new.out.items c.in_ok-write_import_name.ensures
+    (behind c.write_import_name.new.out.items _ c.write_labelled-3.new.out.items _ c.write_text-2.new.out.items c.in_ok-write_labelled-3.ensures e))))
     ∙ ap (λ v. out ++ import_line v) (ap seen c.entry-inside.view_is ∙ c.entry.view_is))
     c.write_text-2.ensures

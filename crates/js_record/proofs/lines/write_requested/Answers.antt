@@ -11,9 +11,9 @@ returns c =
     let out = c.args.out.now.items in
     let end = c.write_text-5.new.out.items in
     let word : c.if-requested.write_text.now ≡ cond c.requested.inside.is_import (codes "import") (codes "export") = elim c.if-requested.branch [
-          | then-requested w ↦ ap (λ (v : Bor (List ℕ)). v.now) w.write_text-is ∙ ap (λ b. cond b (codes "import") (codes "export")) (sym w.if-requested.true)
-          | else-requested w ↦ ap (λ (v : Bor (List ℕ)). v.now) w.write_text-is ∙ ap (λ b. cond b (codes "import") (codes "export")) (sym w.if-requested.false)
-        ] in
+      | then-requested w ↦ ap (λ (v : Bor (List ℕ)). v.now) w.write_text-is ∙ ap (λ b. cond b (codes "import") (codes "export")) (sym w.if-requested.true)
+      | else-requested w ↦ ap (λ (v : Bor (List ℕ)). v.now) w.write_text-is ∙ ap (λ b. cond b (codes "import") (codes "export")) (sym w.if-requested.false)
+    ] in
     on_ok c.write_text-5.result
     (λ e. behind out _ c.write_text.new.out.items _ end c.in_ok-write_text.ensures
     (behind c.write_text.new.out.items _ c.write_span.new.out.items _ end c.in_ok-write_span.ensures

@@ -29,7 +29,7 @@ returns c =
     let k = (node_at c.args.tree.now c.args.id).kind in
     let same = sym c.kind-kind.ensures in
     let none : name_by (kind_of k) text l ≡ None = elim c.if-is_string.branch [
-          | then-is_string+in_ok-text+in_default w ↦ string_name text l k (ap is_string same ∙ sym w.if-is_string.ensures) ∙ sym w.in_ok-text.ensures ∙ w.in_default.is
-          | else-is_string w ↦ no_word text l k (ap is_word same ∙ sym c.if-is_word.ensures) (ap is_string same ∙ sym w.if-is_string.ensures)
-        ] in
+      | then-is_string+in_ok-text+in_default w ↦ string_name text l k (ap is_string same ∙ sym w.if-is_string.ensures) ∙ sym w.in_ok-text.ensures ∙ w.in_default.is
+      | else-is_string w ↦ no_word text l k (ap is_word same ∙ sym c.if-is_word.ensures) (ap is_string same ∙ sym w.if-is_string.ensures)
+    ] in
     if_ok c.from_str.result (λ x e. e ∙ ap (λ o. unwrap_or o []) (sym none)) c.from_str.ensures

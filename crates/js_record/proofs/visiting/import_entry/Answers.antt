@@ -26,10 +26,10 @@ returns c =
     let m = c.match-kind.import_name in
     let first : c.in_ok-first.first ≡ a = c.in_ok-first.ensures ∙ ap (first_shown ns text) c.children-slots.ensures in
     let names : (import_name_of m.0, m.1) ≡ import_names (kind_of k) l a b = elim c.match-kind.branch [
-          | in-ImportDefaultSpecifier w ↦ ap (λ v. (import_name_of v.0, v.1)) w.import_name-is ∙ (λ j. (imported_default (w.span.ensures j), first j)) ∙ sym (default_import l a b k (sym w.in-ImportDefaultSpecifier.ensures))
-          | in-ImportNamespaceSpecifier w ↦ ap (λ v. (import_name_of v.0, v.1)) w.import_name-is ∙ (λ j. (namespace_object, first j)) ∙ sym (namespace_import l a b k (sym w.in-ImportNamespaceSpecifier.ensures))
-          | in_default+in_ok-local-in_default w ↦
-              let local : w.in_ok-local-in_default.local ≡ b = w.in_ok-local-in_default.ensures ∙ ap (second_shown ns text) c.children-slots.ensures in
-              ap (λ v. (import_name_of v.0, v.1)) w.import_name-is ∙ (λ j. (imported (first j), local j)) ∙ sym (name_import l a b k (λ e. w.in_default.not-ImportDefaultSpecifier (c.kind.ensures ∙ e)) (λ e. w.in_default.not-ImportNamespaceSpecifier (c.kind.ensures ∙ e)))
-        ] in
+      | in-ImportDefaultSpecifier w ↦ ap (λ v. (import_name_of v.0, v.1)) w.import_name-is ∙ (λ j. (imported_default (w.span.ensures j), first j)) ∙ sym (default_import l a b k (sym w.in-ImportDefaultSpecifier.ensures))
+      | in-ImportNamespaceSpecifier w ↦ ap (λ v. (import_name_of v.0, v.1)) w.import_name-is ∙ (λ j. (namespace_object, first j)) ∙ sym (namespace_import l a b k (sym w.in-ImportNamespaceSpecifier.ensures))
+      | in_default+in_ok-local-in_default w ↦
+          let local : w.in_ok-local-in_default.local ≡ b = w.in_ok-local-in_default.ensures ∙ ap (second_shown ns text) c.children-slots.ensures in
+          ap (λ v. (import_name_of v.0, v.1)) w.import_name-is ∙ (λ j. (imported (first j), local j)) ∙ sym (name_import l a b k (λ e. w.in_default.not-ImportDefaultSpecifier (c.kind.ensures ∙ e)) (λ e. w.in_default.not-ImportNamespaceSpecifier (c.kind.ensures ∙ e)))
+    ] in
     λ j. record { statement_span = c.args.statement; module_request = c.in_ok-module_request.ensures j; import_name = (names j).0; local_name = (names j).1 }
