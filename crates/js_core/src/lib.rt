@@ -1,6 +1,7 @@
 //! The parse functions: one for each production, which call each other.
 #![tactic(auto)]
 
+mod by;
 mod parse;
 
 pub use parse::{

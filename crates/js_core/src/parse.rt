@@ -5,30 +5,34 @@ ghost use Rattle.js_base.specs.Contexts.{has_flag, in_flag};
 ghost use Rattle.js_base.specs.Places.{is_single};
 ghost use Rattle.js_core.specs.Calls.{above};
 ghost use Rattle.js_grammar.specs.Productions.{at, Assignment, Binding, Body, Exponent, Expression, LeftHandSide, Params};
-ghost use Rattle.js_expressions.specs.Lists.{TriesArrow};
-ghost use Rattle.js_operands.specs.PropertyNames.{NamesProperty};
+ghost use Rattle.js_expression_laws.specs.Lists.{TriesArrow};
+ghost use Rattle.js_operand_laws.specs.PropertyNames.{NamesProperty};
 ghost use Rattle.js_parsing.specs.Answers.{Answers};
 ghost use Rattle.js_parsing.specs.Methods.{ReadsWhole, parameters_of};
 ghost use Rattle.js_parsing.specs.Nesting.{CanNest, Reading, Ready, room};
 ghost use Rattle.js_parsing.specs.Statements.{TakesStatement, placed};
-ghost use Rattle.js_statements.specs.StatementLists.{AllRefused, AllTaken};
-ghost use Rattle.js_statements.specs.declared.statement_list.StatementList.TheVariants.{Text};
+ghost use Rattle.js_statement_laws.specs.StatementLists.{AllRefused, AllTaken};
+ghost use Rattle.js_statement_laws.specs.declared.forms.StatementList.TheVariants.{Text};
 ghost use Rattle.js_parsing.specs.States.{Standing};
 
+use crate::by::By;
+use js_arrows::arrow;
 use js_base::{Kind, Precedence, StatementContext};
 use js_cursor::{ParserImpl, Stop};
-use js_expressions::arrow;
 use js_expressions::assignment::parse_assignment_expression;
 use js_expressions::operators::{self, parse_exponentiation_expression, parse_operators};
 use js_expressions::sequence::parse_sequence_expression;
 use js_expressions::unary::parse_unary_expression_or_higher;
 use js_lex::{ParserConfig, RuntimeParserConfig};
-use js_operands::property_name::PropertyName;
-use js_operands::{left_hand_side, property_name};
-use js_parsing::nested::{By, Goal, MethodForm, Nested};
+use js_literals::property_name;
+use js_operand_laws::forms::PropertyName;
+use js_operands::left_hand_side;
+use js_parsing::nested::{Goal, MethodForm, Nested};
 use js_patterns::method_parameters::parse_method_parameters;
 use js_patterns::{binding, parameters};
-use js_statements::statement_list::{StatementList, parse_directives_and_statements};
+use js_statement_laws::forms::StatementList;
+use js_statement_laws::sequences::Sequences;
+use js_statements::statement_list::parse_directives_and_statements;
 use js_statements::{block, statement};
 use js_tree::NodeId;
 
@@ -36,7 +40,7 @@ use js_tree::NodeId;
 pub type Parser<'a> = ParserImpl<'a, RuntimeParserConfig>;
 
 /// Reads what is asked for, where productions nest by `nested`.
-pub fn parse_goal<C: ParserConfig, N: Nested<C>>(
+pub fn parse_goal<C: ParserConfig, N: Sequences<C>>(
     p: &mut ParserImpl<'_, C>,
     nested: &N,
     goal: Goal,
@@ -74,7 +78,7 @@ fn parse_exponentiation<C: ParserConfig, N: Nested<C>>(
 
 /// A FunctionBody in its braces (ECMA-262, section 15.2), in a frame of its own too.
 #[inline(never)]
-fn parse_body<C: ParserConfig, N: Nested<C>>(
+fn parse_body<C: ParserConfig, N: Sequences<C>>(
     p: &mut ParserImpl<'_, C>,
     nested: &N,
 ) -> Result<NodeId, Stop>

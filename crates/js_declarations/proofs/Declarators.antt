@@ -44,7 +44,7 @@ use Rattle.js_parsing.specs.States.{At, Same, NodesLie}
 use Rattle.js_parsing.specs.Statements.{link_kinds, no_link}
 use Rattle.js_parsing.specs.Told.{unrelated_at}
 use Rattle.js_declarations.specs.Declarations.{One, NoOne, Declarator, EndsDeclarator, ChecksInitialiser, behind_row, ends_row, stops_row, missing}
-use Rattle.js_patterns.proofs.Bindings.{no_binding, no_pattern_name}
+use Rattle.js_pattern_laws.proofs.Bindings.{no_binding, no_pattern_name}
 use Rattle.js_parsing.proofs.NamedFirsts.{fails_unnamed}
 use Rattle.js_parsing.proofs.NameKinds.{listed_here, name_at, no_listed_name}
 use Rattle.js_parsing.proofs.Giving.{kept_one}

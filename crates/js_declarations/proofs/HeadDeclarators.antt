@@ -40,7 +40,7 @@ use Rattle.js_declarations.specs.declared.head.HeadForm.{HeadForm}
 use Rattle.js_declarations.specs.declared.head.HeadForm.TheVariants as form
 use Rattle.js_declarations.proofs.DeclaratorLists.{Underway, underway_end, underway_init, underway_step}
 use Rattle.js_declarations.proofs.Declarators.{BindingRead, as_binding, eq_plain, bound, declared_bare, declared_with, initialiser_none, name_alone, no_eq_here, unbound}
-use Rattle.js_patterns.proofs.Bindings.{no_binding, no_pattern_name}
+use Rattle.js_pattern_laws.proofs.Bindings.{no_binding, no_pattern_name}
 use Rattle.js_parsing.proofs.Here.{unsettled}
 use Rattle.js_parsing.proofs.NameKinds.{listed_here, listed_name, name_at, no_listed_name}
 use Rattle.js_parsing.proofs.NamedFirsts.{fails_unnamed}

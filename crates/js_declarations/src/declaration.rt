@@ -7,6 +7,7 @@ ghost use Rattle.js_parsing.specs.Nesting.{CanNest, room};
 ghost use Rattle.js_parsing.specs.States.{Standing};
 ghost use Rattle.js_declarations.specs.Declarations.{ChecksInitialiser, DeclaratorsRead, EndsDeclarator, NoDeclarators, ReadsDeclarator, ReadsOneDeclarator, is_constant, missing, no_initialiser};
 
+use js_patterns::binding::parse_binding_pattern;
 use js_base::{DiagnosticKind, Kind, NoMemory, Span};
 use js_cursor::{ParserImpl, Stop};
 use js_lex::ParserConfig;
@@ -14,7 +15,6 @@ use js_parsing::diagnostics::diagnostic_at;
 use js_parsing::lexemes::{advance, name_stands};
 use js_parsing::nested::Nested;
 use js_parsing::nodes::{make_two, make_with_optional};
-use js_patterns::binding::parse_binding_pattern;
 use js_tree::{DeclarationKind, NodeId, NodeKind, Op};
 
 /// The declarators behind the word of a declaration, with commas between them (ECMA-262, sections 14.3.1 and 14.3.2).

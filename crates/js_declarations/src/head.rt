@@ -6,6 +6,7 @@ ghost use Rattle.js_parsing.specs.States.{Standing};
 ghost use Rattle.js_declarations.specs.Declarations.{is_constant};
 ghost use Rattle.js_declarations.specs.HeadDeclarators.{DeclaratorsBehind, InitialisedAs, NoneBehind, ReadsHeadDeclarator, ThroughHere};
 
+use js_patterns::binding::parse_binding_pattern;
 use crate::declaration::{make_bare_declarator, parse_declarators};
 use js_base::Kind;
 use js_cursor::{ParserImpl, Stop};
@@ -13,7 +14,6 @@ use js_lex::ParserConfig;
 use js_parsing::lexemes::{advance, name_stands, stands};
 use js_parsing::nested::Nested;
 use js_parsing::nodes::{make_two, make_with_optional};
-use js_patterns::binding::parse_binding_pattern;
 use js_tree::{DeclarationKind, NodeId, NodeKind, Op};
 
 /// What the first declarator in the head of a `for` is made of.

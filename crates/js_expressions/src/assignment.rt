@@ -8,22 +8,23 @@ ghost use Rattle.js_grammar.specs.Marks.{Mark};
 ghost use Rattle.js_cursor.specs.Places.{goal};
 ghost use Rattle.js_grammar.specs.Productions.{at, Assignment};
 ghost use Rattle.js_parsing.specs.Answers.{Answers};
-ghost use Rattle.js_expressions.specs.Arrows.{IsRefusedHead};
-ghost use Rattle.js_expressions.specs.HeadOperands.{IsNoTarget, StaysOperand, TellsOperand};
+ghost use Rattle.js_expression_laws.specs.Arrows.{IsRefusedHead};
+ghost use Rattle.js_expression_laws.specs.HeadOperands.{IsNoTarget, StaysOperand, TellsOperand};
 ghost use Rattle.js_parsing.specs.Nesting.{CanNest, room};
 ghost use Rattle.js_targets.specs.Taken.{LiteralRead, not_simple_at};
-ghost use Rattle.js_expressions.specs.Rests.{AssignsLiteral, Asked, OnlyOperandHere, ReadsConditional};
+ghost use Rattle.js_expression_laws.specs.Rests.{AssignsLiteral, Asked, OnlyOperandHere, ReadsConditional};
 ghost use Rattle.js_parsing.specs.Moves.{Passes};
 ghost use Rattle.js_parsing.specs.States.{Standing};
 
-use crate::arrow::{ArrowHead, parse_arrow_function_expression, parse_arrow_head};
 use crate::closed_operand::parse_closed_operand;
 use crate::operators::parse_binary_expression_or_higher;
 use crate::yield_expression::{begins_yield, parse_yield_expression};
+use js_arrows::arrow::{parse_arrow_function_expression, parse_arrow_head};
 use js_base::{
     AssignmentOperator, Diagnostic, DiagnosticKind, Kind, Span, map_assignment_operator,
 };
 use js_cursor::{ParserImpl, Stop};
+use js_expression_laws::forms::ArrowHead;
 use js_lex::ParserConfig;
 use js_parsing::context::assignment_with_in;
 use js_parsing::diagnostics::kept_so_far;

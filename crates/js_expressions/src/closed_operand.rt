@@ -3,20 +3,20 @@
 ghost use Rattle.std.specs.Prelude.{◌≡◌, MatchResult};
 ghost use Rattle.js_base.specs.Characters.{one_of};
 ghost use Rattle.js_cursor.specs.Moves.{OnlyMemory};
-ghost use Rattle.js_expressions.specs.ClosedOperands.{TakesClosed, TakesLexeme, ClosesAt, closing_bytes};
+ghost use Rattle.js_expression_laws.specs.ClosedOperands.{TakesClosed, TakesLexeme, ClosesAt, closing_bytes};
 ghost use Rattle.js_parsing.specs.States.{Standing};
 
 use js_base::Kind;
 use js_cursor::{ParserImpl, Stop};
 use js_lex::ParserConfig;
-use js_operands::primary::{parse_leaf, parse_name, parse_string};
+use js_literals::leaf::{parse_leaf, parse_name, parse_string};
 use js_tree::{NodeId, NodeKind, NumberBase, Op};
 
 /// A name, a string or a decimal number with `,`, `;`, `)` or `]` directly behind it, which then is all of an
 /// AssignmentExpression: no production goes on with these signs, and each of them is a lexeme by itself (section 12.8). None
 /// where no such operand stands here, and nothing is read then.
 #[inline(always)]
-pub(crate) fn parse_closed_operand<C: ParserConfig>(
+pub fn parse_closed_operand<C: ParserConfig>(
     p: &mut ParserImpl<'_, C>,
 ) -> Result<Option<NodeId>, Stop>
     requires { Standing p.old }

@@ -3,7 +3,7 @@
 ghost use Rattle.std.specs.Prelude.{◌≡◌, ◌≤◌, ◌∷◌, [], Some};
 ghost use Rattle.js_base.specs.declared.kind.Kind.TheVariants.{Comma};
 ghost use Rattle.js_grammar.specs.Productions.{at, Expression};
-ghost use Rattle.js_expressions.specs.HeadOperands.{TellsOperand};
+ghost use Rattle.js_expression_laws.specs.HeadOperands.{TellsOperand};
 ghost use Rattle.js_parsing.specs.Answers.{Answers};
 ghost use Rattle.js_parsing.specs.Nesting.{CanNest, room};
 ghost use Rattle.js_parsing.specs.States.{Standing};

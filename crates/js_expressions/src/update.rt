@@ -8,7 +8,7 @@ ghost use Rattle.js_tree.specs.declared.op.Op.TheVariants as op;
 ghost use Rattle.js_parsing.specs.Answers.{Answers};
 ghost use Rattle.js_parsing.specs.Moves.{MadeHere, plain_label};
 ghost use Rattle.js_parsing.specs.Nesting.{CanNest, room};
-ghost use Rattle.js_expressions.specs.Rests.{update_kinds};
+ghost use Rattle.js_expression_laws.specs.Rests.{update_kinds};
 ghost use Rattle.js_parsing.specs.States.{Standing};
 
 use js_base::{NoMemory, Span, UpdateOperator, map_update_operator};

@@ -5,8 +5,8 @@ ghost use Rattle.js_base.specs.declared.kind.Kind.TheVariants.{Star};
 ghost use Rattle.js_grammar.specs.Productions.{at, delegate_flag, Assignment};
 ghost use Rattle.js_tree.specs.declared.kind.NodeKind.TheVariants as node;
 ghost use Rattle.js_tree.specs.declared.op.Op.TheVariants as op;
-ghost use Rattle.js_expressions.specs.HeadOperands.{IsNoTarget};
-ghost use Rattle.js_expressions.specs.Yields.{BeginsYield, ReadsYield, other_arguments, yields_argument};
+ghost use Rattle.js_expression_laws.specs.HeadOperands.{IsNoTarget};
+ghost use Rattle.js_expression_laws.specs.Yields.{BeginsYield, ReadsYield, other_arguments, yields_argument};
 ghost use Rattle.js_base.specs.Kinds.{one_of_kinds};
 ghost use Rattle.js_parsing.specs.Answers.{Answers};
 ghost use Rattle.js_parsing.specs.Moves.{MadeHere, plain_label};
@@ -23,7 +23,7 @@ use js_tree::{NodeFlags, NodeId, NodeKind, Op};
 
 /// Whether a YieldExpression begins here: `yield` is no name where the parameter Yield is on.
 #[inline(always)]
-pub(crate) fn begins_yield<C: ParserConfig>(p: &ParserImpl<'_, C>) -> bool
+pub fn begins_yield<C: ParserConfig>(p: &ParserImpl<'_, C>) -> bool
     ensures { IsTrue result ↔ BeginsYield p.now }
 {
     p.at(Kind::Yield) && !p.cur_token().escaped() && p.ctx.has_yield()
@@ -31,7 +31,7 @@ pub(crate) fn begins_yield<C: ParserConfig>(p: &ParserImpl<'_, C>) -> bool
 
 /// A YieldExpression: `yield` alone, or with an AssignmentExpression on its line, before which a `*` may stand.
 #[inline(never)]
-pub(crate) fn parse_yield_expression<C: ParserConfig, N: Nested<C>>(
+pub fn parse_yield_expression<C: ParserConfig, N: Nested<C>>(
     p: &mut ParserImpl<'_, C>,
     nested: &N,
 ) -> Result<NodeId, Stop>

@@ -9,41 +9,32 @@ ghost use Rattle.js_parsing.specs.Answers.{Answers};
 ghost use Rattle.js_grammar.specs.Marks.{Mark};
 ghost use Rattle.js_cursor.specs.Places.{goal};
 ghost use Rattle.js_parsing.specs.Lexemes.{read_word};
-ghost use Rattle.js_operands.specs.Members.{CallsMember, ChainsCallee, GoesOnMember, Heads, LinkHere, MakesWithArguments, MakesWithIndex, ReadsLink, TellsChain, flagged_label, no_link_behind};
-ghost use Rattle.js_operands.specs.Templates.{GoesOn, ReadsChainLink};
+ghost use Rattle.js_operand_laws.specs.Members.{CallsMember, ChainsCallee, GoesOnMember, Heads, LinkHere, MakesWithArguments, MakesWithIndex, ReadsLink, TellsChain, flagged_label, no_link_behind};
+ghost use Rattle.js_operand_laws.specs.Templates.{GoesOn, ReadsChainLink};
 ghost use Rattle.js_parsing.specs.Stands.{StandsHere};
-ghost use Rattle.js_operands.specs.Members as members;
+ghost use Rattle.js_operand_laws.specs.Members as members;
 ghost use Rattle.js_parsing.specs.Moves.{MadeHere};
 ghost use Rattle.js_parsing.specs.Nesting.{CanNest, room};
 ghost use Rattle.js_parsing.specs.NodeTexts.{is_textual};
 ghost use Rattle.js_parsing.specs.States.{Standing};
-ghost use Rattle.js_operands.specs.declared.left_hand_side.LinkBase.TheVariants as base;
+ghost use Rattle.js_operand_laws.specs.declared.forms.LinkBase.TheVariants as base;
 
-use crate::arguments::parse_call_arguments;
 use crate::new_target::parse_new_target;
-use crate::primary::{parse_name, parse_primary_expression};
+use crate::primary::parse_primary_expression;
 use crate::super_word::{check_new_callee, is_super_alone, parse_super_member};
-use crate::template::{begins_template, parse_chained_template, parse_tagged_template};
 use js_base::{DiagnosticKind, Kind, NoMemory, Span};
 use js_cursor::{ParserImpl, Stop};
 use js_lex::ParserConfig;
+use js_literals::arguments::parse_call_arguments;
+use js_literals::leaf::parse_name;
+use js_literals::template::{begins_template, parse_chained_template, parse_tagged_template};
+use js_operand_laws::forms::LinkBase;
 use js_parsing::context::expression_with_in;
 use js_parsing::diagnostics::diagnostic_at;
 use js_parsing::lexemes::{advance, is_read_word, stands};
 use js_parsing::nested::Nested;
 use js_parsing::nodes::make_one;
 use js_tree::{NodeFlags, NodeId, NodeKind, Op};
-
-/// What links go on with.
-#[derive(Clone, Copy)]
-pub(crate) enum LinkBase {
-    /// A MemberExpression: a name or an expression in brackets.
-    Member,
-    /// A CallExpression: these, or arguments.
-    Call,
-    /// An OptionalChain: these, or `?.`.
-    Chain,
-}
 
 /// A LeftHandSideExpression (ECMA-262, section 13.3).
 pub fn parse_lhs_expression_or_higher<C: ParserConfig, N: Nested<C>>(
@@ -115,7 +106,7 @@ fn refuse_chain<C: ParserConfig>(p: &mut ParserImpl<'_, C>) -> Stop
 }
 
 /// The names, the expressions in brackets and the templates behind a member.
-pub(crate) fn parse_member_expression_rest<C: ParserConfig, N: Nested<C>>(
+pub fn parse_member_expression_rest<C: ParserConfig, N: Nested<C>>(
     p: &mut ParserImpl<'_, C>,
     nested: &N,
     start: u32,
@@ -188,7 +179,7 @@ fn parse_optional_chain<C: ParserConfig, N: Nested<C>>(
 }
 
 /// Whether a link stands here that goes on with such a base.
-pub(crate) fn link_here<C: ParserConfig>(p: &ParserImpl<'_, C>, base: LinkBase) -> bool
+pub fn link_here<C: ParserConfig>(p: &ParserImpl<'_, C>, base: LinkBase) -> bool
     ensures { LinkHere p.now base result }
 {
     if stands(p, Kind::Dot) {
@@ -245,7 +236,7 @@ fn parse_chain_link<C: ParserConfig, N: Nested<C>>(
 
 /// The link without `?.` that stands here, behind what was read.
 #[inline(never)]
-pub(crate) fn parse_link<C: ParserConfig, N: Nested<C>>(
+pub fn parse_link<C: ParserConfig, N: Nested<C>>(
     p: &mut ParserImpl<'_, C>,
     nested: &N,
     start: u32,
@@ -414,17 +405,6 @@ fn takes_spreads(kind: NodeKind) -> bool
         NodeKind::V8IntrinsicExpression => false,
         _ => true,
     }
-}
-
-/// An IdentifierName: a name or a word, with escapes or without (ECMA-262, section 12.7).
-pub fn parse_identifier_name<C: ParserConfig>(p: &mut ParserImpl<'_, C>) -> Result<NodeId, Stop>
-    requires { Standing p.old }
-    ensures { Answers (at IdentifierName) p.old p.new result }
-{
-    if !is_read_word(p.cur_kind()) {
-        return Err(p.set_unexpected());
-    }
-    parse_name(p, NodeKind::IdentifierName)
 }
 
 /// The flags of a link.

@@ -1,14 +1,7 @@
-//! Operands: literals, parentheses, arrays, objects, functions and left-hand sides (ECMA-262, sections 13.2, 13.3, 15.2,
-//! 15.4 and 15.5).
+//! Left-hand sides and what they begin with: members, calls, `new`, `super`, parentheses (ECMA-262, sections 13.2 and 13.3).
 #![tactic(auto)]
 
-pub mod arguments;
-pub mod array;
-pub mod function;
 pub mod left_hand_side;
 pub mod new_target;
-pub mod object;
 pub mod primary;
-pub mod property_name;
 pub mod super_word;
-pub mod template;

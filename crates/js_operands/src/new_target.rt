@@ -5,7 +5,7 @@ ghost use Rattle.js_base.specs.declared.kind.Kind.TheVariants.{Dot, Target};
 ghost use Rattle.js_cursor.specs.Moves.{GivesUp};
 ghost use Rattle.js_cursor.specs.Places.{IsAt, goal};
 ghost use Rattle.js_grammar.specs.Marks.{Mark};
-ghost use Rattle.js_operands.specs.NewTargets.{BehindDot, BehindNew, ChecksTarget, TakesTarget, outside_at};
+ghost use Rattle.js_operand_laws.specs.NewTargets.{BehindDot, BehindNew, ChecksTarget, TakesTarget, outside_at};
 ghost use Rattle.js_parsing.specs.Classes.{EndsParse};
 ghost use Rattle.js_parsing.specs.Stands.{StandsHere};
 ghost use Rattle.js_parsing.specs.States.{Standing};
@@ -21,7 +21,7 @@ use js_tree::{NodeId, NodeKind, Op};
 /// `new.target` from its dot on, behind a `new` that began at a place (ECMA-262, section 13.3.12). Where it may not stand,
 /// that is told, and reading goes on.
 #[inline(never)]
-pub(crate) fn parse_new_target<C: ParserConfig>(
+pub fn parse_new_target<C: ParserConfig>(
     p: &mut ParserImpl<'_, C>,
     start: u32,
 ) -> Result<NodeId, Stop>

@@ -10,25 +10,26 @@ ghost use Rattle.js_parsing.specs.Answers.{Answers};
 ghost use Rattle.js_tree.specs.Labels.{kind_of};
 ghost use Rattle.js_tree.specs.declared.kind.NodeKind.TheVariants as node;
 ghost use Rattle.js_tree.specs.declared.op.Op.TheVariants as op;
-ghost use Rattle.js_operands.specs.Marked.{Marks, MarksNode};
-ghost use Rattle.js_operands.specs.Marked as marked;
+ghost use Rattle.js_operand_laws.specs.Marked.{Marks, MarksNode};
+ghost use Rattle.js_operand_laws.specs.Marked as marked;
 ghost use Rattle.js_parsing.specs.Moves.{IsWholeHere, TakesLeaf};
 ghost use Rattle.js_parsing.specs.Lexemes.{read_word, slashes};
 ghost use Rattle.js_parsing.specs.Nesting.{CanNest, room};
 ghost use Rattle.js_parsing.specs.NodeTexts.{is_name_node, is_textual};
-ghost use Rattle.js_operands.specs.Numbers.{node_of_number, op_of_number};
+ghost use Rattle.js_operand_laws.specs.Numbers.{node_of_number, op_of_number};
 ghost use Rattle.js_parsing.specs.Moves.{Passes};
 ghost use Rattle.js_parsing.specs.Stands.{NameHere};
 ghost use Rattle.js_parsing.specs.States.{Standing};
 
-use crate::array::parse_array_expression;
-use crate::function::{function_stands, parse_function_expression};
-use crate::left_hand_side::{parse_identifier_name, parse_with_arguments};
-use crate::object::parse_object_expression;
-use crate::template::parse_template;
+use crate::left_hand_side::parse_with_arguments;
 use js_base::{Kind, Span};
 use js_cursor::{ParserImpl, Stop};
 use js_lex::ParserConfig;
+use js_literals::array::parse_array_expression;
+use js_literals::function::{function_stands, parse_function_expression};
+use js_literals::leaf::parse_identifier_name;
+use js_literals::object::parse_object_expression;
+use js_literals::template::parse_template;
 use js_parsing::context::expression_with_in;
 use js_parsing::lexemes::{advance, escaped_word_stands, name_stands, stands};
 use js_parsing::nested::Nested;
@@ -97,39 +98,6 @@ fn parse_number<C: ParserConfig>(p: &mut ParserImpl<'_, C>) -> Result<NodeId, St
 {
     let kind = p.cur_kind();
     parse_leaf(p, number_node(kind), number_op(kind))
-}
-
-/// The kind of the node of a number.
-pub(crate) fn number_node(kind: Kind) -> NodeKind
-    ensures node { result ≡ node_of_number kind }
-    ensures plain { is_textual result ≡ false }
-{
-    match kind {
-        Kind::DecimalBigInt | Kind::BinaryBigInt | Kind::OctalBigInt | Kind::HexBigInt => {
-            NodeKind::BigIntLiteral
-        }
-        _ => NodeKind::NumericLiteral,
-    }
-}
-
-/// How a number is written.
-pub(crate) fn number_op(kind: Kind) -> Op
-    ensures { result ≡ op_of_number kind }
-{
-    match kind {
-        Kind::Float => Op::Number(NumberBase::Float),
-        Kind::Binary => Op::Number(NumberBase::Binary),
-        Kind::Octal => Op::Number(NumberBase::Octal),
-        Kind::Hex => Op::Number(NumberBase::Hex),
-        Kind::PositiveExponential | Kind::NegativeExponential => Op::Number(
-            NumberBase::Exponential,
-        ),
-        Kind::DecimalBigInt => Op::Bigint(BigintBase::Decimal),
-        Kind::BinaryBigInt => Op::Bigint(BigintBase::Binary),
-        Kind::OctalBigInt => Op::Bigint(BigintBase::Octal),
-        Kind::HexBigInt => Op::Bigint(BigintBase::Hex),
-        _ => Op::Number(NumberBase::Decimal),
-    }
 }
 
 /// An Expression in parentheses (ECMA-262, section 13.2.9).
@@ -204,18 +172,6 @@ fn parse_literal_regexp<C: ParserConfig>(p: &mut ParserImpl<'_, C>) -> Result<No
     Ok(node)
 }
 
-/// Moves on over the closing parenthesis, whose opening one stood at a span.
-pub fn close_parentheses<C: ParserConfig>(
-    p: &mut ParserImpl<'_, C>,
-    opening: Span,
-) -> Result<(), Stop>
-    requires at { Standing p.old }
-    requires opened { Opened p.old opening }
-    ensures { Passes RParen p.old p.new result }
-{
-    p.expect_closing(Kind::RParen, opening)
-}
-
 /// Whether calls of V8 are read.
 fn allows_v8<C: ParserConfig>(p: &ParserImpl<'_, C>) -> bool
     ensures { result ≡ p.now.options.allow_v8_intrinsics }
@@ -245,50 +201,4 @@ fn parse_v8_intrinsic_expression<C: ParserConfig, N: Nested<C>>(
     }
     let kind = NodeKind::V8IntrinsicExpression;
     parse_with_arguments(p, nested, start, kind, false, name)
-}
-
-/// A node of one lexeme, which is no name and no string.
-pub fn parse_leaf<C: ParserConfig>(
-    p: &mut ParserImpl<'_, C>,
-    kind: NodeKind,
-    op: Op,
-) -> Result<NodeId, Stop>
-    requires at { Standing p.old }
-    requires whole { IsWholeHere p.old }
-    requires kind { is_textual kind ≡ false }
-    ensures { MatchResult result (λ id. TakesLeaf kind op p.old p.new id) OnlyMemory }
-{
-    let span = p.cur_token().span();
-    advance(p)?;
-    let node = make_leaf(p, kind, op, span)?;
-    Ok(node)
-}
-
-/// The node of the name, or the word, that stands here (ECMA-262, section 12.7).
-pub fn parse_name<C: ParserConfig>(
-    p: &mut ParserImpl<'_, C>,
-    kind: NodeKind,
-) -> Result<NodeId, Stop>
-    requires at { Standing p.old }
-    requires whole { IsWholeHere p.old }
-    requires kind { is_name_node kind ≡ true }
-    requires word { read_word p.old.token.kind ≡ true }
-    ensures { MatchResult result (λ id. TakesLeaf kind op.None p.old p.new id) OnlyMemory }
-{
-    let token = p.cur_token();
-    advance(p)?;
-    let node = make_name(p, kind, token)?;
-    Ok(node)
-}
-
-/// The node of the string that stands here (ECMA-262, section 12.9.4).
-pub fn parse_string<C: ParserConfig>(p: &mut ParserImpl<'_, C>) -> Result<NodeId, Stop>
-    requires at { Standing p.old }
-    requires string { p.old.token.kind ≡ Str }
-    ensures { MatchResult result (λ id. TakesLeaf node.StringLiteral op.None p.old p.new id) OnlyMemory }
-{
-    let span = p.cur_token().span();
-    advance(p)?;
-    let node = make_string(p, span)?;
-    Ok(node)
 }

@@ -6,16 +6,17 @@ ghost use Rattle.js_cursor.specs.Places.{IsAt, goal};
 ghost use Rattle.js_grammar.specs.Marks.{Mark};
 ghost use Rattle.js_tree.specs.Labels.{kind_of};
 ghost use Rattle.js_tree.specs.Nodes.{node_at};
-ghost use Rattle.js_operands.specs.Members.{Heads, is_super_word};
-ghost use Rattle.js_operands.specs.Supers.{ChecksCallee, ChecksSuper, GoesOnSuper, TakesSuper, alone_at, callee_from};
+ghost use Rattle.js_operand_laws.specs.Members.{Heads, is_super_word};
+ghost use Rattle.js_operand_laws.specs.Supers.{ChecksCallee, ChecksSuper, GoesOnSuper, TakesSuper, alone_at, callee_from};
 ghost use Rattle.js_parsing.specs.Nesting.{CanNest, room};
 ghost use Rattle.js_parsing.specs.Stands.{StandsHere};
 ghost use Rattle.js_parsing.specs.States.{Standing};
 
-use crate::left_hand_side::{LinkBase, link_here, parse_link, parse_member_expression_rest};
+use crate::left_hand_side::{link_here, parse_link, parse_member_expression_rest};
 use js_base::{DiagnosticKind, Kind, NoMemory, Span};
 use js_cursor::{ParserImpl, Stop};
 use js_lex::ParserConfig;
+use js_operand_laws::forms::LinkBase;
 use js_parsing::diagnostics::diagnostic_at;
 use js_parsing::lexemes::{advance, stands};
 use js_parsing::nested::Nested;
@@ -24,7 +25,7 @@ use js_tree::{NodeId, NodeKind, Op};
 
 /// What begins with `super`: a MemberExpression, or this word alone before arguments.
 #[inline(never)]
-pub(crate) fn parse_super_member<C: ParserConfig, N: Nested<C>>(
+pub fn parse_super_member<C: ParserConfig, N: Nested<C>>(
     p: &mut ParserImpl<'_, C>,
     nested: &N,
 ) -> Result<NodeId, Stop>
@@ -87,11 +88,7 @@ fn parse_super_property<C: ParserConfig, N: Nested<C>>(
 }
 
 /// Whether what was read is the word `super` alone, by whether this word began it.
-pub(crate) fn is_super_alone<C: ParserConfig>(
-    p: &ParserImpl<'_, C>,
-    begins: bool,
-    callee: NodeId,
-) -> bool
+pub fn is_super_alone<C: ParserConfig>(p: &ParserImpl<'_, C>, begins: bool, callee: NodeId) -> bool
     requires { callee.0 < length p.now.nodes }
     ensures { result ≡ (begins && is_super_word (kind_of (node_at p.now.nodes callee).kind)) }
 {
@@ -99,7 +96,7 @@ pub(crate) fn is_super_alone<C: ParserConfig>(
 }
 
 /// Tells of a `super` that `new` stands before, which began at a place, and of its arguments.
-pub(crate) fn check_new_callee<C: ParserConfig>(
+pub fn check_new_callee<C: ParserConfig>(
     p: &mut ParserImpl<'_, C>,
     super_alone: bool,
     start: u32,

@@ -34,15 +34,15 @@ use Rattle.js_parsing.specs.Answers.{Stretch, Verdict, clean, unclean, wider}
 use Rattle.js_parsing.specs.Lexemes.{IsRight, Lex, goal_for, is_read, other_goals, signs}
 use Rattle.js_parsing.specs.NodeTexts.{NodeFits}
 use Rattle.js_parsing.specs.States.{At, IsPlain, whole, sign, nothing as no_lexeme, flags_of, Standing, NodesLie, SpansLie}
-use Rattle.js_statements.specs.StatementLists.{at_end, with_directives, statements, NoList, Taken, AllTaken, AllRefused}
-use Rattle.js_statements.specs.declared.statement_list.StatementList.TheVariants.{Text}
+use Rattle.js_statement_laws.specs.StatementLists.{at_end, with_directives, statements, NoList, Taken, AllTaken, AllRefused}
+use Rattle.js_statement_laws.specs.declared.forms.StatementList.TheVariants.{Text}
 use Rattle.js_parsing.proofs.Beginning.{begins, begins_with_hashbang, behind_first, none_noted}
 use Rattle.js_parsing.proofs.Escapes.{read_plain}
 use Rattle.js_parsing.proofs.Giving.{fails_none}
 use Rattle.js_parsing.proofs.Here.{alike, told, plain_there, kind_here}
 use Rattle.js_parsing.proofs.Paths.{at_kind, read_of}
 use Rattle.js_parsing.proofs.Unbuilt.{nothing_unbuilt}
-use Rattle.js_statements.proofs.StatementLists.{none_left, text_ends}
+use Rattle.js_statement_laws.proofs.StatementLists.{none_left, text_ends}
 use Rattle.js_parsing.proofs.Verdicts.{grown_some}
 use Rattle.js_cursor.specs.Starts.{is_module, is_commonjs}
 use Rattle.js_tree.specs.Nodes.{Node, empty_program}

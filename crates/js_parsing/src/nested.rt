@@ -4,11 +4,11 @@ ghost use Rattle.std.specs.Prelude.{◌≡◌};
 ghost use Rattle.js_grammar.specs.Productions.{at, Assignment, Binding, Body, Exponent, Expression, ListItem, Params, Sub, Unary};
 ghost use Rattle.js_parsing.specs.Answers.{Answers};
 ghost use Rattle.js_parsing.specs.Methods.{ReadsWhole, parameters_of};
-ghost use Rattle.js_parsing.specs.Nesting.{Reads, levels_of};
+ghost use Rattle.js_parsing.specs.Nesting.{levels_of};
 ghost use Rattle.js_parsing.specs.Statements.{TakesStatement};
 
 use js_cursor::{ParserImpl, Stop};
-use js_lex::{ParserConfig, RuntimeParserConfig};
+use js_lex::ParserConfig;
 use js_tree::NodeId;
 
 /// Which parameters a method has (ECMA-262, section 15.4).
@@ -130,74 +130,4 @@ pub trait Nested<C: ParserConfig> {
     fn method_parameters(&self, p: &mut ParserImpl<'_, C>, form: MethodForm) -> Result<NodeId, Stop>
         requires { can self.now p.old (Goal.MethodParameters form) }
         ensures { ReadsWhole (parameters_of form) p.old p.new result };
-}
-
-/// A function that reads whatever is asked for. It is one over the config that is told when the program runs: a bound on
-/// a function over any config can't be stated yet.
-#[derive(Clone, Copy)]
-pub struct By<F>(pub F);
-
-impl<F: Fn(&mut ParserImpl<'_, RuntimeParserConfig>, Goal) -> Result<NodeId, Stop>> Nested<
-    RuntimeParserConfig,
-> for By<F> {
-    ghost can = { λ s p goal. Reads (F.pre s.0) (F.post s.0) p goal };
-
-    #[inline(always)]
-    fn expression(&self, p: &mut ParserImpl<'_, RuntimeParserConfig>) -> Result<NodeId, Stop> {
-        (self.0)(p, Goal::Expression)
-    }
-
-    #[inline(always)]
-    fn assignment(&self, p: &mut ParserImpl<'_, RuntimeParserConfig>) -> Result<NodeId, Stop> {
-        (self.0)(p, Goal::Assignment)
-    }
-
-    #[inline(always)]
-    fn element(&self, p: &mut ParserImpl<'_, RuntimeParserConfig>) -> Result<NodeId, Stop> {
-        (self.0)(p, Goal::Element)
-    }
-
-    #[inline(always)]
-    fn unary(&self, p: &mut ParserImpl<'_, RuntimeParserConfig>) -> Result<NodeId, Stop> {
-        (self.0)(p, Goal::Unary)
-    }
-
-    #[inline(always)]
-    fn exponentiation(&self, p: &mut ParserImpl<'_, RuntimeParserConfig>) -> Result<NodeId, Stop> {
-        (self.0)(p, Goal::Exponentiation)
-    }
-
-    #[inline(always)]
-    fn binding(&self, p: &mut ParserImpl<'_, RuntimeParserConfig>) -> Result<NodeId, Stop> {
-        (self.0)(p, Goal::Binding)
-    }
-
-    #[inline(always)]
-    fn statement(&self, p: &mut ParserImpl<'_, RuntimeParserConfig>) -> Result<NodeId, Stop> {
-        (self.0)(p, Goal::Statement)
-    }
-
-    #[inline(always)]
-    fn list_item(&self, p: &mut ParserImpl<'_, RuntimeParserConfig>) -> Result<NodeId, Stop> {
-        (self.0)(p, Goal::ListItem)
-    }
-
-    #[inline(always)]
-    fn body(&self, p: &mut ParserImpl<'_, RuntimeParserConfig>) -> Result<NodeId, Stop> {
-        (self.0)(p, Goal::Body)
-    }
-
-    #[inline(always)]
-    fn parameters(&self, p: &mut ParserImpl<'_, RuntimeParserConfig>) -> Result<NodeId, Stop> {
-        (self.0)(p, Goal::Params)
-    }
-
-    #[inline(always)]
-    fn method_parameters(
-        &self,
-        p: &mut ParserImpl<'_, RuntimeParserConfig>,
-        form: MethodForm,
-    ) -> Result<NodeId, Stop> {
-        (self.0)(p, Goal::MethodParameters(form))
-    }
 }

@@ -8,7 +8,7 @@ ghost use Rattle.js_grammar.specs.Marks.{Mark};
 ghost use Rattle.js_grammar.specs.Productions.{at, BElement, Binding, BindingRest};
 ghost use Rattle.js_parsing.specs.Classes.{EndsParse};
 ghost use Rattle.js_parsing.specs.Answers.{Answers};
-ghost use Rattle.js_patterns.specs.Bindings.{closers, elements_left, initialiser_kind, EndsRest, FinishesRest, InitialisesRest, RestBegins};
+ghost use Rattle.js_pattern_laws.specs.Bindings.{closers, elements_left, initialiser_kind, EndsRest, FinishesRest, InitialisesRest, RestBegins};
 ghost use Rattle.js_parsing.specs.Told.{unrelated_at};
 ghost use Rattle.js_parsing.specs.Lists.{ListRead, ListStops, ReadsItem, ReadsOneMore};
 ghost use Rattle.js_parsing.specs.Stands.{StandsHere};
@@ -19,22 +19,14 @@ use crate::object_pattern::parse_object_pattern;
 use js_base::{Diagnostic, DiagnosticKind, Kind, Span};
 use js_cursor::{ParserImpl, Stop};
 use js_lex::ParserConfig;
-use js_operands::primary::parse_name;
+use js_literals::leaf::parse_name;
 use js_parsing::context::assignment_with_in;
 use js_parsing::diagnostics::diagnostic_at;
 use js_parsing::lexemes::{advance, name_stands, stands};
 use js_parsing::nested::Nested;
 use js_parsing::nodes::{make_list, make_one, make_two};
+use js_pattern_laws::forms::RestPlace;
 use js_tree::{NodeId, NodeKind, Op};
-
-/// Where a rest stands.
-#[derive(Clone, Copy)]
-pub(crate) enum RestPlace {
-    /// In an array or object pattern.
-    Pattern,
-    /// Among formal parameters.
-    Parameters,
-}
 
 /// What is told of the initialiser of a rest.
 fn rest_initialiser_kind(place: RestPlace) -> DiagnosticKind
@@ -65,7 +57,7 @@ pub fn parse_binding_pattern<C: ParserConfig, N: Nested<C>>(
 }
 
 /// What is bound within a pattern or by a rest: a pattern is read one level deeper.
-pub(crate) fn parse_nested_binding<C: ParserConfig, N: Nested<C>>(
+pub fn parse_nested_binding<C: ParserConfig, N: Nested<C>>(
     p: &mut ParserImpl<'_, C>,
     nested: &N,
 ) -> Result<NodeId, Stop>
@@ -188,7 +180,7 @@ fn parse_element_and_comma<C: ParserConfig, N: Nested<C>>(
 }
 
 /// A BindingElement (ECMA-262, section 14.3.3): what is bound, and an initialiser or none.
-pub(crate) fn parse_binding_element<C: ParserConfig, N: Nested<C>>(
+pub fn parse_binding_element<C: ParserConfig, N: Nested<C>>(
     p: &mut ParserImpl<'_, C>,
     nested: &N,
 ) -> Result<NodeId, Stop>
@@ -230,7 +222,7 @@ fn parse_last_element<C: ParserConfig, N: Nested<C>>(
 }
 
 /// A BindingRestElement (ECMA-262, section 14.3.3).
-pub(crate) fn parse_binding_rest<C: ParserConfig, N: Nested<C>>(
+pub fn parse_binding_rest<C: ParserConfig, N: Nested<C>>(
     p: &mut ParserImpl<'_, C>,
     nested: &N,
     place: RestPlace,
@@ -249,7 +241,7 @@ pub(crate) fn parse_binding_rest<C: ParserConfig, N: Nested<C>>(
 
 /// The node of a rest that began at a place, and what it binds at another. A rest has no initialiser (ECMA-262, sections
 /// 14.3.3 and 15.1): one that stands here is told, and reading goes on.
-pub(crate) fn finish_rest<C: ParserConfig, N: Nested<C>>(
+pub fn finish_rest<C: ParserConfig, N: Nested<C>>(
     p: &mut ParserImpl<'_, C>,
     nested: &N,
     start: u32,
@@ -298,7 +290,7 @@ fn parse_rest_initialiser<C: ParserConfig, N: Nested<C>>(
 
 /// What stands behind a rest: the closing bracket of this kind is due. A comma right before it is told, and reading goes
 /// on; behind another comma the rest isn't the last, which `misplaced` tells.
-pub(crate) fn check_behind_rest<C: ParserConfig>(
+pub fn check_behind_rest<C: ParserConfig>(
     p: &mut ParserImpl<'_, C>,
     close: Kind,
     misplaced: Diagnostic,

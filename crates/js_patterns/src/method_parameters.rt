@@ -7,14 +7,14 @@ ghost use Rattle.js_parsing.specs.Methods.{ReadsWhole, parameters_of};
 ghost use Rattle.js_parsing.specs.Nesting.{CanNest, room};
 ghost use Rattle.js_parsing.specs.States.{Standing};
 ghost use Rattle.js_parsing.specs.declared.nested.MethodForm.TheVariants.{Getter, Setter};
-ghost use Rattle.js_patterns.specs.Accessors.{IsTold, KindBehind, ReadsFurther, TellsParameters};
-ghost use Rattle.js_patterns.specs.Bindings.{RestBegins};
+ghost use Rattle.js_pattern_laws.specs.Accessors.{IsTold, KindBehind, ReadsFurther, TellsParameters};
+ghost use Rattle.js_pattern_laws.specs.Bindings.{RestBegins};
 
 use crate::parameters::{parse_formal_parameter, parse_formal_parameters, parse_parameter_list};
 use js_base::{DiagnosticKind, Kind, Span};
 use js_cursor::{ParserImpl, Stop};
 use js_lex::ParserConfig;
-use js_operands::primary::close_parentheses;
+use js_literals::leaf::close_parentheses;
 use js_parsing::diagnostics::diagnostic_at;
 use js_parsing::lexemes::{advance, stands};
 use js_parsing::nested::{MethodForm, Nested};

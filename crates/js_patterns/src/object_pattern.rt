@@ -14,27 +14,27 @@ ghost use Rattle.js_parsing.specs.Nesting.{CanNest, room};
 ghost use Rattle.js_parsing.specs.NodeTexts.{SpellsName};
 ghost use Rattle.js_parsing.specs.Stands.{NameHere, StandsHere};
 ghost use Rattle.js_parsing.specs.States.{Standing};
-ghost use Rattle.js_patterns.specs.ObjectPatterns.{properties_left, property_label, AddsInitialiser, BindsName, GivesUpThere, ReadsNamedRest, ReadsShorthand, ReadsValue};
+ghost use Rattle.js_pattern_laws.specs.ObjectPatterns.{properties_left, property_label, AddsInitialiser, BindsName, GivesUpThere, ReadsNamedRest, ReadsShorthand, ReadsValue};
 ghost use Rattle.js_tree.specs.Labels.{kind_of, number_of};
 ghost use Rattle.js_tree.specs.Nodes.{node_at};
 
-use crate::binding::{
-    RestPlace, check_behind_rest, finish_rest, parse_binding_element, parse_nested_binding,
-};
+use crate::binding::{check_behind_rest, finish_rest, parse_binding_element, parse_nested_binding};
 use js_base::{Diagnostic, DiagnosticKind, Kind, NoMemory, Span, Token};
 use js_cursor::{ParserImpl, Stop};
 use js_lex::ParserConfig;
-use js_operands::primary::parse_name;
-use js_operands::property_name::{PropertyName, parse_property_name};
+use js_literals::leaf::parse_name;
+use js_literals::property_name::parse_property_name;
+use js_operand_laws::forms::PropertyName;
 use js_parsing::context::assignment_with_in;
 use js_parsing::diagnostics::diagnostic_at;
 use js_parsing::lexemes::{advance, name_stands};
 use js_parsing::nested::Nested;
 use js_parsing::nodes::{make_list, make_name, make_two};
+use js_pattern_laws::forms::RestPlace;
 use js_tree::{NodeFlags, NodeId, NodeKind, Op};
 
 /// An ObjectBindingPattern (ECMA-262, section 14.3.3).
-pub(crate) fn parse_object_pattern<C: ParserConfig, N: Nested<C>>(
+pub fn parse_object_pattern<C: ParserConfig, N: Nested<C>>(
     p: &mut ParserImpl<'_, C>,
     nested: &N,
 ) -> Result<NodeId, Stop>

@@ -7,20 +7,21 @@ ghost use Rattle.js_grammar.specs.Productions.{at, Param, Params, Rest};
 ghost use Rattle.js_parsing.specs.Answers.{Answers};
 ghost use Rattle.js_parsing.specs.Lists.{ListStops, ReadsItem, ReadsOneMore};
 ghost use Rattle.js_parsing.specs.Nesting.{CanNest, room};
-ghost use Rattle.js_patterns.specs.Lists.{ListReadOn};
-ghost use Rattle.js_patterns.specs.Parameters.{parameters_left};
+ghost use Rattle.js_pattern_laws.specs.Lists.{ListReadOn};
+ghost use Rattle.js_pattern_laws.specs.Parameters.{parameters_left};
 ghost use Rattle.js_parsing.specs.States.{Standing};
 
-use crate::binding::{RestPlace, check_behind_rest, parse_binding_pattern, parse_binding_rest};
+use crate::binding::{check_behind_rest, parse_binding_pattern, parse_binding_rest};
 use js_base::{DiagnosticKind, Kind};
 use js_cursor::{ParserImpl, Stop};
 use js_lex::ParserConfig;
-use js_operands::primary::close_parentheses;
+use js_literals::leaf::close_parentheses;
 use js_parsing::context::assignment_with_in;
 use js_parsing::diagnostics::diagnostic_at;
 use js_parsing::lexemes::advance;
 use js_parsing::nested::Nested;
 use js_parsing::nodes::{make_list, make_one, make_with_optional};
+use js_pattern_laws::forms::RestPlace;
 use js_tree::{NodeId, NodeKind, Op};
 
 /// FormalParameters in their parentheses (ECMA-262, section 15.1).
@@ -45,7 +46,7 @@ pub fn parse_formal_parameters<C: ParserConfig, N: Nested<C>>(
 }
 
 /// The parameters up to the closing parenthesis, as many as stand there, behind those that were read.
-pub(crate) fn parse_parameter_list<C: ParserConfig, N: Nested<C>>(
+pub fn parse_parameter_list<C: ParserConfig, N: Nested<C>>(
     p: &mut ParserImpl<'_, C>,
     nested: &N,
     parameters: &mut Vec<Option<NodeId>>,
@@ -101,7 +102,7 @@ fn parse_parameter_and_comma<C: ParserConfig, N: Nested<C>>(
 }
 
 /// A FormalParameter: what it binds, and an initialiser or none.
-pub(crate) fn parse_formal_parameter<C: ParserConfig, N: Nested<C>>(
+pub fn parse_formal_parameter<C: ParserConfig, N: Nested<C>>(
     p: &mut ParserImpl<'_, C>,
     nested: &N,
 ) -> Result<NodeId, Stop>

@@ -8,20 +8,21 @@ ghost use Rattle.js_parsing.specs.Answers.{Answers};
 ghost use Rattle.js_parsing.specs.Nesting.{CanNest, room};
 ghost use Rattle.js_parsing.specs.States.{Standing};
 ghost use Rattle.js_parsing.specs.Statements.{TakesAnywhere};
-ghost use Rattle.js_statements.specs.StatementLists.{ends_in_brace};
-ghost use Rattle.js_statements.specs.Blocks.{NoBracesHere, TakesBraces};
+ghost use Rattle.js_statement_laws.specs.StatementLists.{ends_in_brace};
+ghost use Rattle.js_statement_laws.specs.Blocks.{NoBracesHere, TakesBraces};
 
-use crate::statement_list::{StatementList, parse_directives_and_statements};
+use crate::statement_list::parse_directives_and_statements;
 use js_base::Kind;
 use js_cursor::{ParserImpl, Stop};
 use js_lex::ParserConfig;
-use js_parsing::nested::Nested;
 use js_parsing::nodes::make_list;
+use js_statement_laws::forms::StatementList;
+use js_statement_laws::sequences::Sequences;
 use js_tree::{NodeId, NodeKind, Op};
 
 /// A Block as a statement (ECMA-262, section 14.2).
 #[inline(never)]
-pub fn parse_block_statement<C: ParserConfig, N: Nested<C>>(
+pub fn parse_block_statement<C: ParserConfig, N: Sequences<C>>(
     p: &mut ParserImpl<'_, C>,
     nested: &N,
 ) -> Result<NodeId, Stop>
@@ -40,7 +41,7 @@ pub fn parse_block_statement<C: ParserConfig, N: Nested<C>>(
 
 /// A Block (ECMA-262, section 14.2). It takes no frame of its own, since statements nest in it.
 #[inline(always)]
-pub fn parse_block<C: ParserConfig, N: Nested<C>>(
+pub fn parse_block<C: ParserConfig, N: Sequences<C>>(
     p: &mut ParserImpl<'_, C>,
     nested: &N,
 ) -> Result<NodeId, Stop>
@@ -57,7 +58,7 @@ pub fn parse_block<C: ParserConfig, N: Nested<C>>(
 }
 
 /// A FunctionBody in its braces (ECMA-262, section 15.2).
-pub fn parse_function_body<C: ParserConfig, N: Nested<C>>(
+pub fn parse_function_body<C: ParserConfig, N: Sequences<C>>(
     p: &mut ParserImpl<'_, C>,
     nested: &N,
 ) -> Result<NodeId, Stop>
@@ -74,7 +75,7 @@ pub fn parse_function_body<C: ParserConfig, N: Nested<C>>(
 }
 
 /// A list of statements between braces.
-fn parse_braces<C: ParserConfig, N: Nested<C>>(
+fn parse_braces<C: ParserConfig, N: Sequences<C>>(
     p: &mut ParserImpl<'_, C>,
     nested: &N,
     list: StatementList,

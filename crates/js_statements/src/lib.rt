@@ -2,10 +2,6 @@
 #![tactic(auto)]
 
 pub mod block;
-pub mod compound_statement;
-pub mod declaration_statement;
-pub mod for_parts;
-pub mod for_statement;
 pub mod function_statement;
 pub mod statement;
 pub mod statement_list;

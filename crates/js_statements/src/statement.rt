@@ -5,7 +5,7 @@ ghost use Rattle.js_base.specs.Kinds.{one_of_kinds};
 ghost use Rattle.js_base.specs.Contexts.{has_flag, in_flag};
 ghost use Rattle.js_base.specs.declared.kind.Kind.TheVariants.{Colon, Const, Semicolon};
 ghost use Rattle.js_grammar.specs.Productions.{at, ListItem, Sub};
-ghost use Rattle.js_operands.specs.Functions.{NoFunctionHere};
+ghost use Rattle.js_operand_laws.specs.Functions.{NoFunctionHere};
 ghost use Rattle.js_parsing.specs.Answers.{Stops};
 ghost use Rattle.js_parsing.specs.Lexemes.{keyword_kind};
 ghost use Rattle.js_parsing.specs.Nesting.{CanNest, room};
@@ -13,16 +13,9 @@ ghost use Rattle.js_parsing.specs.NodeTexts.{SpellsName};
 ghost use Rattle.js_parsing.specs.Stands.{StandsHere};
 ghost use Rattle.js_parsing.specs.States.{Standing};
 ghost use Rattle.js_parsing.specs.Statements.{EndsStatement, IsLabel, LabelsStatement, NoEnd, TakesAnywhere, TakesStatement, link_kinds, statement_kinds};
-ghost use Rattle.js_statements.specs.LetStatements.{TakesUndeclared};
+ghost use Rattle.js_statement_laws.specs.LetStatements.{TakesUndeclared};
 
 use crate::block::parse_block_statement;
-use crate::compound_statement::{
-    parse_do_while_statement, parse_if_statement, parse_while_statement, parse_with_statement,
-};
-use crate::declaration_statement::{
-    lexical_kind, parse_lexical_body, parse_lexical_declaration, parse_variable_statement,
-};
-use crate::for_statement::parse_for_statement;
 use crate::function_statement::{parse_function_as_body, parse_function_declaration};
 use crate::switch_statement::parse_switch_statement;
 use crate::try_statement::parse_try_statement;
@@ -32,17 +25,24 @@ use crate::word_statement::{
 };
 use js_base::{Kind, Span, Token};
 use js_cursor::{ParserImpl, Stop};
-use js_expressions::sequence::parse_sequence_expression;
 use js_lex::ParserConfig;
-use js_operands::function::function_stands;
-use js_operands::primary::parse_leaf;
+use js_literals::function::function_stands;
+use js_literals::leaf::parse_leaf;
+use js_loops::compound_statement::{
+    parse_do_while_statement, parse_if_statement, parse_while_statement, parse_with_statement,
+};
+use js_loops::declaration_statement::{
+    lexical_kind, parse_lexical_body, parse_lexical_declaration, parse_variable_statement,
+};
+use js_loops::for_statement::parse_for_statement;
 use js_parsing::lexemes::{advance, escaped_word_stands, is_name_here};
 use js_parsing::nested::Nested;
 use js_parsing::nodes::{make_name, make_one, make_two};
+use js_statement_laws::sequences::Sequences;
 use js_tree::{NodeId, NodeKind, Op};
 
 /// A StatementListItem (ECMA-262, section 14.2): a Statement, a declaration of a function, or a LexicalDeclaration.
-pub fn parse_statement_list_item<C: ParserConfig, N: Nested<C>>(
+pub fn parse_statement_list_item<C: ParserConfig, N: Sequences<C>>(
     p: &mut ParserImpl<'_, C>,
     nested: &N,
 ) -> Result<NodeId, Stop>
@@ -61,7 +61,7 @@ pub fn parse_statement_list_item<C: ParserConfig, N: Nested<C>>(
 }
 
 /// A Statement that is the body of another one (ECMA-262, chapter 14).
-pub fn parse_statement<C: ParserConfig, N: Nested<C>>(
+pub fn parse_statement<C: ParserConfig, N: Sequences<C>>(
     p: &mut ParserImpl<'_, C>,
     nested: &N,
 ) -> Result<NodeId, Stop>
@@ -81,7 +81,7 @@ pub fn parse_statement<C: ParserConfig, N: Nested<C>>(
 
 /// A Statement, wherever it stands, where no LexicalDeclaration and no function does: by the lexeme that it begins with; a
 /// LabelledStatement or an ExpressionStatement where that is none of a statement's own.
-fn parse_any_statement<C: ParserConfig, N: Nested<C>>(
+fn parse_any_statement<C: ParserConfig, N: Sequences<C>>(
     p: &mut ParserImpl<'_, C>,
     nested: &N,
 ) -> Result<NodeId, Stop>
@@ -126,7 +126,7 @@ fn parse_empty_statement<C: ParserConfig>(p: &mut ParserImpl<'_, C>) -> Result<N
 
 /// An ExpressionStatement (ECMA-262, section 14.5): an expression and its semicolon, which may be left out where the
 /// grammar permits that (12.10). Where the expression is a name and a colon stands behind it, it is a label (14.13).
-fn parse_expression_or_labeled_statement<C: ParserConfig, N: Nested<C>>(
+fn parse_expression_or_labeled_statement<C: ParserConfig, N: Sequences<C>>(
     p: &mut ParserImpl<'_, C>,
     nested: &N,
 ) -> Result<NodeId, Stop>
@@ -139,7 +139,7 @@ fn parse_expression_or_labeled_statement<C: ParserConfig, N: Nested<C>>(
 {
     let start = p.cur_start();
     let first = p.cur_token();
-    let expression = parse_sequence_expression(p, nested)?;
+    let expression = nested.sequence(p)?;
     if is_label(p, first) {
         return parse_labeled_statement_rest(p, nested, first);
     }
@@ -177,29 +177,4 @@ fn is_label<C: ParserConfig>(p: &ParserImpl<'_, C>, first: Token) -> bool
     ensures { IsTrue result ↔ IsLabel first p.now }
 {
     p.at(Kind::Colon) && is_name_here(p, first.kind()) && first.end() == p.prev_token_end()
-}
-
-/// The semicolon of a statement, or none where the grammar permits that (12.10).
-pub fn end_statement<C: ParserConfig>(p: &mut ParserImpl<'_, C>) -> Result<(), Stop>
-    requires { Standing p.old }
-    ensures { MatchResult result (λ _. EndsStatement p.old p.new) (λ e. Stops p.old p.new e (NoEnd p.old)) }
-{
-    if has_link_on_new_line(p) {
-        return Err(p.set_unexpected());
-    }
-    p.asi()
-}
-
-/// Whether a new line begins with what goes on with a member, an optional chain or parameters: no statement begins so.
-fn has_link_on_new_line<C: ParserConfig>(p: &ParserImpl<'_, C>) -> bool
-    ensures { result ≡ (p.now.token.is_on_new_line && one_of_kinds link_kinds p.now.token.kind) }
-{
-    p.cur_token().is_on_new_line() && begins_link(p.cur_kind())
-}
-
-/// A dot, the sign of an optional chain, or `=>`.
-fn begins_link(kind: Kind) -> bool
-    ensures { result ≡ one_of_kinds link_kinds kind }
-{
-    matches!(kind, Kind::Dot | Kind::QuestionDot | Kind::Arrow)
 }

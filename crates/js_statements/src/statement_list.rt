@@ -8,57 +8,21 @@ ghost use Rattle.js_tree.specs.Nodes.{node_at};
 ghost use Rattle.js_tree.specs.declared.kind.NodeKind.TheVariants.{Directive, ExpressionStatement, StringLiteral};
 ghost use Rattle.js_parsing.specs.NodeTexts.{is_textual};
 ghost use Rattle.js_parsing.specs.Nesting.{CanNest, room};
-ghost use Rattle.js_statements.specs.StatementLists.{AllRefused, AllTaken, DirectivesTaken, OpeningRefused, OpeningTaken, ends_at, ends_list, has_directives};
+ghost use Rattle.js_statement_laws.specs.StatementLists.{AllRefused, AllTaken, DirectivesTaken, OpeningRefused, OpeningTaken, ends_at, ends_list, has_directives};
 ghost use Rattle.js_parsing.specs.States.{Standing};
 
-use crate::statement::end_statement;
 use js_base::Kind;
 use js_cursor::{ParserImpl, Stop};
-use js_expressions::sequence::parse_sequence_expression;
 use js_lex::ParserConfig;
-use js_parsing::nested::Nested;
+use js_loops::semicolon::end_statement;
 use js_parsing::nodes::make_one;
+use js_statement_laws::forms::StatementList;
+use js_statement_laws::sequences::Sequences;
 use js_tree::{NodeId, NodeKind, Op};
-
-/// A list of statements: where it stands.
-#[derive(Clone, Copy)]
-pub enum StatementList {
-    /// In a text, up to its end (ECMA-262, section 16.1).
-    Text,
-    /// In a Block, up to its closing brace (ECMA-262, section 14.2).
-    Block,
-    /// In a FunctionBody, up to its closing brace (ECMA-262, section 15.2).
-    Body,
-    /// In a CaseClause or a DefaultClause, up to the next one or the closing brace (ECMA-262, section 14.12).
-    Clause,
-}
-
-impl StatementList {
-    /// Whether it begins with directives.
-    fn has_directives(self) -> bool
-        ensures { result ≡ has_directives self }
-    {
-        match self {
-            StatementList::Text | StatementList::Body => true,
-            StatementList::Block | StatementList::Clause => false,
-        }
-    }
-
-    /// Whether a lexeme of this kind ends it.
-    pub(crate) fn ends_at(self, kind: Kind) -> bool
-        ensures { result ≡ ends_at self kind }
-    {
-        match self {
-            StatementList::Text => matches!(kind, Kind::Eof),
-            StatementList::Block | StatementList::Body => matches!(kind, Kind::RCurly),
-            StatementList::Clause => matches!(kind, Kind::Case | Kind::Default | Kind::RCurly),
-        }
-    }
-}
 
 /// The directives and the statements of a list, up to what ends it; or as far as the text's end, or to where a statement may
 /// begin and no lexeme stands.
-pub fn parse_directives_and_statements<C: ParserConfig, N: Nested<C>>(
+pub fn parse_directives_and_statements<C: ParserConfig, N: Sequences<C>>(
     p: &mut ParserImpl<'_, C>,
     nested: &N,
     list: StatementList,
@@ -86,7 +50,7 @@ fn at_last<C: ParserConfig>(p: &ParserImpl<'_, C>, list: StatementList) -> bool
 
 /// Directives, as long as a string alone is a statement; and a statement that begins with a string and is none. A Block has no
 /// directives, nor has a clause.
-fn parse_directives<C: ParserConfig, N: Nested<C>>(
+fn parse_directives<C: ParserConfig, N: Sequences<C>>(
     p: &mut ParserImpl<'_, C>,
     nested: &N,
     list: StatementList,
@@ -111,7 +75,7 @@ fn parse_directives<C: ParserConfig, N: Nested<C>>(
 }
 
 /// A statement that begins with a string: a Directive if that is all of it, and whether it is one.
-fn parse_opening<C: ParserConfig, N: Nested<C>>(
+fn parse_opening<C: ParserConfig, N: Sequences<C>>(
     p: &mut ParserImpl<'_, C>,
     nested: &N,
 ) -> Result<(NodeId, bool), Stop>
@@ -122,7 +86,7 @@ fn parse_opening<C: ParserConfig, N: Nested<C>>(
     ensures { MatchResult result (λ r. OpeningTaken p.old p.new r.0 r.1) (λ e. OpeningRefused p.old p.new e) }
 {
     let start = p.cur_start();
-    let expression = parse_sequence_expression(p, nested)?;
+    let expression = nested.sequence(p)?;
     end_statement(p)?;
     let span = p.end_span(start);
     let is_directive = is_string(p, expression);

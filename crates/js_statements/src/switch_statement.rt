@@ -8,35 +8,26 @@ ghost use Rattle.js_parsing.specs.Nesting.{CanNest, room};
 ghost use Rattle.js_parsing.specs.Stands.{StandsHere};
 ghost use Rattle.js_parsing.specs.States.{Standing};
 ghost use Rattle.js_parsing.specs.Statements.{TakesAnywhere};
-ghost use Rattle.js_statements.specs.StatementLists.{ends_at, ends_list};
-ghost use Rattle.js_statements.specs.SwitchStatements.{AllClauses, ClauseBegins, ClausesRefused, DueOr, MayNote, NextRefused, NextTaken, NoCaseBlockHere, Notes, ReadsClause, Stood, TakesCaseBlock, TakesTest, second_default};
-ghost use Rattle.js_statements.specs.declared.statement_list.StatementList.TheVariants.{Clause};
+ghost use Rattle.js_statement_laws.specs.StatementLists.{ends_at, ends_list};
+ghost use Rattle.js_statement_laws.specs.SwitchStatements.{AllClauses, ClauseBegins, ClausesRefused, DueOr, MayNote, NextRefused, NextTaken, NoCaseBlockHere, Notes, ReadsClause, Stood, TakesCaseBlock, TakesTest, second_default};
+ghost use Rattle.js_statement_laws.specs.declared.forms.StatementList.TheVariants.{Clause};
 
-use crate::compound_statement::parse_paren_expression;
-use crate::statement_list::{StatementList, parse_directives_and_statements};
+use crate::statement_list::parse_directives_and_statements;
 use js_base::{Diagnostic, DiagnosticKind, Kind, NoMemory, Span};
 use js_cursor::{ParserImpl, Stop};
 use js_lex::ParserConfig;
+use js_loops::compound_statement::parse_paren_expression;
 use js_parsing::diagnostics::diagnostic_at;
 use js_parsing::lexemes::advance;
 use js_parsing::nested::Nested;
 use js_parsing::nodes::make_list;
+use js_statement_laws::forms::{Defaults, StatementList};
+use js_statement_laws::sequences::Sequences;
 use js_tree::{NodeId, NodeKind, Op};
-
-/// The DefaultClauses among the clauses of a CaseBlock that were read, of which one may stand (ECMA-262, section 14.12).
-#[derive(Clone, Copy)]
-pub enum Defaults {
-    /// None.
-    Missing,
-    /// One, which stands there.
-    One(Span),
-    /// Several, which was told.
-    Several,
-}
 
 /// A SwitchStatement (ECMA-262, section 14.12).
 #[inline(never)]
-pub fn parse_switch_statement<C: ParserConfig, N: Nested<C>>(
+pub fn parse_switch_statement<C: ParserConfig, N: Sequences<C>>(
     p: &mut ParserImpl<'_, C>,
     nested: &N,
 ) -> Result<NodeId, Stop>
@@ -58,7 +49,7 @@ pub fn parse_switch_statement<C: ParserConfig, N: Nested<C>>(
 
 /// A CaseBlock (ECMA-262, section 14.12): clauses in braces. It takes no frame of its own, since statements nest in it.
 #[inline(always)]
-fn parse_case_block<C: ParserConfig, N: Nested<C>>(
+fn parse_case_block<C: ParserConfig, N: Sequences<C>>(
     p: &mut ParserImpl<'_, C>,
     nested: &N,
 ) -> Result<Vec<Option<NodeId>>, Stop>
@@ -75,7 +66,7 @@ fn parse_case_block<C: ParserConfig, N: Nested<C>>(
 
 /// The clauses of a CaseBlock, up to its closing brace.
 #[inline(always)]
-fn parse_clauses<C: ParserConfig, N: Nested<C>>(
+fn parse_clauses<C: ParserConfig, N: Sequences<C>>(
     p: &mut ParserImpl<'_, C>,
     nested: &N,
 ) -> Result<Vec<Option<NodeId>>, Stop>
@@ -97,7 +88,7 @@ fn parse_clauses<C: ParserConfig, N: Nested<C>>(
 
 /// A clause behind those that were read, and the DefaultClauses among all of them. The second one is told, and reading goes on.
 #[inline(always)]
-fn parse_next_clause<C: ParserConfig, N: Nested<C>>(
+fn parse_next_clause<C: ParserConfig, N: Sequences<C>>(
     p: &mut ParserImpl<'_, C>,
     nested: &N,
     defaults: Defaults,
@@ -179,7 +170,7 @@ fn is_clause_due<C: ParserConfig>(p: &ParserImpl<'_, C>) -> bool
 
 /// A CaseClause or a DefaultClause (ECMA-262, section 14.12).
 #[inline(always)]
-fn parse_clause<C: ParserConfig, N: Nested<C>>(
+fn parse_clause<C: ParserConfig, N: Sequences<C>>(
     p: &mut ParserImpl<'_, C>,
     nested: &N,
 ) -> Result<NodeId, Stop>

@@ -12,7 +12,7 @@ ghost use Rattle.js_parsing.specs.Nesting.{CanNest, room};
 ghost use Rattle.js_parsing.specs.Stands.{StandsHere};
 ghost use Rattle.js_parsing.specs.States.{Standing};
 ghost use Rattle.js_parsing.specs.Statements.{TakesAnywhere};
-ghost use Rattle.js_statements.specs.TryStatements.{NoClauses, TakesClauses, TakesPart, finally_of, neither, parameter_of};
+ghost use Rattle.js_statement_laws.specs.TryStatements.{NoClauses, TakesClauses, TakesPart, finally_of, neither, parameter_of};
 ghost use Rattle.js_tree.specs.declared.kind.NodeKind.TheVariants as node;
 ghost use Rattle.js_tree.specs.declared.op.Op.TheVariants as op;
 
@@ -24,11 +24,12 @@ use js_parsing::diagnostics::diagnostic_at;
 use js_parsing::lexemes::{advance, stands};
 use js_parsing::nested::Nested;
 use js_parsing::nodes::{make_one, no_flags};
+use js_statement_laws::sequences::Sequences;
 use js_tree::{NodeId, NodeKind, Op};
 
 /// A TryStatement (ECMA-262, section 14.15).
 #[inline(never)]
-pub fn parse_try_statement<C: ParserConfig, N: Nested<C>>(
+pub fn parse_try_statement<C: ParserConfig, N: Sequences<C>>(
     p: &mut ParserImpl<'_, C>,
     nested: &N,
 ) -> Result<NodeId, Stop>
@@ -49,7 +50,7 @@ pub fn parse_try_statement<C: ParserConfig, N: Nested<C>>(
 
 /// The Catch and the Finally behind the Block of a `try`, as far as they stand here. That neither does is told, and reading
 /// goes on.
-fn parse_clauses<C: ParserConfig, N: Nested<C>>(
+fn parse_clauses<C: ParserConfig, N: Sequences<C>>(
     p: &mut ParserImpl<'_, C>,
     nested: &N,
 ) -> Result<(Option<NodeId>, Option<NodeId>), Stop>
@@ -93,7 +94,7 @@ fn make_try<C: ParserConfig>(
 }
 
 /// A Catch (ECMA-262, section 14.15), where one stands here.
-fn parse_catch<C: ParserConfig, N: Nested<C>>(
+fn parse_catch<C: ParserConfig, N: Sequences<C>>(
     p: &mut ParserImpl<'_, C>,
     nested: &N,
 ) -> Result<Option<NodeId>, Stop>
@@ -150,7 +151,7 @@ fn parse_catch_parameter<C: ParserConfig, N: Nested<C>>(
 }
 
 /// The Block of a Finally (ECMA-262, section 14.15), where one stands here.
-fn parse_finally<C: ParserConfig, N: Nested<C>>(
+fn parse_finally<C: ParserConfig, N: Sequences<C>>(
     p: &mut ParserImpl<'_, C>,
     nested: &N,
 ) -> Result<Option<NodeId>, Stop>

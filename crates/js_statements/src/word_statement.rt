@@ -11,18 +11,17 @@ ghost use Rattle.js_parsing.specs.Nesting.{CanNest, room};
 ghost use Rattle.js_parsing.specs.NodeTexts.{is_textual};
 ghost use Rattle.js_parsing.specs.States.{Standing};
 ghost use Rattle.js_parsing.specs.Statements.{TakesAnywhere};
-ghost use Rattle.js_statements.specs.WordStatements.{ChecksOperand, ChecksReturn, JumpsHere, TakesArgument, TakesLabel, late_operand, stray_return};
+ghost use Rattle.js_statement_laws.specs.WordStatements.{ChecksOperand, ChecksReturn, JumpsHere, TakesArgument, TakesLabel, late_operand, stray_return};
 
-use crate::statement::end_statement;
 use js_base::{DiagnosticKind, Kind, NoMemory, Span};
 use js_cursor::{ParserImpl, Stop};
-use js_expressions::sequence::parse_sequence_expression;
 use js_lex::ParserConfig;
-use js_operands::primary::parse_name;
+use js_literals::leaf::parse_name;
+use js_loops::semicolon::end_statement;
 use js_parsing::diagnostics::diagnostic_at;
 use js_parsing::lexemes::{advance, name_stands};
-use js_parsing::nested::Nested;
 use js_parsing::nodes::{make_leaf, make_one, make_optional};
+use js_statement_laws::sequences::Sequences;
 use js_tree::{NodeId, NodeKind, Op};
 
 /// A DebuggerStatement (ECMA-262, section 14.16).
@@ -92,7 +91,7 @@ fn parse_optional_label<C: ParserConfig>(p: &mut ParserImpl<'_, C>) -> Result<Op
 
 /// A ThrowStatement (ECMA-262, section 14.14). A new line behind `throw` is told, and reading goes on.
 #[inline(never)]
-pub fn parse_throw_statement<C: ParserConfig, N: Nested<C>>(
+pub fn parse_throw_statement<C: ParserConfig, N: Sequences<C>>(
     p: &mut ParserImpl<'_, C>,
     nested: &N,
 ) -> Result<NodeId, Stop>
@@ -105,7 +104,7 @@ pub fn parse_throw_statement<C: ParserConfig, N: Nested<C>>(
     let word = p.cur_token().span();
     advance(p)?;
     check_operand(p, word)?;
-    let operand = parse_sequence_expression(p, nested)?;
+    let operand = nested.sequence(p)?;
     end_statement(p)?;
     let span = p.end_span(word.start);
     let node = make_one(p, NodeKind::ThrowStatement, Op::None, span, operand)?;
@@ -126,7 +125,7 @@ fn check_operand<C: ParserConfig>(p: &mut ParserImpl<'_, C>, word: Span) -> Resu
 
 /// A ReturnStatement (ECMA-262, section 14.10). One that stands in no function's body is told, and reading goes on.
 #[inline(never)]
-pub fn parse_return_statement<C: ParserConfig, N: Nested<C>>(
+pub fn parse_return_statement<C: ParserConfig, N: Sequences<C>>(
     p: &mut ParserImpl<'_, C>,
     nested: &N,
 ) -> Result<NodeId, Stop>
@@ -147,7 +146,7 @@ pub fn parse_return_statement<C: ParserConfig, N: Nested<C>>(
 }
 
 /// An Expression, or none where the statement may end.
-fn parse_optional_argument<C: ParserConfig, N: Nested<C>>(
+fn parse_optional_argument<C: ParserConfig, N: Sequences<C>>(
     p: &mut ParserImpl<'_, C>,
     nested: &N,
 ) -> Result<Option<NodeId>, Stop>
@@ -158,7 +157,7 @@ fn parse_optional_argument<C: ParserConfig, N: Nested<C>>(
     if p.can_insert_semicolon() {
         return Ok(None);
     }
-    let argument = parse_sequence_expression(p, nested)?;
+    let argument = nested.sequence(p)?;
     Ok(Some(argument))
 }
 

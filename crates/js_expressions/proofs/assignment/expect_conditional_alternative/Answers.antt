@@ -6,7 +6,7 @@ use Rattle.js_base.specs.declared.kind.Kind.TheVariants.{Colon}
 use Rattle.js_parsing.specs.Classes.{ends_parse}
 use Rattle.js_parsing.proofs.Classes.{gives_up_by, unexpected_ends}
 use Rattle.js_parsing.proofs.Signs.{whole_sign}
-use Rattle.js_expressions.proofs.Conditionals.{alternative_marked}
+use Rattle.js_expression_laws.proofs.Conditionals.{alternative_marked}
 use Rattle.js_expressions.proofs.assignment.expect_conditional_alternative.Goals as goal
 
 pub set_fatal_error-requires-clause-mark : goal.set_fatal_error-requires-clause-mark

@@ -1,14 +1,14 @@
-use Rattle.js_expressions.proofs.HeadOperands.{head_stopped, operand_unmoved, refused, refused_operand, refused_so, told_none}
+use Rattle.js_expression_laws.proofs.HeadOperands.{head_stopped, operand_unmoved, refused, refused_operand, refused_so, told_none}
 use Rattle.std.proofs.Common.{arith, ap, inl, sym, ◌∙◌, length}
 use Rattle.std.proofs.lemmas.Bool.{false≢true}
 use Rattle.std.proofs.lemmas.Result.{err_from_is_err_and}
 use Rattle.std.specs.Prelude.{Ok, Err}
 use Rattle.js_tree.proofs.HoldingLemmas.{Holds-below}
 use Rattle.js_grammar.specs.Productions.{at, Assignment}
-use Rattle.js_expressions.proofs.Arrows.{before_at, before_further, before_same, from_unmoved, none_found, only_operand, some_found}
+use Rattle.js_expression_laws.proofs.Arrows.{before_at, before_further, before_same, from_unmoved, none_found, only_operand, some_found}
 use Rattle.js_parsing.proofs.Moving.{standing}
 use Rattle.js_parsing.proofs.Nesting.{nests_later, later_room}
-use Rattle.js_expressions.proofs.Yields.{yield_no_target}
+use Rattle.js_expression_laws.proofs.Yields.{yield_no_target}
 use Rattle.js_expressions.proofs.assignment.parse_any_assignment.Goals as goal
 
 pub parse_arrow_function_expression-requires-clause-at : goal.parse_arrow_function_expression-requires-clause-at

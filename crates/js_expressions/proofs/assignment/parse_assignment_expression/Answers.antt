@@ -5,8 +5,8 @@ use Rattle.js_parsing.specs.Answers.{Answers}
 use Rattle.js_parsing.specs.Nesting.{room}
 use Rattle.js_parsing.specs.States.{Standing}
 use Rattle.js_parsing.proofs.Nesting.{nests_later}
-use Rattle.js_expressions.specs.HeadOperands.{TellsOperand}
-use Rattle.js_expressions.proofs.ClosedOperands.{closed_answers, closed_operand, none_closed, some_closed}
+use Rattle.js_expression_laws.specs.HeadOperands.{TellsOperand}
+use Rattle.js_expression_laws.proofs.ClosedOperands.{closed_answers, closed_operand, none_closed, some_closed}
 use Rattle.js_expressions.proofs.assignment.parse_assignment_expression.Goals as goal
 
 pub returns-in-Some-clause-answers : goal.returns-in-Some-clause-answers

@@ -1,12 +1,12 @@
-use Rattle.js_expressions.proofs.HeadOperands.{made_no_target}
+use Rattle.js_expression_laws.proofs.HeadOperands.{made_no_target}
 use Rattle.std.proofs.Common.{◌≡◌, arith, refl, sym, ap, ◌∙◌, subst, inl, inr}
 use Rattle.std.proofs.lemmas.Bool.{false≢true}
 use Rattle.std.proofs.lemmas.Result.{err_from_is_err_and}
 use Rattle.js_base.specs.declared.kind.Kind.TheVariants.{Question}
 use Rattle.js_base.specs.declared.span.Span.{Span}
 use Rattle.js_base.specs.declared.token.Token.{Token}
-use Rattle.js_expressions.specs.Rests.{Asked}
-use Rattle.js_expressions.proofs.Conditionals.{test_alone, no_assign_here, question_plain, asked_here, asked_later, first_fails, colon_fails, colon_missing, second_fails, conditional_answers}
+use Rattle.js_expression_laws.specs.Rests.{Asked}
+use Rattle.js_expression_laws.proofs.Conditionals.{test_alone, no_assign_here, question_plain, asked_here, asked_later, first_fails, colon_fails, colon_missing, second_fails, conditional_answers}
 use Rattle.js_parsing.proofs.Signs.{other_kind, plain_sign}
 use Rattle.js_parsing.proofs.Moving.{standing, stops_behind, same_both}
 use Rattle.js_parsing.proofs.Nesting.{nested_room, nests_later, later_room}

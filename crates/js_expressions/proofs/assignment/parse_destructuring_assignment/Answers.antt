@@ -1,9 +1,9 @@
-use Rattle.js_expressions.proofs.HeadOperands.{made_no_target}
+use Rattle.js_expression_laws.proofs.HeadOperands.{made_no_target}
 use Rattle.std.proofs.Common.{ap, arith, ◌∙◌, inl, refl}
 use Rattle.std.proofs.lemmas.Result.{err_from_is_err_and}
 use Rattle.js_base.specs.declared.token.Token.{Token}
 use Rattle.js_cursor.specs.Moves.{is_last}
-use Rattle.js_expressions.proofs.ArrayAnswers.{array_answers, right_unread, room_same, without_target}
+use Rattle.js_expression_laws.proofs.ArrayAnswers.{array_answers, right_unread, room_same, without_target}
 use Rattle.js_parsing.proofs.Giving.{memory_stops}
 use Rattle.js_parsing.proofs.Moving.{same_both, standing, stops_behind, stops_so}
 use Rattle.js_parsing.proofs.Nesting.{nested_room}

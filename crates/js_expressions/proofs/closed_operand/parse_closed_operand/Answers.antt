@@ -1,4 +1,4 @@
-use Rattle.js_expressions.proofs.ClosedOperands.{closed_outcome}
+use Rattle.js_expression_laws.proofs.ClosedOperands.{closed_outcome}
 use Rattle.js_expressions.proofs.closed_operand.parse_closed_operand.Goals as goal
 
 pub returns : goal.returns

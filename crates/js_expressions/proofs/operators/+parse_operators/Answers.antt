@@ -6,7 +6,7 @@ use Rattle.js_parsing.specs.Operators.{power_of}
 use Rattle.js_parsing.specs.Answers.{Underived}
 use Rattle.js_parsing.proofs.Moving.{standing, stops_so, stops_behind}
 use Rattle.js_parsing.proofs.Nesting.{nests_later}
-use Rattle.js_expressions.proofs.Operations.{fails_at_level, operand_init, next_level, as_next, right_less, smaller, made_link, small, is_operator, not_last, same_so, grown_so, step_fails, start_before, operand_step, operands_answer}
+use Rattle.js_expression_laws.proofs.Operations.{fails_at_level, operand_init, next_level, as_next, right_less, smaller, made_link, small, is_operator, not_last, same_so, grown_so, step_fails, start_before, operand_step, operands_answer}
 use Rattle.js_expressions.proofs.operators.+parse_operators.Goals as goal
 
 pub returns-in_err-left : goal.returns-in_err-left

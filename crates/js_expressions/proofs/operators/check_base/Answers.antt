@@ -4,7 +4,7 @@ use Rattle.js_base.specs.declared.span.Span.{Span}
 use Rattle.std.specs.Prelude.{None}
 use Rattle.js_grammar.specs.Marks.{Mark}
 use Rattle.js_cursor.specs.Places.{goal as goal_of}
-use Rattle.js_expressions.proofs.Exponents.{same_span}
+use Rattle.js_expression_laws.proofs.Exponents.{same_span}
 use Rattle.js_expressions.proofs.operators.check_base.Goals as goal
 
 pub error-requires-clause-mark : goal.error-requires-clause-mark

@@ -6,7 +6,7 @@ use Rattle.js_grammar.specs.Marks.{Mark}
 use Rattle.js_cursor.specs.Moves.{Keeps}
 use Rattle.js_cursor.specs.Places.{goal as goal_of}
 use Rattle.js_parsing.specs.Stands.{ReadsHere}
-use Rattle.js_expressions.proofs.Exponents.{same_span}
+use Rattle.js_expression_laws.proofs.Exponents.{same_span}
 use Rattle.js_expressions.proofs.operators.check_mixed.Goals as goal
 use Rattle.js_parsing.proofs.Classes.{gives_up_by, unexpected_ends}
 

@@ -2,8 +2,8 @@ use Rattle.std.proofs.Common.{sym, ap, ◌∙◌}
 use Rattle.js_grammar.specs.Trees.{Label}
 use Rattle.js_tree.specs.Labels.{op_of}
 use Rattle.js_tree.specs.declared.op.Op.{Op}
-use Rattle.js_expressions.specs.Coalescing.{is_or_and}
-use Rattle.js_expressions.proofs.Coalescing.{not_logical}
+use Rattle.js_expression_laws.specs.Coalescing.{is_or_and}
+use Rattle.js_expression_laws.proofs.Coalescing.{not_logical}
 use Rattle.js_targets.proofs.CoveredNodes.{label_of_node}
 use Rattle.js_expressions.proofs.operators.node_is_or_and.Goals as goal
 

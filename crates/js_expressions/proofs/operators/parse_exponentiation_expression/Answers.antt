@@ -1,8 +1,8 @@
 use Rattle.std.proofs.Common.{◌∙◌, sym, ap, arith}
 use Rattle.std.proofs.lemmas.Bool.{false≢true}
 use Rattle.std.proofs.lemmas.Result.{err_from_is_err_and}
-use Rattle.js_expressions.proofs.Exponents.{power_alone, power_none, base_marked, base_checked, exponent_fails, power_answers, still_star, star_whole}
-use Rattle.js_expressions.specs.Exponents.{begins_by_unary}
+use Rattle.js_expression_laws.proofs.Exponents.{power_alone, power_none, base_marked, base_checked, exponent_fails, power_answers, still_star, star_whole}
+use Rattle.js_expression_laws.specs.Exponents.{begins_by_unary}
 use Rattle.js_grammar.specs.Productions.{Flags}
 use Rattle.js_parsing.proofs.Moving.{standing, stops_so, stops_behind, same_both}
 use Rattle.js_parsing.proofs.Nesting.{nested_room, later_room}

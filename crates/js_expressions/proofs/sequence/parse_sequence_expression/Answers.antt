@@ -1,5 +1,5 @@
 use Rattle.std.specs.Prelude.{Err}
-use Rattle.js_expressions.proofs.HeadOperands.{listed_operand, made_no_target}
+use Rattle.js_expression_laws.proofs.HeadOperands.{listed_operand, made_no_target}
 use Rattle.std.proofs.Common.{◌≡◌, ◌∙◌, ap, sym, arith, subst, Ok, List, ◌∷◌, [], ◌++◌, Some, Option, refl}
 use Rattle.std.proofs.lemmas.Bool.{false≢true}
 use Rattle.std.proofs.lemmas.Result.{err_from_is_err_and}
@@ -11,7 +11,7 @@ use Rattle.js_parsing.specs.Moves.{MadeHere, plain_label}
 use Rattle.js_parsing.proofs.Moving.{standing, stops_so, stops_behind}
 use Rattle.js_parsing.proofs.Nesting.{nested_room}
 use Rattle.js_parsing.proofs.Signs.{whole_sign}
-use Rattle.js_expressions.proofs.Sequences.{Listing, alone_result, alone_fails, listing_init, listing_step, listing_end, listing_same, listing_grown, operand_fails, less_left, start_before, listing_room}
+use Rattle.js_expression_laws.proofs.Sequences.{Listing, alone_result, alone_fails, listing_init, listing_step, listing_end, listing_same, listing_grown, operand_fails, less_left, start_before, listing_room}
 use Rattle.js_expressions.proofs.sequence.parse_sequence_expression.Goals as goal
 
 pub returns-in_err-first-clause-answers : goal.returns-in_err-first-clause-answers

@@ -8,8 +8,8 @@ use Rattle.js_parsing.proofs.Here.{uncut}
 use Rattle.js_parsing.proofs.Moving.{same_both, standing, stops_behind}
 use Rattle.js_parsing.proofs.Nesting.{nested_room}
 use Rattle.js_parsing.proofs.Verdicts.{grown_then}
-use Rattle.js_expressions.proofs.HeadOperands.{made_no_target}
-use Rattle.js_expressions.proofs.Yields.{delegate_answers, delegate_none}
+use Rattle.js_expression_laws.proofs.HeadOperands.{made_no_target}
+use Rattle.js_expression_laws.proofs.Yields.{delegate_answers, delegate_none}
 use Rattle.js_expressions.proofs.yield_expression.parse_delegate.Goals as goal
 
 pub advance-requires-clause-whole : goal.advance-requires-clause-whole

@@ -5,9 +5,9 @@ use Rattle.js_parsing.specs.Lexemes.{read_word}
 use Rattle.js_parsing.proofs.Moving.{standing, stops_behind}
 use Rattle.js_parsing.proofs.Nesting.{nested_room, nests_later}
 use Rattle.js_parsing.proofs.Verdicts.{grown_then}
-use Rattle.js_operands.proofs.Members.{word_whole}
-use Rattle.js_expressions.proofs.HeadOperands.{made_no_target}
-use Rattle.js_expressions.proofs.Yields.{argued_is, argument_answers, argument_none, bare_answers, bare_is}
+use Rattle.js_operand_laws.proofs.Members.{word_whole}
+use Rattle.js_expression_laws.proofs.HeadOperands.{made_no_target}
+use Rattle.js_expression_laws.proofs.Yields.{argued_is, argument_answers, argument_none, bare_answers, bare_is}
 use Rattle.js_expressions.proofs.yield_expression.parse_yield_expression.Goals as goal
 
 pub advance-requires-clause-whole : goal.advance-requires-clause-whole

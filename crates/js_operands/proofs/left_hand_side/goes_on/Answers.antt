@@ -1,7 +1,7 @@
 use Rattle.std.proofs.Common.{ap, inr, sym, ◌∙◌}
 use Rattle.js_base.specs.Kinds.{one_of_kinds}
-use Rattle.js_operands.specs.Templates.{heads}
-use Rattle.js_operands.proofs.Members.{goes_on}
+use Rattle.js_operand_laws.specs.Templates.{heads}
+use Rattle.js_operand_laws.proofs.Members.{goes_on}
 use Rattle.js_operands.proofs.left_hand_side.goes_on.Goals as goal
 
 pub returns-then-begins_template : goal.returns-then-begins_template

@@ -1,8 +1,8 @@
 use Rattle.std.proofs.Common.{true, false, sym, subst}
-use Rattle.js_operands.specs.declared.left_hand_side.LinkBase.{LinkBase}
-use Rattle.js_operands.specs.Members.{LinkHere}
+use Rattle.js_operand_laws.specs.declared.forms.LinkBase.{LinkBase}
+use Rattle.js_operand_laws.specs.Members.{LinkHere}
 use Rattle.js_base.specs.declared.kind.Kind.TheVariants.{LParen, Dot, LBrack}
-use Rattle.js_operands.proofs.Members.{bracket_here, call_or_none, chain_or_none, name_here, no_access_here, paren_here, stands_so}
+use Rattle.js_operand_laws.proofs.Members.{bracket_here, call_or_none, chain_or_none, name_here, no_access_here, paren_here, stands_so}
 use Rattle.js_operands.proofs.left_hand_side.link_here.Goals as goal
 
 pub returns-then-stands : goal.returns-then-stands

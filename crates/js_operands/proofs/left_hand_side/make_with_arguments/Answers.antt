@@ -1,6 +1,6 @@
 use Rattle.js_tree.specs.Labels.{kind_of, op_of}
 use Rattle.js_tree.specs.declared.op.Op.TheVariants as op
-use Rattle.js_operands.proofs.MadeAs.{made_as}
+use Rattle.js_operand_laws.proofs.MadeAs.{made_as}
 use Rattle.js_operands.proofs.left_hand_side.make_with_arguments.Goals as goal
 
 pub returns : goal.returns

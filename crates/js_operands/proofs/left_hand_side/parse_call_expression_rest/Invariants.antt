@@ -1,5 +1,5 @@
 use Rattle.js_parsing.specs.Nesting.{room}
-use Rattle.js_operands.proofs.Members.{LinkLoop, CallGoes}
+use Rattle.js_operand_laws.proofs.Members.{LinkLoop, CallGoes}
 use Rattle.js_operands.proofs.left_hand_side.parse_call_expression_rest.Given as goal
 
 abbrev pub invariant-links : goal.invariant-links

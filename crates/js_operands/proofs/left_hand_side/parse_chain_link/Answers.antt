@@ -1,8 +1,8 @@
 use Rattle.std.proofs.Common.{ap, sym, ◌∙◌}
 use Rattle.js_base.specs.declared.kind.Kind.TheVariants.{QuestionDot}
 use Rattle.js_base.specs.Kinds.{one_of_kinds}
-use Rattle.js_operands.specs.Templates.{heads}
-use Rattle.js_operands.proofs.Members.{call_left, link_is, stands_so, tag_is}
+use Rattle.js_operand_laws.specs.Templates.{heads}
+use Rattle.js_operand_laws.proofs.Members.{call_left, link_is, stands_so, tag_is}
 use Rattle.js_operands.proofs.left_hand_side.parse_chain_link.Goals as goal
 
 pub parse_chained_template-requires-clause-template : goal.parse_chained_template-requires-clause-template

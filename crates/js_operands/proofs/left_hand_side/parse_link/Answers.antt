@@ -1,5 +1,5 @@
 use Rattle.js_base.specs.declared.kind.Kind.TheVariants.{LParen, LBrack}
-use Rattle.js_operands.proofs.Members.{call_outcome, dot_left, index_outcome, stands_so}
+use Rattle.js_operand_laws.proofs.Members.{call_outcome, dot_left, index_outcome, stands_so}
 use Rattle.js_operands.proofs.left_hand_side.parse_link.Goals as goal
 
 pub parse_with_arguments-requires-clause-open : goal.parse_with_arguments-requires-clause-open

@@ -5,7 +5,7 @@ use Rattle.js_base.specs.declared.kind.Kind.TheVariants.{RAngle}
 use Rattle.js_base.specs.Kinds.{same_kind}
 use Rattle.js_parsing.proofs.Here.{uncut}
 use Rattle.js_parsing.proofs.Moving.{standing}
-use Rattle.js_operands.proofs.Members.{name_link, no_name_link}
+use Rattle.js_operand_laws.proofs.Members.{name_link, no_name_link}
 use Rattle.js_operands.proofs.left_hand_side.parse_named_link.Goals as goal
 
 pub advance-requires-clause-whole : goal.advance-requires-clause-whole

@@ -9,8 +9,8 @@ use Rattle.js_parsing.proofs.Giving.{gives_up}
 use Rattle.js_parsing.proofs.Here.{uncut}
 use Rattle.js_parsing.proofs.Moving.{standing}
 use Rattle.js_parsing.proofs.Nesting.{nested_room, nests_later}
-use Rattle.js_operands.proofs.Members.{link_is, link_marked, no_name, no_optional_name, optional_name, optional_outcome, optional_tagged, stands_so, optional_index_outcome}
-use Rattle.js_operands.specs.Templates.{heads}
+use Rattle.js_operand_laws.proofs.Members.{link_is, link_marked, no_name, no_optional_name, optional_name, optional_outcome, optional_tagged, stands_so, optional_index_outcome}
+use Rattle.js_operand_laws.specs.Templates.{heads}
 use Rattle.js_operands.proofs.left_hand_side.parse_optional_link.Goals as goal
 use Rattle.js_parsing.specs.Classes.{EndsParse}
 

@@ -8,7 +8,7 @@ use Rattle.js_base.specs.Kinds.{same_kind, one_of_kinds}
 use Rattle.js_cursor.specs.Moves.{Opened}
 use Rattle.js_parsing.proofs.Bracketed.{opened_here, opened_later}
 use Rattle.js_parsing.proofs.Here.{uncut}
-use Rattle.js_operands.proofs.Members.{no_index, index_closed, index_part, unclosed_stops}
+use Rattle.js_operand_laws.proofs.Members.{no_index, index_closed, index_part, unclosed_stops}
 use Rattle.js_parsing.proofs.Moving.{standing, stops_behind}
 use Rattle.js_parsing.proofs.Nesting.{nested_room, nests_later}
 use Rattle.js_parsing.proofs.Verdicts.{grown_then}

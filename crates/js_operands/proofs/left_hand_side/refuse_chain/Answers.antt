@@ -4,7 +4,7 @@ use Rattle.js_base.specs.declared.diagnostic.DiagnosticKind.TheVariants.{Invalid
 use Rattle.js_grammar.specs.Marks.{Mark}
 use Rattle.js_cursor.specs.Moves.{GivesUp}
 use Rattle.js_cursor.specs.Places.{goal as goal_of}
-use Rattle.js_operands.proofs.Members.{chain_told, sign_marked}
+use Rattle.js_operand_laws.proofs.Members.{chain_told, sign_marked}
 use Rattle.js_operands.proofs.left_hand_side.refuse_chain.Goals as goal
 
 pub set_fatal_error-requires-clause-mark : goal.set_fatal_error-requires-clause-mark

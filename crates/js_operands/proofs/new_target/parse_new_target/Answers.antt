@@ -6,8 +6,8 @@ use Rattle.js_parsing.specs.Moves.{unpassable}
 use Rattle.js_parsing.proofs.Giving.{memory_stops}
 use Rattle.js_parsing.proofs.Here.{uncut}
 use Rattle.js_parsing.proofs.Moving.{standing}
-use Rattle.js_operands.proofs.Members.{stands_so}
-use Rattle.js_operands.proofs.NewTargets.{behind_dot, outside_marked, start_before, target_stops, target_taken}
+use Rattle.js_operand_laws.proofs.Members.{stands_so}
+use Rattle.js_operand_laws.proofs.NewTargets.{behind_dot, outside_marked, start_before, target_stops, target_taken}
 use Rattle.js_operands.proofs.new_target.parse_new_target.Goals as goal
 
 pub returns-in_err-advance : goal.returns-in_err-advance

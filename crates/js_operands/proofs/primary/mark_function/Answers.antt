@@ -4,8 +4,8 @@ use Rattle.js_tree.specs.declared.flags.NodeFlags.{NodeFlags}
 use Rattle.js_tree.specs.Nodes.{flags_set}
 use Rattle.std.proofs.Common.{true}
 use Rattle.js_tree.specs.Labels.{kind_of}
-use Rattle.js_operands.specs.Marked.{is_function}
-use Rattle.js_operands.proofs.Marking.{marks, not_marked}
+use Rattle.js_operand_laws.specs.Marked.{is_function}
+use Rattle.js_operand_laws.proofs.Marking.{marks, not_marked}
 use Rattle.js_operands.proofs.primary.mark_function.Goals as goal
 
 pub returns-then-not-is_function : goal.returns-then-not-is_function

@@ -1,6 +1,6 @@
 use Rattle.std.proofs.Common.{◌≡◌, sym, ◌∙◌}
 use Rattle.std.proofs.lemmas.Bool.{false≢true}
-use Rattle.js_operands.proofs.RegularExpressions.{literal_answers, none_stops, which_sign}
+use Rattle.js_operand_laws.proofs.RegularExpressions.{literal_answers, none_stops, which_sign}
 use Rattle.js_operands.proofs.primary.parse_literal_regexp.Goals as goal
 
 pub re_lex_regex-requires-clause-kind : goal.re_lex_regex-requires-clause-kind

@@ -13,8 +13,8 @@ use Rattle.js_parsing.proofs.Nesting.{nests_later}
 use Rattle.js_parsing.specs.States.{At, Standing}
 use Rattle.js_parsing.proofs.NameKinds.{listed_here, name_at, name_whole}
 use Rattle.js_parsing.proofs.NodeTexts.{name_word}
-use Rattle.js_operands.proofs.AsyncWords.{begun_at, found_so}
-use Rattle.js_operands.proofs.Operands.{name_outcome}
+use Rattle.js_operand_laws.proofs.AsyncWords.{begun_at, found_so}
+use Rattle.js_operand_laws.proofs.Operands.{name_outcome}
 use Rattle.js_operands.proofs.primary.parse_name_or_function.Goals as goal
 
 pub parse_function_expression-requires-clause-at : goal.parse_function_expression-requires-clause-at

@@ -1,6 +1,6 @@
 use Rattle.std.proofs.Common.{refl}
 use Rattle.js_parsing.proofs.Signs.{whole_sign}
-use Rattle.js_operands.proofs.Operands.{number_outcome, number_passable}
+use Rattle.js_operand_laws.proofs.Operands.{number_outcome, number_passable}
 use Rattle.js_operands.proofs.primary.parse_number.Goals as goal
 
 pub returns : goal.returns

@@ -9,7 +9,7 @@ use Rattle.js_cursor.specs.Moves.{Opened}
 use Rattle.js_parsing.proofs.Bracketed.{opened_here, opened_later}
 use Rattle.js_parsing.proofs.Moving.{standing, stops_behind, same_both}
 use Rattle.js_parsing.proofs.Nesting.{nested_room, nests_later}
-use Rattle.js_operands.proofs.Parentheses.{expression_fails, close_fails, paren_answers, unclosed, paren_whole}
+use Rattle.js_operand_laws.proofs.Parentheses.{expression_fails, close_fails, paren_answers, unclosed, paren_whole}
 use Rattle.js_tree.specs.Nodes.{Node}
 use Rattle.js_cursor.specs.Parsers.{Parser}
 use Rattle.std.proofs.Common.{List, ◌<◌, length}

@@ -8,10 +8,10 @@ use Rattle.js_parsing.proofs.Escapes.{plain_here, word_plain, no_name_where}
 use Rattle.js_parsing.proofs.Giving.{gives_up_here}
 use Rattle.js_parsing.proofs.NameKinds.{name_at, name_so}
 use Rattle.js_parsing.proofs.Signs.{whole_sign}
-use Rattle.js_operands.proofs.Operands.{escaped_fails, leaf_outcome, this_path, null_path, true_path, false_path, string_path, primary_fails, none_of_these}
+use Rattle.js_operand_laws.proofs.Operands.{escaped_fails, leaf_outcome, this_path, null_path, true_path, false_path, string_path, primary_fails, none_of_these}
 use Rattle.js_parsing.specs.Lexemes.{slashes}
-use Rattle.js_operands.specs.Templates.{heads}
-use Rattle.js_operands.proofs.RegularExpressions.{no_pattern_here}
+use Rattle.js_operand_laws.specs.Templates.{heads}
+use Rattle.js_operand_laws.proofs.RegularExpressions.{no_pattern_here}
 use Rattle.js_operands.proofs.primary.parse_primary_expression.Goals as goal
 
 pub returns-then-escaped_word_stands : goal.returns-then-escaped_word_stands

@@ -3,7 +3,7 @@ use Rattle.js_base.specs.declared.diagnostic.Diagnostic.{Diagnostic}
 use Rattle.js_base.specs.declared.diagnostic.DiagnosticKind.TheVariants as fault
 use Rattle.js_grammar.specs.Marks.{Mark}
 use Rattle.js_cursor.specs.Places.{goal as goal_at}
-use Rattle.js_operands.specs.Supers.{callee_from}
+use Rattle.js_operand_laws.specs.Supers.{callee_from}
 use Rattle.js_operands.proofs.super_word.check_new_callee.Goals as goal
 use Rattle.js_parsing.specs.Told.{unrelated_at}
 

@@ -4,7 +4,7 @@ use Rattle.js_base.specs.declared.kind.Kind.TheVariants.{RAngle}
 use Rattle.js_base.specs.declared.token.Token.{Token}
 use Rattle.js_parsing.specs.Moves.{unpassable}
 use Rattle.js_parsing.proofs.Here.{uncut}
-use Rattle.js_operands.proofs.Supers.{alone_marked, super_taken}
+use Rattle.js_operand_laws.proofs.Supers.{alone_marked, super_taken}
 use Rattle.js_operands.proofs.super_word.parse_super.Goals as goal
 
 pub advance-requires-clause-whole : goal.advance-requires-clause-whole

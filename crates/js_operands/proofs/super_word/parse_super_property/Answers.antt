@@ -1,6 +1,6 @@
-use Rattle.js_operands.specs.declared.left_hand_side.LinkBase.TheVariants as base
-use Rattle.js_operands.proofs.Members.{here_so, member_too}
-use Rattle.js_operands.proofs.Supers.{property_outcome, super_alone}
+use Rattle.js_operand_laws.specs.declared.forms.LinkBase.TheVariants as base
+use Rattle.js_operand_laws.proofs.Members.{here_so, member_too}
+use Rattle.js_operand_laws.proofs.Supers.{property_outcome, super_alone}
 use Rattle.js_operands.proofs.super_word.parse_super_property.Goals as goal
 
 pub returns-then-not-link_here : goal.returns-then-not-link_here

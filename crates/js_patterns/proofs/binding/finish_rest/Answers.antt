@@ -1,7 +1,7 @@
 use Rattle.std.proofs.Common.{◌∙◌, arith, sym}
 use Rattle.std.proofs.lemmas.Bool.{false≢true}
 use Rattle.std.proofs.lemmas.Result.{err_from_is_err_and}
-use Rattle.js_patterns.proofs.RestInitialisers.{finish_stops, finished_alone, finished_with}
+use Rattle.js_pattern_laws.proofs.RestInitialisers.{finish_stops, finished_alone, finished_with}
 use Rattle.js_patterns.proofs.binding.finish_rest.Goals as goal
 
 pub end_span-span-requires : goal.end_span-span-requires

@@ -5,7 +5,7 @@ use Rattle.js_base.specs.declared.kind.Kind.TheVariants.{Eq}
 use Rattle.js_parsing.proofs.Signs.{whole_sign}
 use Rattle.js_parsing.proofs.Moving.{standing, stops_so}
 use Rattle.js_parsing.proofs.Nesting.{nests_later, nested_room, later_room}
-use Rattle.js_patterns.proofs.Bindings.{element_alone, element_with, no_element, no_value}
+use Rattle.js_pattern_laws.proofs.Bindings.{element_alone, element_with, no_element, no_value}
 use Rattle.js_patterns.proofs.binding.parse_binding_element.Goals as goal
 
 pub returns-in_err-binding : goal.returns-in_err-binding

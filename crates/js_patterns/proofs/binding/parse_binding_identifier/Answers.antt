@@ -1,4 +1,4 @@
-use Rattle.js_patterns.proofs.Bindings.{name_outcome, no_binding}
+use Rattle.js_pattern_laws.proofs.Bindings.{name_outcome, no_binding}
 use Rattle.js_parsing.proofs.Giving.{gives_up_here}
 use Rattle.js_parsing.proofs.NodeTexts.{name_word}
 use Rattle.js_parsing.proofs.NameKinds.{listed_here, name_so, name_whole}

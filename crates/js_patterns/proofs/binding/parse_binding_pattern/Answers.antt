@@ -1,5 +1,5 @@
 use Rattle.js_base.specs.declared.kind.Kind.TheVariants.{LBrack, LCurly}
-use Rattle.js_operands.proofs.Members.{stands_so}
+use Rattle.js_operand_laws.proofs.Members.{stands_so}
 use Rattle.js_patterns.proofs.binding.parse_binding_pattern.Goals as goal
 
 pub parse_array_pattern-requires-clause-open : goal.parse_array_pattern-requires-clause-open

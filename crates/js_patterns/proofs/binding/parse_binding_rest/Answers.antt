@@ -3,8 +3,8 @@ use Rattle.std.proofs.lemmas.Result.{err_from_is_err_and}
 use Rattle.js_base.specs.declared.kind.Kind.TheVariants.{Dot3}
 use Rattle.js_grammar.specs.Productions.{Binding}
 use Rattle.js_grammar.specs.Productions.{sym as symbol}
-use Rattle.js_patterns.proofs.Bindings.{binding_bound, no_rest, rest_outcome}
-use Rattle.js_patterns.proofs.RestInitialisers.{rest_begins}
+use Rattle.js_pattern_laws.proofs.Bindings.{binding_bound, no_rest, rest_outcome}
+use Rattle.js_pattern_laws.proofs.RestInitialisers.{rest_begins}
 use Rattle.js_parsing.proofs.Signs.{whole_sign}
 use Rattle.js_parsing.proofs.Moving.{standing, stops_behind}
 use Rattle.js_parsing.proofs.Nesting.{later_room, nested_room, nests_later}

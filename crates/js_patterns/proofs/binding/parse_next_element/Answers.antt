@@ -1,6 +1,6 @@
 use Rattle.std.proofs.Common.{sym, ◌∙◌}
 use Rattle.std.proofs.lemmas.Bool.{false≢true}
-use Rattle.js_patterns.proofs.PatternLists.{pattern_closed}
+use Rattle.js_pattern_laws.proofs.PatternLists.{pattern_closed}
 use Rattle.js_patterns.proofs.binding.parse_next_element.Goals as goal
 
 pub returns-in-RBrack : goal.returns-in-RBrack

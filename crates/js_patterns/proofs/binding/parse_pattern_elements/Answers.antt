@@ -1,8 +1,8 @@
 use Rattle.std.proofs.Common.{[], ◌≡◌, arith}
 use Rattle.std.proofs.lemmas.Result.{err_from_is_err_and}
 use Rattle.js_base.specs.declared.kind.Kind.TheVariants.{RBrack}
-use Rattle.js_patterns.specs.Bindings.{elements_left}
-use Rattle.js_patterns.proofs.Lists.{loop_end, loop_less, loop_more, loop_start, loop_stops, more_so}
+use Rattle.js_pattern_laws.specs.Bindings.{elements_left}
+use Rattle.js_pattern_laws.proofs.Lists.{loop_end, loop_less, loop_more, loop_start, loop_stops, more_so}
 use Rattle.js_parsing.proofs.Nesting.{nests_later}
 use Rattle.js_patterns.proofs.binding.parse_pattern_elements.Goals as goal
 

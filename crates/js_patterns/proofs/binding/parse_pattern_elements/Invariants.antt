@@ -1,7 +1,7 @@
 use Rattle.std.specs.Prelude.{[]}
 use Rattle.js_parsing.specs.Nesting.{room}
-use Rattle.js_patterns.specs.Bindings.{elements_left}
-use Rattle.js_patterns.proofs.Lists.{ListLoop}
+use Rattle.js_pattern_laws.specs.Bindings.{elements_left}
+use Rattle.js_pattern_laws.proofs.Lists.{ListLoop}
 use Rattle.js_patterns.proofs.binding.parse_pattern_elements.Given as goal
 
 abbrev pub invariant-elements : goal.invariant-elements

@@ -1,4 +1,4 @@
-use Rattle.js_patterns.proofs.Accessors.{peeked_beside}
+use Rattle.js_pattern_laws.proofs.Accessors.{peeked_beside}
 use Rattle.js_patterns.proofs.method_parameters.kind_behind.Goals as goal
 
 pub returns : goal.returns

@@ -1,6 +1,6 @@
 use Rattle.js_parsing.specs.Methods.{parameters_of}
 use Rattle.js_parsing.specs.declared.nested.MethodForm.TheVariants.{Getter}
-use Rattle.js_patterns.proofs.Accessors.{getter_told, whole_there}
+use Rattle.js_pattern_laws.proofs.Accessors.{getter_told, whole_there}
 use Rattle.js_patterns.proofs.method_parameters.parse_getter_parameters.Goals as goal
 
 pub returns-in-RParen : goal.returns-in-RParen

@@ -5,12 +5,12 @@ use Rattle.js_base.specs.declared.token.Token.{Token}
 use Rattle.js_base.specs.declared.kind.Kind.TheVariants.{LParen, LBrack, LCurly, TemplateHead, TemplateMiddle}
 use Rattle.js_base.specs.Kinds.{one_of_kinds}
 use Rattle.js_cursor.specs.Moves.{Opened}
-use Rattle.js_operands.proofs.Parentheses.{paren_whole, unclosed}
+use Rattle.js_operand_laws.proofs.Parentheses.{paren_whole, unclosed}
 use Rattle.js_parsing.proofs.Bracketed.{opened_here, opened_later}
 use Rattle.js_parsing.proofs.Moving.{same_both, standing}
 use Rattle.js_parsing.proofs.Nesting.{later_room, nested_room, nests_later}
-use Rattle.js_patterns.proofs.Accessors.{parentheses_begin}
-use Rattle.js_patterns.proofs.MethodParameters.{no_parameter, one_between, parameters_taken, setter_unclosed, with_parameter}
+use Rattle.js_pattern_laws.proofs.Accessors.{parentheses_begin}
+use Rattle.js_pattern_laws.proofs.MethodParameters.{no_parameter, one_between, parameters_taken, setter_unclosed, with_parameter}
 use Rattle.js_patterns.proofs.method_parameters.parse_one_parameter.Goals as goal
 
 pub advance-requires-clause-whole : goal.advance-requires-clause-whole

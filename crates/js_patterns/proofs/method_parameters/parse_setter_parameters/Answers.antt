@@ -3,8 +3,8 @@ use Rattle.js_base.specs.declared.diagnostic.DiagnosticKind.TheVariants.{SetterW
 use Rattle.js_base.specs.Kinds.{one_of_kinds}
 use Rattle.js_parsing.specs.Methods.{parameters_of}
 use Rattle.js_parsing.specs.declared.nested.MethodForm.TheVariants.{Setter}
-use Rattle.js_patterns.specs.Accessors.{beside_parameters}
-use Rattle.js_patterns.proofs.Accessors.{setter_told, whole_there}
+use Rattle.js_pattern_laws.specs.Accessors.{beside_parameters}
+use Rattle.js_pattern_laws.proofs.Accessors.{setter_told, whole_there}
 use Rattle.js_patterns.proofs.method_parameters.parse_setter_parameters.Goals as goal
 
 pub returns-in-RParen : goal.returns-in-RParen

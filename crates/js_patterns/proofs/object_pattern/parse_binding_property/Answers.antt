@@ -3,7 +3,7 @@ use Rattle.std.proofs.lemmas.Result.{err_from_is_err_and}
 use Rattle.js_parsing.proofs.Moving.{standing, stops_so}
 use Rattle.js_parsing.proofs.NameKinds.{name_so}
 use Rattle.js_parsing.proofs.Nesting.{nests_later, later_room}
-use Rattle.js_patterns.proofs.ObjectPatterns.{no_property, no_shorthand_there}
+use Rattle.js_pattern_laws.proofs.ObjectPatterns.{no_property, no_shorthand_there}
 use Rattle.js_patterns.proofs.object_pattern.parse_binding_property.Goals as goal
 
 pub parse_named_property-requires-clause-name : goal.parse_named_property-requires-clause-name

@@ -7,7 +7,7 @@ use Rattle.js_parsing.proofs.Giving.{memory_stops}
 use Rattle.js_parsing.proofs.Moving.{standing}
 use Rattle.js_parsing.proofs.Nesting.{nests_later, nested_room}
 use Rattle.js_parsing.proofs.Signs.{whole_sign}
-use Rattle.js_patterns.proofs.ObjectPatterns.{at_here, bound_alone, bound_initialised, value_stops}
+use Rattle.js_pattern_laws.proofs.ObjectPatterns.{at_here, bound_alone, bound_initialised, value_stops}
 use Rattle.js_patterns.proofs.object_pattern.parse_name_initialiser.Goals as goal
 
 pub returns-then-not-at-clause-answers : goal.returns-then-not-at-clause-answers

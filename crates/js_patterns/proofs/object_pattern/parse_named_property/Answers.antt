@@ -8,7 +8,7 @@ use Rattle.js_parsing.proofs.Moving.{standing}
 use Rattle.js_parsing.proofs.NameKinds.{listed_here, name_at, name_whole}
 use Rattle.js_parsing.proofs.Nesting.{nests_later, later_room}
 use Rattle.js_parsing.proofs.NodeTexts.{name_word, spells_later}
-use Rattle.js_patterns.proofs.ObjectPatterns.{name_named, name_place, no_shorthand_named}
+use Rattle.js_pattern_laws.proofs.ObjectPatterns.{name_named, name_place, no_shorthand_named}
 use Rattle.js_patterns.proofs.object_pattern.parse_named_property.Goals as goal
 
 pub parse_name-requires-clause-whole : goal.parse_name-requires-clause-whole

@@ -9,9 +9,9 @@ use Rattle.js_parsing.specs.Classes.{EndsParse}
 use Rattle.js_parsing.proofs.Signs.{whole_sign}
 use Rattle.js_parsing.proofs.Moving.{standing}
 use Rattle.js_parsing.proofs.Nesting.{later_room, nested_room, nests_later}
-use Rattle.js_patterns.proofs.BehindRests.{rest_marked}
-use Rattle.js_patterns.proofs.ObjectRests.{argument_stops, binds_so, named_bound, rest_further, rest_same, unnamed_marked, unnamed_stops}
-use Rattle.js_patterns.proofs.RestInitialisers.{rest_begins}
+use Rattle.js_pattern_laws.proofs.BehindRests.{rest_marked}
+use Rattle.js_pattern_laws.proofs.ObjectRests.{argument_stops, binds_so, named_bound, rest_further, rest_same, unnamed_marked, unnamed_stops}
+use Rattle.js_pattern_laws.proofs.RestInitialisers.{rest_begins}
 use Rattle.js_patterns.proofs.object_pattern.parse_named_rest.Goals as goal
 
 pub advance-requires-clause-whole : goal.advance-requires-clause-whole

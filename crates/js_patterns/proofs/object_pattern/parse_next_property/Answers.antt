@@ -1,6 +1,6 @@
 use Rattle.std.proofs.Common.{sym, ◌∙◌}
 use Rattle.std.proofs.lemmas.Bool.{false≢true}
-use Rattle.js_patterns.proofs.ObjectLists.{properties_closed}
+use Rattle.js_pattern_laws.proofs.ObjectLists.{properties_closed}
 use Rattle.js_patterns.proofs.object_pattern.parse_next_property.Goals as goal
 
 pub returns-in-RCurly : goal.returns-in-RCurly

@@ -4,7 +4,7 @@ use Rattle.js_base.specs.declared.kind.Kind.TheVariants.{Colon}
 use Rattle.js_parsing.proofs.Expected.{expected}
 use Rattle.js_parsing.proofs.Moving.{standing}
 use Rattle.js_parsing.proofs.Nesting.{nests_later, nested_room}
-use Rattle.js_patterns.proofs.ObjectPatterns.{colon_stops, element_stops, property_answers}
+use Rattle.js_pattern_laws.proofs.ObjectPatterns.{colon_stops, element_stops, property_answers}
 use Rattle.js_patterns.proofs.object_pattern.parse_property_value.Goals as goal
 
 pub returns-in_err-expect : goal.returns-in_err-expect

@@ -2,10 +2,10 @@ use Rattle.std.proofs.Common.{◌∙◌, refl, arith, sym, subst}
 use Rattle.std.proofs.lemmas.Bool.{false≢true}
 use Rattle.std.proofs.lemmas.Result.{err_from_is_err_and}
 use Rattle.js_base.specs.declared.diagnostic.DiagnosticKind.TheVariants.{BindingRestElementLast}
-use Rattle.js_patterns.proofs.BehindRests.{rest_marked}
-use Rattle.js_patterns.proofs.Lists.{more_stops, one_and_more}
+use Rattle.js_pattern_laws.proofs.BehindRests.{rest_marked}
+use Rattle.js_pattern_laws.proofs.Lists.{more_stops, one_and_more}
 use Rattle.js_parsing.proofs.Moving.{standing}
-use Rattle.js_patterns.proofs.ObjectLists.{rest_stops, rest_taken}
+use Rattle.js_pattern_laws.proofs.ObjectLists.{rest_stops, rest_taken}
 use Rattle.js_patterns.proofs.object_pattern.parse_rest_property.Goals as goal
 use Rattle.js_parsing.specs.Classes.{EndsParse}
 

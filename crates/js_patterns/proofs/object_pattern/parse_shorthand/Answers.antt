@@ -1,7 +1,7 @@
 use Rattle.std.proofs.Common.{arith, ap, ◌∙◌}
 use Rattle.std.proofs.lemmas.Result.{err_from_is_err_and}
 use Rattle.js_base.specs.declared.span.Span.{Span}
-use Rattle.js_patterns.proofs.ObjectPatterns.{bound_stops, made_at, made_nests, name_passed, shorthand_answers}
+use Rattle.js_pattern_laws.proofs.ObjectPatterns.{bound_stops, made_at, made_nests, name_passed, shorthand_answers}
 use Rattle.js_patterns.proofs.object_pattern.parse_shorthand.Goals as goal
 
 pub parse_name_initialiser-requires-clause-at : goal.parse_name_initialiser-requires-clause-at

@@ -4,7 +4,7 @@ use Rattle.js_parsing.specs.Classes.{EndsParse}
 use Rattle.js_parsing.proofs.Giving.{gives_up}
 use Rattle.js_parsing.proofs.Moving.{stops_behind, stops_so}
 use Rattle.js_parsing.proofs.Verdicts.{after}
-use Rattle.js_patterns.proofs.BehindRests.{mark_later}
+use Rattle.js_pattern_laws.proofs.BehindRests.{mark_later}
 use Rattle.js_patterns.proofs.object_pattern.refuse_rest.Goals as goal
 
 pub set_fatal_error-requires-clause-at : goal.set_fatal_error-requires-clause-at

@@ -5,7 +5,7 @@ use Rattle.js_base.specs.declared.kind.Kind.TheVariants.{Eq}
 use Rattle.js_parsing.proofs.Signs.{whole_sign}
 use Rattle.js_parsing.proofs.Moving.{standing, stops_so}
 use Rattle.js_parsing.proofs.Nesting.{nests_later, nested_room, later_room}
-use Rattle.js_patterns.proofs.ParameterLists.{alone_answers, binding_fails, no_initialiser, with_initialiser}
+use Rattle.js_pattern_laws.proofs.ParameterLists.{alone_answers, binding_fails, no_initialiser, with_initialiser}
 use Rattle.js_patterns.proofs.parameters.parse_formal_parameter.Goals as goal
 
 pub parse_binding_pattern-requires-clause-nests : goal.parse_binding_pattern-requires-clause-nests

@@ -9,9 +9,9 @@ use Rattle.js_cursor.specs.Moves.{Opened}
 use Rattle.js_parsing.proofs.Bracketed.{opened_here, opened_later}
 use Rattle.js_parsing.proofs.Moving.{standing, stops_behind}
 use Rattle.js_parsing.proofs.Nesting.{nested_room, nests_later}
-use Rattle.js_operands.proofs.Parentheses.{paren_whole, unclosed}
-use Rattle.js_patterns.proofs.Lists.{list_goes_on, list_stops}
-use Rattle.js_patterns.proofs.ParameterLists.{behind_children, list_answers, list_begins, no_params, unclosed_list}
+use Rattle.js_operand_laws.proofs.Parentheses.{paren_whole, unclosed}
+use Rattle.js_pattern_laws.proofs.Lists.{list_goes_on, list_stops}
+use Rattle.js_pattern_laws.proofs.ParameterLists.{behind_children, list_answers, list_begins, no_params, unclosed_list}
 use Rattle.js_parsing.proofs.Verdicts.{after}
 use Rattle.js_parsing.proofs.Moving.{stops_so}
 use Rattle.js_patterns.proofs.parameters.parse_formal_parameters.Goals as goal

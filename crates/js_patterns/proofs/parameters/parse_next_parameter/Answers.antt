@@ -1,6 +1,6 @@
 use Rattle.std.proofs.Common.{sym, ◌∙◌}
 use Rattle.std.proofs.lemmas.Bool.{false≢true}
-use Rattle.js_patterns.proofs.ParameterLists.{list_closed}
+use Rattle.js_pattern_laws.proofs.ParameterLists.{list_closed}
 use Rattle.js_patterns.proofs.parameters.parse_next_parameter.Goals as goal
 
 pub returns-in-RParen : goal.returns-in-RParen

@@ -1,6 +1,6 @@
 use Rattle.std.proofs.Common.{◌∙◌, arith}
 use Rattle.std.proofs.lemmas.Result.{err_from_is_err_and}
-use Rattle.js_patterns.proofs.Bindings.{no_rest_parameter, rest_parameter}
+use Rattle.js_pattern_laws.proofs.Bindings.{no_rest_parameter, rest_parameter}
 use Rattle.js_parsing.proofs.Moving.{stops_so}
 use Rattle.js_patterns.proofs.parameters.parse_rest_parameter.Goals as goal
 

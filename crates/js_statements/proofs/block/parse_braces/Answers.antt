@@ -10,8 +10,8 @@ use Rattle.js_parsing.proofs.Bracketed.{opened_here, opened_later}
 use Rattle.js_parsing.proofs.Moving.{standing, stops_behind}
 use Rattle.js_parsing.proofs.Nesting.{nested_room, nests_later}
 use Rattle.js_parsing.proofs.Verdicts.{grown_then}
-use Rattle.js_statements.proofs.Blocks.{braces_taken, braces_unclosed, closed_by, list_refused, unopened}
-use Rattle.js_statements.proofs.CompoundStatements.{expected, unexpected}
+use Rattle.js_statement_laws.proofs.Blocks.{braces_taken, braces_unclosed, closed_by, list_refused, unopened}
+use Rattle.js_statement_laws.proofs.CompoundStatements.{expected, unexpected}
 use Rattle.js_statements.proofs.block.parse_braces.Goals as goal
 
 pub returns-in_err-expect : goal.returns-in_err-expect

@@ -1,7 +1,7 @@
 use Rattle.std.proofs.Common.{arith, ◌∙◌}
 use Rattle.std.proofs.lemmas.Result.{err_from_is_err_and}
 use Rattle.js_parsing.proofs.Moving.{stops_so}
-use Rattle.js_statements.proofs.FunctionStatements.{item_answers, no_item}
+use Rattle.js_statement_laws.proofs.FunctionStatements.{item_answers, no_item}
 use Rattle.js_statements.proofs.function_statement.parse_function_declaration.Goals as goal
 
 pub returns-in_err-parts : goal.returns-in_err-parts

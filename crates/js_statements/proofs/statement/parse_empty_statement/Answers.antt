@@ -1,4 +1,4 @@
-use Rattle.js_statements.proofs.Statements.{empty_outcome, whole_semicolon}
+use Rattle.js_statement_laws.proofs.Statements.{empty_outcome, whole_semicolon}
 use Rattle.js_statements.proofs.statement.parse_empty_statement.Goals as goal
 
 pub parse_leaf-requires-clause-whole : goal.parse_leaf-requires-clause-whole

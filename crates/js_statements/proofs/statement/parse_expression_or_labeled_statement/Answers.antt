@@ -9,8 +9,8 @@ use Rattle.js_parsing.proofs.Nesting.{nests_later, later_room}
 use Rattle.js_parsing.proofs.NodeTexts.{name_word, spells_later}
 use Rattle.js_parsing.proofs.NameKinds.{listed_name}
 use Rattle.js_parsing.proofs.Verdicts.{after}
-use Rattle.js_statements.proofs.Statements.{ended_so, in_of, no_colon, no_label, no_label_here, statement_answers, statement_fails, statement_unended}
-use Rattle.js_statements.proofs.WordLookaheads.{async_named}
+use Rattle.js_statement_laws.proofs.Statements.{ended_so, in_of, no_colon, no_label, no_label_here, statement_answers, statement_fails, statement_unended}
+use Rattle.js_statement_laws.proofs.WordLookaheads.{async_named}
 use Rattle.js_statements.proofs.statement.parse_expression_or_labeled_statement.Goals as goal
 
 pub returns-in_err-expression : goal.returns-in_err-expression
@@ -23,7 +23,7 @@ pub returns-in_err-end_statement : goal.returns-in_err-end_statement
 returns-in_err-end_statement t c = λ b u text f a.
     let p = err_from_is_err_and c.from_residual-in_err-end_statement.result c.from_residual-in_err-end_statement.ensures.1 in
     let x = (c.in_ok-expression.ensures.answers text f a).answer in
-    rw (p.1, p.2) (stops_behind _ _ x.same (λ g. after x.verdict g) (λ m. statement_unended a c.requires.other (no_label a x (no_colon c.args.p.now c.parse_sequence_expression.new.p c.cur_token-first.ensures c.is_label.ensures c.if-is_label.false)) (async_named a c.requires.no_function) b (u text f a) x m) c.in_err-end_statement.ensures)
+    rw (p.1, p.2) (stops_behind _ _ x.same (λ g. after x.verdict g) (λ m. statement_unended a c.requires.other (no_label a x (no_colon c.args.p.now c.sequence.new.p c.cur_token-first.ensures c.is_label.ensures c.if-is_label.false)) (async_named a c.requires.no_function) b (u text f a) x m) c.in_err-end_statement.ensures)
 
 pub end_span-span-requires : goal.end_span-span-requires
 end_span-span-requires t c =
@@ -32,7 +32,7 @@ end_span-span-requires t c =
     let a = x.further in let b = z.further in let d = x.at.behind in let s = c.cur_start-start.ensures in omega arith
 
 pub returns : goal.returns
-returns t c = λ b u text f a. statement_answers a c.requires.other (no_label a (c.in_ok-expression.ensures.answers text f a).answer (no_colon c.args.p.now c.parse_sequence_expression.new.p c.cur_token-first.ensures c.is_label.ensures c.if-is_label.false)) (async_named a c.requires.no_function) b _ (u text f a) (in_of a c.requires.allows_in) (c.in_ok-expression.ensures.answers text f a) c.in_ok-end_statement.ensures (c.end_span-span.ensures.start ∙ c.cur_start-start.ensures) c.end_span-span.ensures.end c.in_ok-node.ensures
+returns t c = λ b u text f a. statement_answers a c.requires.other (no_label a (c.in_ok-expression.ensures.answers text f a).answer (no_colon c.args.p.now c.sequence.new.p c.cur_token-first.ensures c.is_label.ensures c.if-is_label.false)) (async_named a c.requires.no_function) b _ (u text f a) (in_of a c.requires.allows_in) (c.in_ok-expression.ensures.answers text f a) c.in_ok-end_statement.ensures (c.end_span-span.ensures.start ∙ c.cur_start-start.ensures) c.end_span-span.ensures.end c.in_ok-node.ensures
 
 pub parse_labeled_statement_rest-requires-clause-at : goal.parse_labeled_statement_rest-requires-clause-at
 parse_labeled_statement_rest-requires-clause-at t c = standing (c.in_ok-expression.ensures.answers _ _ c.requires.at).answer.at
@@ -52,10 +52,10 @@ pub parse_labeled_statement_rest-requires-clause-start : goal.parse_labeled_stat
 parse_labeled_statement_rest-requires-clause-start t c = let i = (c.in_ok-expression.ensures.answers _ _ c.requires.at).answer.further in let s = ap (λ (s : Span). s.start) (ap (λ (t : Token). t.span) c.cur_token-first.ensures) in omega arith
 
 pub returns-then-is_label : goal.returns-then-is_label
-returns-then-is_label t c = λ b u text f a. c.parse_labeled_statement_rest.ensures text f c.args.p.now _ a (ap (λ (t : Token). t.span) c.cur_token-first.ensures) (c.in_ok-expression.ensures.answers text f a) (subst (λ (t : Token). IsLabel t c.parse_sequence_expression.new.p) c.cur_token-first.ensures (c.is_label.ensures.0 c.if-is_label.true)) b
+returns-then-is_label t c = λ b u text f a. c.parse_labeled_statement_rest.ensures text f c.args.p.now _ a (ap (λ (t : Token). t.span) c.cur_token-first.ensures) (c.in_ok-expression.ensures.answers text f a) (subst (λ (t : Token). IsLabel t c.sequence.new.p) c.cur_token-first.ensures (c.is_label.ensures.0 c.if-is_label.true)) b
 
 pub parse_labeled_statement_rest-requires-clause-spells : goal.parse_labeled_statement_rest-requires-clause-spells
 parse_labeled_statement_rest-requires-clause-spells t c =
     let x = (c.in_ok-expression.ensures.answers _ _ c.requires.at).answer in
-    let i : IsLabel c.args.p.now.token c.parse_sequence_expression.new.p = subst (λ (t : Token). IsLabel t c.parse_sequence_expression.new.p) c.cur_token-first.ensures (c.is_label.ensures.0 c.if-is_label.true) in
-    spells_later c.requires.at (name_word c.args.p.now.token.kind (listed_name (has_flag yield_flag c.parse_sequence_expression.new.p.ctx) (has_flag await_flag c.parse_sequence_expression.new.p.ctx) c.args.p.now.token.kind i.name)) c.cur_token-first.ensures x.same.follows.text
+    let i : IsLabel c.args.p.now.token c.sequence.new.p = subst (λ (t : Token). IsLabel t c.sequence.new.p) c.cur_token-first.ensures (c.is_label.ensures.0 c.if-is_label.true) in
+    spells_later c.requires.at (name_word c.args.p.now.token.kind (listed_name (has_flag yield_flag c.sequence.new.p.ctx) (has_flag await_flag c.sequence.new.p.ctx) c.args.p.now.token.kind i.name)) c.cur_token-first.ensures x.same.follows.text

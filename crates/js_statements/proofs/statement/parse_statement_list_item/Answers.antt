@@ -7,10 +7,10 @@ use Rattle.js_parsing.specs.Nesting.{room}
 use Rattle.js_parsing.specs.Stands.{StandsHere}
 use Rattle.js_parsing.specs.States.{Standing}
 use Rattle.js_parsing.proofs.Nesting.{nests_later}
-use Rattle.js_operands.specs.Functions.{NoFunctionHere}
-use Rattle.js_operands.proofs.AsyncWords.{begun_at, found_so}
-use Rattle.js_statements.specs.LetStatements.{NoLet}
-use Rattle.js_statements.proofs.LetStatements.{found_lexical, none_found, taken_from}
+use Rattle.js_operand_laws.specs.Functions.{NoFunctionHere}
+use Rattle.js_operand_laws.proofs.AsyncWords.{begun_at, found_so}
+use Rattle.js_statement_laws.specs.LetStatements.{NoLet}
+use Rattle.js_statement_laws.proofs.LetStatements.{found_lexical, none_found, taken_from}
 use Rattle.js_statements.proofs.statement.parse_statement_list_item.Goals as goal
 
 pub returns-in-Some : goal.returns-in-Some

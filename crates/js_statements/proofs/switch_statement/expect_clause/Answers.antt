@@ -4,7 +4,7 @@ use Rattle.js_base.specs.declared.diagnostic.DiagnosticKind.TheVariants.{ExpectS
 use Rattle.js_base.specs.declared.span.Span.{Span}
 use Rattle.js_parsing.specs.Told.{unrelated_at}
 use Rattle.js_parsing.proofs.Giving.{gives_up_here}
-use Rattle.js_statements.proofs.SwitchStatements.{due_here, due_marked, due_stops, undue_here}
+use Rattle.js_statement_laws.proofs.SwitchStatements.{due_here, due_marked, due_stops, undue_here}
 use Rattle.js_statements.proofs.switch_statement.expect_clause.Goals as goal
 
 pub returns-then-is_clause_due : goal.returns-then-is_clause_due

@@ -5,8 +5,8 @@ use Rattle.js_base.specs.declared.kind.Kind.TheVariants.{LCurly, RCurly}
 use Rattle.js_parsing.proofs.Moving.{standing}
 use Rattle.js_parsing.proofs.Nesting.{nested_room, nests_later}
 use Rattle.js_parsing.proofs.Signs.{whole_sign}
-use Rattle.js_statements.proofs.CompoundStatements.{expected, unexpected}
-use Rattle.js_statements.proofs.SwitchStatements.{block_taken, clauses_stop, no_block_here}
+use Rattle.js_statement_laws.proofs.CompoundStatements.{expected, unexpected}
+use Rattle.js_statement_laws.proofs.SwitchStatements.{block_taken, clauses_stop, no_block_here}
 use Rattle.js_statements.proofs.switch_statement.parse_case_block.Goals as goal
 
 pub returns-in_err-expect : goal.returns-in_err-expect

@@ -4,8 +4,8 @@ use Rattle.js_base.specs.Contexts.{has_flag, in_flag}
 use Rattle.js_base.specs.declared.kind.Kind.TheVariants.{Colon}
 use Rattle.js_parsing.proofs.Moving.{standing}
 use Rattle.js_parsing.proofs.Nesting.{later_room, nested_room, nests_later}
-use Rattle.js_statements.proofs.CompoundStatements.{expected}
-use Rattle.js_statements.proofs.SwitchStatements.{begins_one, clause_further, clause_read, colon_missing, headed_same, list_stops}
+use Rattle.js_statement_laws.proofs.CompoundStatements.{expected}
+use Rattle.js_statement_laws.proofs.SwitchStatements.{begins_one, clause_further, clause_read, colon_missing, headed_same, list_stops}
 use Rattle.js_statements.proofs.switch_statement.parse_clause.Goals as goal
 
 pub returns-in_err-test-clause-read : goal.returns-in_err-test-clause-read

@@ -4,8 +4,8 @@ use Rattle.js_base.specs.Contexts.{has_flag, in_flag}
 use Rattle.js_base.specs.declared.kind.Kind.TheVariants.{Switch}
 use Rattle.js_parsing.proofs.Moving.{standing}
 use Rattle.js_parsing.proofs.Nesting.{later_room, nested_room, nests_later}
-use Rattle.js_statements.proofs.SwitchStatements.{case_block_stops, switch_answers, switch_further, switch_same, switch_stops}
-use Rattle.js_statements.proofs.WordStatements.{word_here}
+use Rattle.js_statement_laws.proofs.SwitchStatements.{case_block_stops, switch_answers, switch_further, switch_same, switch_stops}
+use Rattle.js_statement_laws.proofs.WordStatements.{word_here}
 use Rattle.js_statements.proofs.switch_statement.parse_switch_statement.Goals as goal
 
 pub advance-requires-clause-whole : goal.advance-requires-clause-whole

@@ -6,7 +6,7 @@ use Rattle.js_base.specs.Diagnostics.{class_of}
 use Rattle.js_cursor.specs.Places.{IsAt}
 use Rattle.js_parsing.proofs.Moving.{standing}
 use Rattle.js_parsing.proofs.Nesting.{later_room, nests_later}
-use Rattle.js_statements.proofs.TryStatements.{clauses_missing, clauses_read, clauses_refused, handler_refused, handler_state, missing_marked, missing_state}
+use Rattle.js_statement_laws.proofs.TryStatements.{clauses_missing, clauses_read, clauses_refused, handler_refused, handler_state, missing_marked, missing_state}
 use Rattle.js_statements.proofs.try_statement.parse_clauses.Goals as goal
 
 pub returns-in_err-handler : goal.returns-in_err-handler

@@ -2,12 +2,12 @@ use Rattle.std.proofs.Common.{◌∙◌, ap, arith, refl}
 use Rattle.std.proofs.lemmas.Result.{err_from_is_err_and}
 use Rattle.js_base.specs.Contexts.{has_flag, in_flag}
 use Rattle.js_base.specs.declared.kind.Kind.TheVariants.{Finally}
-use Rattle.js_operands.proofs.Members.{stands_so}
+use Rattle.js_operand_laws.proofs.Members.{stands_so}
 use Rattle.js_parsing.proofs.Moving.{standing}
 use Rattle.js_parsing.proofs.Nesting.{nested_room, nests_later}
-use Rattle.js_statements.proofs.TryStatements.{finally_stops, finally_taken, part_memory, part_stops}
-use Rattle.js_statements.proofs.WordStatements.{word_here}
-use Rattle.js_statements.specs.TryStatements.{finally_of}
+use Rattle.js_statement_laws.proofs.TryStatements.{finally_stops, finally_taken, part_memory, part_stops}
+use Rattle.js_statement_laws.proofs.WordStatements.{word_here}
+use Rattle.js_statement_laws.specs.TryStatements.{finally_of}
 use Rattle.js_statements.proofs.try_statement.parse_finally.Goals as goal
 
 pub returns-then-not-stands : goal.returns-then-not-stands

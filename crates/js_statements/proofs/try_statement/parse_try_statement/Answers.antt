@@ -4,8 +4,8 @@ use Rattle.js_base.specs.Contexts.{has_flag, in_flag}
 use Rattle.js_base.specs.declared.kind.Kind.TheVariants.{Try}
 use Rattle.js_parsing.proofs.Moving.{standing}
 use Rattle.js_parsing.proofs.Nesting.{later_room, nested_room, nests_later}
-use Rattle.js_statements.proofs.TryStatements.{block_edge, block_stops, clauses_stop, tried_same, try_answers, try_further}
-use Rattle.js_statements.proofs.WordStatements.{word_here}
+use Rattle.js_statement_laws.proofs.TryStatements.{block_edge, block_stops, clauses_stop, tried_same, try_answers, try_further}
+use Rattle.js_statement_laws.proofs.WordStatements.{word_here}
 use Rattle.js_statements.proofs.try_statement.parse_try_statement.Goals as goal
 
 pub advance-requires-clause-whole : goal.advance-requires-clause-whole

@@ -5,9 +5,9 @@ use Rattle.js_base.specs.declared.span.Span.{Span}
 use Rattle.js_base.specs.declared.token.Token.{Token}
 use Rattle.js_parsing.proofs.Moving.{standing, stops_behind}
 use Rattle.js_parsing.proofs.Nesting.{nests_later, later_room}
-use Rattle.js_statements.proofs.Statements.{ended_so, in_of}
+use Rattle.js_statement_laws.proofs.Statements.{ended_so, in_of}
 use Rattle.js_parsing.proofs.Verdicts.{after}
-use Rattle.js_statements.proofs.WordStatements.{checked_at, checked_place, late_marked, throw_answers, throw_grown, throw_no_operand, throw_same, throw_unended, word_here}
+use Rattle.js_statement_laws.proofs.WordStatements.{checked_at, checked_place, late_marked, throw_answers, throw_grown, throw_no_operand, throw_same, throw_unended, word_here}
 use Rattle.js_statements.proofs.word_statement.parse_throw_statement.Goals as goal
 
 pub advance-requires-clause-whole : goal.advance-requires-clause-whole
@@ -19,11 +19,11 @@ check_operand-requires-clause-at g c = (c.in_ok-advance.ensures _ _ c.requires.a
 pub check_operand-requires-clause-mark : goal.check_operand-requires-clause-mark
 check_operand-requires-clause-mark g c = late_marked _ c.requires.at c.requires.word (c.span-word.ensures ∙ ap (λ (t : Token). t.span) c.cur_token.ensures) (c.in_ok-advance.ensures _ _ c.requires.at)
 
-pub parse_sequence_expression-requires-clause-at : goal.parse_sequence_expression-requires-clause-at
-parse_sequence_expression-requires-clause-at g c = standing (checked_at (c.in_ok-advance.ensures _ _ c.requires.at).at c.in_ok-check_operand.ensures)
+pub sequence-requires-clause-at : goal.sequence-requires-clause-at
+sequence-requires-clause-at g c = standing (checked_at (c.in_ok-advance.ensures _ _ c.requires.at).at c.in_ok-check_operand.ensures)
 
-pub parse_sequence_expression-requires-clause-nests : goal.parse_sequence_expression-requires-clause-nests
-parse_sequence_expression-requires-clause-nests g c =
+pub sequence-requires-clause-nests : goal.sequence-requires-clause-nests
+sequence-requires-clause-nests g c =
     let m = c.in_ok-advance.ensures _ _ c.requires.at in
     nests_later c.requires.nests (later_room (let i = m.further in let j = c.requires.at.behind in let k = checked_place c.in_ok-check_operand.ensures in omega arith) (throw_same c.requires.at c.requires.word m c.in_ok-check_operand.ensures))
 

@@ -1,0 +1,89 @@
+//! How one function reads whatever nests.
+
+ghost use Rattle.js_parsing.specs.Nesting.{Reads};
+
+use js_cursor::{ParserImpl, Stop};
+use js_expressions::sequence::parse_sequence_expression;
+use js_lex::RuntimeParserConfig;
+use js_parsing::nested::{Goal, MethodForm, Nested};
+use js_statement_laws::sequences::Sequences;
+use js_tree::NodeId;
+
+/// A function that reads whatever is asked for. It is one over the config that is told when the program runs: a bound on
+/// a function over any config can't be stated yet.
+#[derive(Clone, Copy)]
+pub struct By<F>(pub F);
+
+impl<F: Fn(&mut ParserImpl<'_, RuntimeParserConfig>, Goal) -> Result<NodeId, Stop>> Nested<
+    RuntimeParserConfig,
+> for By<F> {
+    ghost can = { λ s p goal. Reads (F.pre s.0) (F.post s.0) p goal };
+
+    #[inline(always)]
+    fn expression(&self, p: &mut ParserImpl<'_, RuntimeParserConfig>) -> Result<NodeId, Stop> {
+        (self.0)(p, Goal::Expression)
+    }
+
+    #[inline(always)]
+    fn assignment(&self, p: &mut ParserImpl<'_, RuntimeParserConfig>) -> Result<NodeId, Stop> {
+        (self.0)(p, Goal::Assignment)
+    }
+
+    #[inline(always)]
+    fn element(&self, p: &mut ParserImpl<'_, RuntimeParserConfig>) -> Result<NodeId, Stop> {
+        (self.0)(p, Goal::Element)
+    }
+
+    #[inline(always)]
+    fn unary(&self, p: &mut ParserImpl<'_, RuntimeParserConfig>) -> Result<NodeId, Stop> {
+        (self.0)(p, Goal::Unary)
+    }
+
+    #[inline(always)]
+    fn exponentiation(&self, p: &mut ParserImpl<'_, RuntimeParserConfig>) -> Result<NodeId, Stop> {
+        (self.0)(p, Goal::Exponentiation)
+    }
+
+    #[inline(always)]
+    fn binding(&self, p: &mut ParserImpl<'_, RuntimeParserConfig>) -> Result<NodeId, Stop> {
+        (self.0)(p, Goal::Binding)
+    }
+
+    #[inline(always)]
+    fn statement(&self, p: &mut ParserImpl<'_, RuntimeParserConfig>) -> Result<NodeId, Stop> {
+        (self.0)(p, Goal::Statement)
+    }
+
+    #[inline(always)]
+    fn list_item(&self, p: &mut ParserImpl<'_, RuntimeParserConfig>) -> Result<NodeId, Stop> {
+        (self.0)(p, Goal::ListItem)
+    }
+
+    #[inline(always)]
+    fn body(&self, p: &mut ParserImpl<'_, RuntimeParserConfig>) -> Result<NodeId, Stop> {
+        (self.0)(p, Goal::Body)
+    }
+
+    #[inline(always)]
+    fn parameters(&self, p: &mut ParserImpl<'_, RuntimeParserConfig>) -> Result<NodeId, Stop> {
+        (self.0)(p, Goal::Params)
+    }
+
+    #[inline(always)]
+    fn method_parameters(
+        &self,
+        p: &mut ParserImpl<'_, RuntimeParserConfig>,
+        form: MethodForm,
+    ) -> Result<NodeId, Stop> {
+        (self.0)(p, Goal::MethodParameters(form))
+    }
+}
+
+impl<F: Fn(&mut ParserImpl<'_, RuntimeParserConfig>, Goal) -> Result<NodeId, Stop>> Sequences<
+    RuntimeParserConfig,
+> for By<F> {
+    #[inline(always)]
+    fn sequence(&self, p: &mut ParserImpl<'_, RuntimeParserConfig>) -> Result<NodeId, Stop> {
+        parse_sequence_expression(p, self)
+    }
+}

@@ -1,0 +1,123 @@
+//! Operands of one lexeme, and the end of parentheses (ECMA-262, sections 12.7, 12.9 and 13.2).
+
+ghost use Rattle.std.specs.Prelude.{◌≡◌, true, false, MatchResult};
+ghost use Rattle.js_base.specs.declared.kind.Kind.TheVariants.{RParen, Str};
+ghost use Rattle.js_cursor.specs.Moves.{OnlyMemory, Opened};
+ghost use Rattle.js_grammar.specs.Productions.{at, IdentifierName};
+ghost use Rattle.js_operand_laws.specs.Numbers.{node_of_number, op_of_number};
+ghost use Rattle.js_parsing.specs.Answers.{Answers};
+ghost use Rattle.js_parsing.specs.Lexemes.{read_word};
+ghost use Rattle.js_parsing.specs.Moves.{IsWholeHere, Passes, TakesLeaf};
+ghost use Rattle.js_parsing.specs.NodeTexts.{is_name_node, is_textual};
+ghost use Rattle.js_parsing.specs.States.{Standing};
+ghost use Rattle.js_tree.specs.declared.kind.NodeKind.TheVariants as node;
+ghost use Rattle.js_tree.specs.declared.op.Op.TheVariants as op;
+
+use js_base::{Kind, Span};
+use js_cursor::{ParserImpl, Stop};
+use js_lex::ParserConfig;
+use js_parsing::lexemes::{advance, is_read_word};
+use js_parsing::nodes::{make_leaf, make_name, make_string};
+use js_tree::{BigintBase, NodeId, NodeKind, NumberBase, Op};
+
+/// An IdentifierName: a name or a word, with escapes or without (ECMA-262, section 12.7).
+pub fn parse_identifier_name<C: ParserConfig>(p: &mut ParserImpl<'_, C>) -> Result<NodeId, Stop>
+    requires { Standing p.old }
+    ensures { Answers (at IdentifierName) p.old p.new result }
+{
+    if !is_read_word(p.cur_kind()) {
+        return Err(p.set_unexpected());
+    }
+    parse_name(p, NodeKind::IdentifierName)
+}
+
+/// A node of one lexeme, which is no name and no string.
+pub fn parse_leaf<C: ParserConfig>(
+    p: &mut ParserImpl<'_, C>,
+    kind: NodeKind,
+    op: Op,
+) -> Result<NodeId, Stop>
+    requires at { Standing p.old }
+    requires whole { IsWholeHere p.old }
+    requires kind { is_textual kind ≡ false }
+    ensures { MatchResult result (λ id. TakesLeaf kind op p.old p.new id) OnlyMemory }
+{
+    let span = p.cur_token().span();
+    advance(p)?;
+    let node = make_leaf(p, kind, op, span)?;
+    Ok(node)
+}
+
+/// The node of the name, or the word, that stands here (ECMA-262, section 12.7).
+pub fn parse_name<C: ParserConfig>(
+    p: &mut ParserImpl<'_, C>,
+    kind: NodeKind,
+) -> Result<NodeId, Stop>
+    requires at { Standing p.old }
+    requires whole { IsWholeHere p.old }
+    requires kind { is_name_node kind ≡ true }
+    requires word { read_word p.old.token.kind ≡ true }
+    ensures { MatchResult result (λ id. TakesLeaf kind op.None p.old p.new id) OnlyMemory }
+{
+    let token = p.cur_token();
+    advance(p)?;
+    let node = make_name(p, kind, token)?;
+    Ok(node)
+}
+
+/// The node of the string that stands here (ECMA-262, section 12.9.4).
+pub fn parse_string<C: ParserConfig>(p: &mut ParserImpl<'_, C>) -> Result<NodeId, Stop>
+    requires at { Standing p.old }
+    requires string { p.old.token.kind ≡ Str }
+    ensures { MatchResult result (λ id. TakesLeaf node.StringLiteral op.None p.old p.new id) OnlyMemory }
+{
+    let span = p.cur_token().span();
+    advance(p)?;
+    let node = make_string(p, span)?;
+    Ok(node)
+}
+
+/// The kind of the node of a number.
+pub fn number_node(kind: Kind) -> NodeKind
+    ensures node { result ≡ node_of_number kind }
+    ensures plain { is_textual result ≡ false }
+{
+    match kind {
+        Kind::DecimalBigInt | Kind::BinaryBigInt | Kind::OctalBigInt | Kind::HexBigInt => {
+            NodeKind::BigIntLiteral
+        }
+        _ => NodeKind::NumericLiteral,
+    }
+}
+
+/// How a number is written.
+pub fn number_op(kind: Kind) -> Op
+    ensures { result ≡ op_of_number kind }
+{
+    match kind {
+        Kind::Float => Op::Number(NumberBase::Float),
+        Kind::Binary => Op::Number(NumberBase::Binary),
+        Kind::Octal => Op::Number(NumberBase::Octal),
+        Kind::Hex => Op::Number(NumberBase::Hex),
+        Kind::PositiveExponential | Kind::NegativeExponential => Op::Number(
+            NumberBase::Exponential,
+        ),
+        Kind::DecimalBigInt => Op::Bigint(BigintBase::Decimal),
+        Kind::BinaryBigInt => Op::Bigint(BigintBase::Binary),
+        Kind::OctalBigInt => Op::Bigint(BigintBase::Octal),
+        Kind::HexBigInt => Op::Bigint(BigintBase::Hex),
+        _ => Op::Number(NumberBase::Decimal),
+    }
+}
+
+/// Moves on over the closing parenthesis, whose opening one stood at a span.
+pub fn close_parentheses<C: ParserConfig>(
+    p: &mut ParserImpl<'_, C>,
+    opening: Span,
+) -> Result<(), Stop>
+    requires at { Standing p.old }
+    requires opened { Opened p.old opening }
+    ensures { Passes RParen p.old p.new result }
+{
+    p.expect_closing(Kind::RParen, opening)
+}

@@ -1,9 +1,0 @@
-use Rattle.js_parsing.specs.Nesting.{room}
-use Rattle.js_operands.proofs.Templates.{PartsLoop}
-use Rattle.js_operands.proofs.template.parse_template_literal.Given as goal
-
-abbrev pub invariant-parts : goal.invariant-parts
-invariant-parts g l = PartsLoop l.start l.fn.p l.p l.children.items l.part.is_last
-
-abbrev pub decreases-parts : goal.decreases-parts
-decreases-parts g l = room l.p

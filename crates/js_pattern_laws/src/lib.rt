@@ -1,0 +1,4 @@
+//! Definitions and laws of what is bound, over which the parse functions of `js_patterns` are proved.
+#![tactic(auto)]
+
+pub mod forms;

@@ -1,0 +1,22 @@
+//! What statements call of expressions.
+
+ghost use Rattle.js_grammar.specs.Productions.{at, Expression};
+ghost use Rattle.js_expression_laws.specs.HeadOperands.{TellsOperand};
+ghost use Rattle.js_parsing.specs.Answers.{Answers};
+ghost use Rattle.js_parsing.specs.Nesting.{CanNest, room};
+ghost use Rattle.js_parsing.specs.States.{Standing};
+
+use js_cursor::{ParserImpl, Stop};
+use js_lex::ParserConfig;
+use js_parsing::nested::Nested;
+use js_tree::NodeId;
+
+/// What may be read deeper, and an Expression in place: statements are proved beside expressions, and not over them.
+pub trait Sequences<C: ParserConfig>: Nested<C> {
+    /// An Expression (ECMA-262, section 13.16), which begins here: no lexeme was passed before it.
+    fn sequence(&self, p: &mut ParserImpl<'_, C>) -> Result<NodeId, Stop>
+        requires at { Standing p.old }
+        requires nests { CanNest (Self.can self.now) (room p.old) }
+        ensures answers { Answers (at Expression) p.old p.new result }
+        ensures operand { TellsOperand p.old p.new result };
+}
