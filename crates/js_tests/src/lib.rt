@@ -4,8 +4,6 @@
 #[cfg(test)]
 mod base;
 #[cfg(test)]
-mod cursor;
-#[cfg(test)]
 mod decoding;
 #[cfg(test)]
 mod record;
