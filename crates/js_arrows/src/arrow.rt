@@ -5,18 +5,18 @@ ghost use Rattle.js_base.specs.declared.kind.Kind.TheVariants.{Arrow, LParen};
 ghost use Rattle.js_cursor.specs.Moves.{OnlyMemory};
 ghost use Rattle.js_grammar.specs.Trees.{arrow_function_expression};
 ghost use Rattle.js_grammar.specs.Productions.{at, Params};
-ghost use Rattle.js_parsing.specs.Answers.{Answers};
+ghost use Rattle.js_parsing_laws.specs.Answers.{Answers};
 ghost use Rattle.js_expression_laws.specs.Arrows.{ArgumentsTold, ArrowBehind, AsyncHeadBegins, AttemptsHead, ChecksLine, EntersHead, FindsAsyncHead, FindsHead, HeadBehindAsync, HeadStands, IsHeadOf, LooksForHead, NamesHead, NoHeadHere, NoOperandHere, OperandExcluded, ReadsArrowBody, ReadsBody, ReadsHead, SearchesHead, SearchesPlainHead, Single, SlashFound, TriesHead, TriesParameters, Unmoved, arrow_label};
 ghost use Rattle.js_expression_laws.specs.HeadOperands.{IsNoTarget};
 ghost use Rattle.js_expression_laws.specs.Lists.{AsyncListBegins, SearchesList, TriesArrow};
 ghost use Rattle.js_base.specs.Kinds.{one_of_kinds};
 ghost use Rattle.js_tree.specs.Labels.{kind_of};
 ghost use Rattle.js_tree.specs.Nodes.{node_at};
-ghost use Rattle.js_parsing.specs.Lexemes.{name_kinds};
-ghost use Rattle.js_parsing.specs.Moves.{MadeHere};
-ghost use Rattle.js_parsing.specs.Nesting.{CanNest, room};
-ghost use Rattle.js_parsing.specs.Stands.{NameHere, StandsHere};
-ghost use Rattle.js_parsing.specs.States.{Standing};
+ghost use Rattle.js_parsing_laws.specs.Lexemes.{name_kinds};
+ghost use Rattle.js_parsing_laws.specs.Moves.{MadeHere};
+ghost use Rattle.js_parsing_laws.specs.Nesting.{CanNest, room};
+ghost use Rattle.js_parsing_laws.specs.Stands.{NameHere, StandsHere};
+ghost use Rattle.js_parsing_laws.specs.States.{Standing};
 
 use crate::closing::is_arrow_behind_one;
 use crate::lookahead::is_parenthesized_head;
@@ -32,8 +32,8 @@ use js_parsing::context::{
 };
 use js_parsing::diagnostics::{diagnostic_at, kept_so_far};
 use js_parsing::lexemes::{advance, is_name, name_stands, stands};
-use js_parsing::nested::Nested;
 use js_parsing::nodes::{make_one, make_with_optional};
+use js_parsing_laws::nested::Nested;
 use js_patterns::parameters::parse_formal_parameters;
 use js_tree::{NodeId, NodeKind, Op};
 

@@ -2,7 +2,7 @@
 
 ghost use Rattle.std.specs.Prelude.{◌≡◌, IfOk, IsCharBoundary};
 ghost use Rattle.js_expression_laws.specs.Closings.{ArrowFound, ArrowStands, BracketPassed, LastClosed, Opened};
-ghost use Rattle.js_parsing.specs.States.{Standing};
+ghost use Rattle.js_parsing_laws.specs.States.{Standing};
 
 use js_base::{Kind, NoMemory};
 use js_cursor::ParserImpl;

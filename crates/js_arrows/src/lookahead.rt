@@ -4,7 +4,7 @@ ghost use Rattle.std.specs.Prelude.{◌≡◌, MatchResult};
 ghost use Rattle.js_base.specs.declared.kind.Kind.TheVariants.{LParen};
 ghost use Rattle.js_cursor.specs.Moves.{OnlyMemory};
 ghost use Rattle.js_expression_laws.specs.Lookaheads.{begins_operand, LooksAhead};
-ghost use Rattle.js_parsing.specs.States.{Standing};
+ghost use Rattle.js_parsing_laws.specs.States.{Standing};
 
 use js_base::Kind;
 use js_cursor::{ParserImpl, Stop};

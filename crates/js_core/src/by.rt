@@ -1,11 +1,11 @@
 //! How one function reads whatever nests.
 
-ghost use Rattle.js_parsing.specs.Nesting.{Reads};
+ghost use Rattle.js_parsing_laws.specs.Nesting.{Reads};
 
 use js_cursor::{ParserImpl, Stop};
 use js_expressions::sequence::parse_sequence_expression;
 use js_lex::RuntimeParserConfig;
-use js_parsing::nested::{Goal, MethodForm, Nested};
+use js_parsing_laws::nested::{Goal, MethodForm, Nested};
 use js_statement_laws::sequences::Sequences;
 use js_tree::NodeId;
 

@@ -16,7 +16,7 @@ use Rattle.js_tree.specs.declared.kind.NodeKind.TheVariants as made
 use Rattle.js_tree.proofs.HoldingLemmas.{AreWithin-left}
 use Rattle.js_cursor.specs.Parsers.{Parser}
 use Rattle.js_cursor.proofs.Moving.{reached_next}
-use Rattle.js_parsing.specs.Lexemes.{Lex}
+use Rattle.js_parsing_laws.specs.Lexemes.{Lex}
 use Rattle.js_targets.specs.Targets.{is_object, is_literal, is_property}
 use Rattle.js_targets.proofs.LiteralsAsTargets.{lexeme_between}
 use Rattle.js_targets.proofs.ReusedNodes.{distinct_left}

@@ -18,13 +18,13 @@ use Rattle.js_tree.specs.Nodes.{Node, node_at}
 use Rattle.js_tree.specs.declared.id.NodeId.{NodeId}
 use Rattle.js_tree.specs.declared.kind.NodeKind.TheVariants as made
 use Rattle.js_cursor.specs.Parsers.{Parser}
-use Rattle.js_parsing.specs.Answers.{Answers}
-use Rattle.js_parsing.specs.Heads.{widened}
-use Rattle.js_parsing.specs.Lexemes.{Lex, read_kinds}
-use Rattle.js_parsing.specs.States.{At, Standing, flags_of}
-use Rattle.js_parsing.proofs.Here.{kind_here}
-use Rattle.js_parsing.proofs.Moving.{standing, standing_for}
-use Rattle.js_parsing.proofs.ReadKinds.{reads_so}
+use Rattle.js_parsing_laws.specs.Answers.{Answers}
+use Rattle.js_parsing_laws.specs.Heads.{widened}
+use Rattle.js_parsing_laws.specs.Lexemes.{Lex, read_kinds}
+use Rattle.js_parsing_laws.specs.States.{At, Standing, flags_of}
+use Rattle.js_parsing_laws.proofs.Here.{kind_here}
+use Rattle.js_parsing_laws.proofs.Moving.{standing, standing_for}
+use Rattle.js_parsing_laws.proofs.ReadKinds.{reads_so}
 use Rattle.js_targets.specs.Targets.{is_assignment, is_literal, literal_kind}
 use Rattle.js_targets.proofs.Targets.{Literal, of_array, of_object, by_braces, by_brackets, by_primary, is_literal_kind, literal_shape, may_literal, of_assignment}
 use Rattle.js_covers.specs.Covered.{AnyLabel, IsAssignment, IsLiteral, ReadBefore, an_expression}

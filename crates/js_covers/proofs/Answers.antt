@@ -13,10 +13,10 @@ use Rattle.js_cursor.specs.Moves.{GivesUp, IsUnexpected}
 use Rattle.js_cursor.specs.Parsers.{Parser}
 use Rattle.js_cursor.specs.declared.stop.Stop.{Stop}
 use Rattle.js_cursor.specs.declared.stop.Stop.TheVariants.{Fatal, NoMemory}
-use Rattle.js_parsing.specs.Answers.{Grown, Verdict, clean}
-use Rattle.js_parsing.specs.States.{At, Same, NodesLie, Standing, flags_of}
-use Rattle.js_parsing.proofs.Giving.{gives_up_here}
-use Rattle.js_parsing.proofs.Moving.{beside_nodes, same_both, same_itself, same_with, standing, stops_behind}
+use Rattle.js_parsing_laws.specs.Answers.{Grown, Verdict, clean}
+use Rattle.js_parsing_laws.specs.States.{At, Same, NodesLie, Standing, flags_of}
+use Rattle.js_parsing_laws.proofs.Giving.{gives_up_here}
+use Rattle.js_parsing_laws.proofs.Moving.{beside_nodes, same_both, same_itself, same_with, standing, stops_behind}
 use Rattle.js_targets.specs.declared.widening.Widening.{Widening}
 use Rattle.js_targets.specs.Taken.{PlacesTold}
 use Rattle.js_targets.specs.Targets.{Each, Fits, Narrow, Spotted, Noted, unnoted, Converted, converts, refuses, Converts, Refuses, OfNode, Reused, Slotted, Stood, one_node, is_assignment, relabelled}

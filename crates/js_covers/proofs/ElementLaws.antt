@@ -13,7 +13,7 @@ use Rattle.js_grammar.specs.Trees.{NodeKind, Span as TreeSpan, Label, Slots, end
 use Rattle.js_grammar.proofs.Behind.{lexed_behind}
 use Rattle.js_tree.specs.declared.id.NodeId.{NodeId}
 use Rattle.js_tree.specs.Nodes.{Node}
-use Rattle.js_parsing.specs.Lexemes.{Lex}
+use Rattle.js_parsing_laws.specs.Lexemes.{Lex}
 use Rattle.js_targets.specs.declared.widening.Widening.{Widening}
 use Rattle.js_targets.specs.declared.widening.Widening.TheVariants.{Operator}
 use Rattle.js_targets.specs.Targets.{Each, Fits, Spotted, Spanned, in_property, within, is_assignment, is_elision, is_equals, is_literal, is_property, is_spread, made_span, operator_places, places_in, places_of, relabelled, slot_of, target_by, elements_in, element_slot, rest_slot, property_slot, behind_first, reference_slot, named_slot, before_value, followed}

@@ -11,8 +11,8 @@ use Rattle.js_grammar.specs.Table.{rule, rule_of}
 use Rattle.js_grammar.specs.Trees.{Label, Slots, end, tree, Tree}
 use Rattle.js_tree.specs.declared.id.NodeId.{NodeId}
 use Rattle.js_tree.specs.Nodes.{Node}
-use Rattle.js_parsing.specs.Lexemes.{Lex}
-use Rattle.js_parsing.proofs.FreeOfIn.{any_in}
+use Rattle.js_parsing_laws.specs.Lexemes.{Lex}
+use Rattle.js_parsing_laws.proofs.FreeOfIn.{any_in}
 use Rattle.js_targets.specs.declared.widening.Widening.{Widening}
 use Rattle.js_targets.specs.Taken.{target_name}
 use Rattle.js_targets.specs.Targets.{Each, Fits, Spotted, in_literal, within, is_literal, is_object, literal_kind, pattern_kind, relabelled, literal_tree, slot_of, target_of, elements_in, places_in}

@@ -10,10 +10,10 @@ use Rattle.js_grammar.specs.Trees.{Label, Slots, end, tree}
 use Rattle.js_grammar.proofs.Calculus.{label_is, slots_are}
 use Rattle.js_tree.specs.declared.id.NodeId.{NodeId}
 use Rattle.js_cursor.specs.Parsers.{Parser}
-use Rattle.js_parsing.specs.Answers.{Numbered, Stretch}
-use Rattle.js_parsing.specs.Lexemes.{Lex}
-use Rattle.js_parsing.specs.States.{At}
-use Rattle.js_parsing.proofs.Signs.{none_kept}
+use Rattle.js_parsing_laws.specs.Answers.{Numbered, Stretch}
+use Rattle.js_parsing_laws.specs.Lexemes.{Lex}
+use Rattle.js_parsing_laws.specs.States.{At}
+use Rattle.js_parsing_laws.proofs.Signs.{none_kept}
 use Rattle.js_targets.proofs.ArraysBeforeSigns.{is_cover}
 use Rattle.js_covers.specs.Covered.{OnlyTree, ReadBefore}
 use Rattle.js_covers.proofs.Laws.{within}

@@ -13,9 +13,9 @@ use Rattle.js_cursor.specs.Moves.{GivesUp, IsUnexpected}
 use Rattle.js_cursor.specs.Parsers.{Parser}
 use Rattle.js_cursor.specs.declared.stop.Stop.{Stop}
 use Rattle.js_cursor.specs.declared.stop.Stop.TheVariants.{Fatal, NoMemory}
-use Rattle.js_parsing.specs.Answers.{Stops, Verdict}
-use Rattle.js_parsing.specs.Lexemes.{Lex}
-use Rattle.js_parsing.specs.States.{At, Same}
+use Rattle.js_parsing_laws.specs.Answers.{Stops, Verdict}
+use Rattle.js_parsing_laws.specs.Lexemes.{Lex}
+use Rattle.js_parsing_laws.specs.States.{At, Same}
 use Rattle.js_targets.specs.Taken.{PlacesTold}
 use Rattle.js_targets.specs.Targets.{Each, Narrow, in_literal, in_property, within, is_assignment, is_literal, is_object, is_property, literal_kind, operator_places, property_places, places_in, made_span, Converted, Noted, OfNode, one_node, elements_in, literal_tree, property_slot, relabelled, slot_of, target_by, target_of}
 use Rattle.js_targets.specs.declared.widening.Widening.{Widening}

@@ -2,7 +2,7 @@
 
 ghost use Rattle.std.specs.Prelude.{◌≡◌, IfOk, Some, false, true};
 ghost use Rattle.js_grammar.specs.Productions.{at, ArrayTarget, ObjectTarget, Primary, Property, SimpleTarget, Target, TargetElement, TargetProperty};
-ghost use Rattle.js_parsing.specs.States.{Standing};
+ghost use Rattle.js_parsing_laws.specs.States.{Standing};
 ghost use Rattle.js_targets.specs.Targets.{Each, Fits, OfNode, Spotted, Stood, noted_in, unnoted};
 ghost use Rattle.js_targets.specs.Targets as target;
 ghost use Rattle.js_tree.specs.Labels.{kind_of};

@@ -2,7 +2,7 @@
 
 ghost use Rattle.std.specs.Prelude.{Result, false, true};
 ghost use Rattle.js_grammar.specs.Productions.{at, ArrayTarget, ObjectTarget, Primary, Property, SimpleTarget, Target, TargetElement, TargetProperty};
-ghost use Rattle.js_parsing.specs.States.{Standing};
+ghost use Rattle.js_parsing_laws.specs.States.{Standing};
 ghost use Rattle.js_covers.specs.Covered.{AnyLabel, CoversAs, IsAssignment, IsLiteral, IsProperty, KeepsInitialiser, ReadBefore, an_expression, in_a_literal, in_a_property, in_a_target, in_an_element, no_places, numbered};
 
 use crate::convert::{

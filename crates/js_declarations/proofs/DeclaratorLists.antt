@@ -26,20 +26,20 @@ use Rattle.js_tree.specs.Holding.{HoldsAll, Keeps}
 use Rattle.js_tree.proofs.HoldingLemmas.{HoldsAll-none, HoldsAll-next, Keeps-refl, Keeps-trans}
 use Rattle.js_cursor.specs.Parsers.{Parser}
 use Rattle.js_cursor.specs.declared.stop.Stop.{Stop}
-use Rattle.js_parsing.specs.Answers.{Stops, Verdict, clean}
-use Rattle.js_parsing.specs.Lexemes.{Lex, Walked, nowhere, spot}
-use Rattle.js_parsing.specs.Moves.{Moved}
-use Rattle.js_parsing.specs.Nesting.{room}
-use Rattle.js_parsing.specs.States.{At, Same, Standing, flags_of}
+use Rattle.js_parsing_laws.specs.Answers.{Stops, Verdict, clean}
+use Rattle.js_parsing_laws.specs.Lexemes.{Lex, Walked, nowhere, spot}
+use Rattle.js_parsing_laws.specs.Moves.{Moved}
+use Rattle.js_parsing_laws.specs.Nesting.{room}
+use Rattle.js_parsing_laws.specs.States.{At, Same, Standing, flags_of}
 use Rattle.js_declarations.specs.Declarations.{AllOf, Declarator, Declarators, DeclaratorsRead, NoDeclarators, NoneOf, NoOne, One, OneDeclarator, ReadsOneDeclarator, ends_row, list_of, stops_row}
-use Rattle.js_parsing.proofs.Here.{kind_here}
-use Rattle.js_parsing.proofs.Moving.{same_both, same_itself, standing, stops_behind}
-use Rattle.js_parsing.proofs.Nesting.{later_room, nested_room}
-use Rattle.js_parsing.proofs.Paths.{not_here, skips, walked_both, walked_one}
-use Rattle.js_parsing.proofs.Signs.{other_kind, plain_sign}
-use Rattle.js_parsing.proofs.Escapes.{read_plain}
-use Rattle.js_parsing.proofs.Verdicts.{and_then, either_way}
-use Rattle.js_parsing.proofs.Verdicts.{after as grown_behind}
+use Rattle.js_parsing_laws.proofs.Here.{kind_here}
+use Rattle.js_parsing_laws.proofs.Moving.{same_both, same_itself, standing, stops_behind}
+use Rattle.js_parsing_laws.proofs.Nesting.{later_room, nested_room}
+use Rattle.js_parsing_laws.proofs.Paths.{not_here, skips, walked_both, walked_one}
+use Rattle.js_parsing_laws.proofs.Signs.{other_kind, plain_sign}
+use Rattle.js_parsing_laws.proofs.Escapes.{read_plain}
+use Rattle.js_parsing_laws.proofs.Verdicts.{and_then, either_way}
+use Rattle.js_parsing_laws.proofs.Verdicts.{after as grown_behind}
 
 comma_word : (is_word Comma || same_kind PrivateIdentifier Comma) ≡ false
 unfolding words

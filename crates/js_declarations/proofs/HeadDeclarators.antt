@@ -28,11 +28,11 @@ use Rattle.js_tree.specs.Holding.{Holds, HoldsAll, Keeps}
 use Rattle.js_tree.proofs.HoldingLemmas.{HoldsAll-append, HoldsAll-kept, HoldsAll-one, HoldsAll-hole, Keeps-trans, Keeps-made}
 use Rattle.js_cursor.specs.Parsers.{Parser}
 use Rattle.js_cursor.specs.declared.stop.Stop.{Stop}
-use Rattle.js_parsing.specs.Answers.{Answer, Numbered, Stops, Stretch, Underived, Verdict}
-use Rattle.js_parsing.specs.Lexemes.{Lex, spot}
-use Rattle.js_parsing.specs.Moves.{Moved, Moves, MadeHere, plain_label}
-use Rattle.js_parsing.specs.Stands.{NameHere, StandsHere}
-use Rattle.js_parsing.specs.States.{At, Same, NodesLie}
+use Rattle.js_parsing_laws.specs.Answers.{Answer, Numbered, Stops, Stretch, Underived, Verdict}
+use Rattle.js_parsing_laws.specs.Lexemes.{Lex, spot}
+use Rattle.js_parsing_laws.specs.Moves.{Moved, Moves, MadeHere, plain_label}
+use Rattle.js_parsing_laws.specs.Stands.{NameHere, StandsHere}
+use Rattle.js_parsing_laws.specs.States.{At, Same, NodesLie}
 use Rattle.js_declarations.specs.Declarations.{Declarator, Declarators, DeclaratorsRead, EndsDeclarator, NoDeclarators, NoneOf, NoOne, list_of}
 use Rattle.js_declarations.specs.HeadDeclarators.{BesideThrough, BoundThrough, DeclaratorsBehind, HeadList, HeadRead, InitialisedAs, NoHeadDeclarator, NoneBehind, ThroughHere, ValueRead, ValueTaken, bound_alone, goes_through, named_value}
 use Rattle.js_declarations.specs.declared.head.HeadDeclarator.{HeadDeclarator}
@@ -41,16 +41,16 @@ use Rattle.js_declarations.specs.declared.head.HeadForm.TheVariants as form
 use Rattle.js_declarations.proofs.DeclaratorLists.{Underway, underway_end, underway_init, underway_step}
 use Rattle.js_declarations.proofs.Declarators.{BindingRead, as_binding, eq_plain, bound, declared_bare, declared_with, initialiser_none, name_alone, no_eq_here, unbound}
 use Rattle.js_pattern_laws.proofs.Bindings.{no_binding, no_pattern_name}
-use Rattle.js_parsing.proofs.Here.{unsettled}
-use Rattle.js_parsing.proofs.NameKinds.{listed_here, listed_name, name_at, no_listed_name}
-use Rattle.js_parsing.proofs.NamedFirsts.{fails_unnamed}
-use Rattle.js_parsing.specs.Lexemes.{escaped_word, name_kinds}
-use Rattle.js_parsing.proofs.MadeNodes.{node_held, two_held, made_lies}
-use Rattle.js_parsing.proofs.Moving.{beside_nodes, same_both, same_with, stops_behind}
-use Rattle.js_parsing.proofs.Paths.{Path, ◌⟶◌, ◌⟶✗◌, by_symbol_as, fails_at, label_here, last_called, noded, noded_by, token, walked_both}
-use Rattle.js_parsing.proofs.Signs.{plain_sign, stands_not, word_there}
-use Rattle.js_parsing.proofs.Verdicts.{and_then, either_way, grown_then, verdict_of}
-use Rattle.js_parsing.proofs.Verdicts.{after as grown_behind}
+use Rattle.js_parsing_laws.proofs.Here.{unsettled}
+use Rattle.js_parsing_laws.proofs.NameKinds.{listed_here, listed_name, name_at, no_listed_name}
+use Rattle.js_parsing_laws.proofs.NamedFirsts.{fails_unnamed}
+use Rattle.js_parsing_laws.specs.Lexemes.{escaped_word, name_kinds}
+use Rattle.js_parsing_laws.proofs.MadeNodes.{node_held, two_held, made_lies}
+use Rattle.js_parsing_laws.proofs.Moving.{beside_nodes, same_both, same_with, stops_behind}
+use Rattle.js_parsing_laws.proofs.Paths.{Path, ◌⟶◌, ◌⟶✗◌, by_symbol_as, fails_at, label_here, last_called, noded, noded_by, token, walked_both}
+use Rattle.js_parsing_laws.proofs.Signs.{plain_sign, stands_not, word_there}
+use Rattle.js_parsing_laws.proofs.Verdicts.{and_then, either_way, grown_then, verdict_of}
+use Rattle.js_parsing_laws.proofs.Verdicts.{after as grown_behind}
 
 -- ---- whether `in` or `of` stands there
 

@@ -15,10 +15,10 @@ use Rattle.js_cursor.specs.Moves.{at_lexeme}
 use Rattle.js_cursor.specs.Parsers.{Parser}
 use Rattle.js_cursor.specs.Places.{goal}
 use Rattle.js_cursor.proofs.Standing.{counts}
-use Rattle.js_parsing.specs.Lexemes.{Walked, spot}
-use Rattle.js_parsing.specs.States.{At, Same}
-use Rattle.js_parsing.specs.Told.{unrelated_at}
-use Rattle.js_parsing.proofs.Edges.{last_edge}
+use Rattle.js_parsing_laws.specs.Lexemes.{Walked, spot}
+use Rattle.js_parsing_laws.specs.States.{At, Same}
+use Rattle.js_parsing_laws.specs.Told.{unrelated_at}
+use Rattle.js_parsing_laws.proofs.Edges.{last_edge}
 use Rattle.js_declarations.specs.Declarations.{missing, no_initialiser}
 
 module _ {text : List ℕ} {f : Flags} {p q : Parser} {pass : Lexemes → Lexemes} (a : At text f p) (n : p.token.kind ≡ Undetermined → ⊥) (b : At text f q) (c : Same p q) (w : Walked text (spot p) (spot q) pass) (l : p.token.span.start < q.prev_token_end) where

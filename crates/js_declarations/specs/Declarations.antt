@@ -25,12 +25,12 @@ use Rattle.js_tree.specs.Labels.{declaration_kind}
 use Rattle.js_cursor.specs.Moves.{Keeps as KeepsOne}
 use Rattle.js_cursor.specs.Parsers.{Parser}
 use Rattle.js_cursor.specs.declared.stop.Stop.{Stop}
-use Rattle.js_parsing.specs.Answers.{Verdict, Stops}
-use Rattle.js_parsing.specs.Lexemes.{Lex, Walked, spot, Plain}
-use Rattle.js_parsing.specs.Moves.{Moved, MadeHere, plain_label}
-use Rattle.js_parsing.specs.States.{At, Same}
-use Rattle.js_parsing.specs.Statements.{link_kinds, no_link}
-use Rattle.js_parsing.specs.Told.{unrelated_at}
+use Rattle.js_parsing_laws.specs.Answers.{Verdict, Stops}
+use Rattle.js_parsing_laws.specs.Lexemes.{Lex, Walked, spot, Plain}
+use Rattle.js_parsing_laws.specs.Moves.{Moved, MadeHere, plain_label}
+use Rattle.js_parsing_laws.specs.States.{At, Same}
+use Rattle.js_parsing_laws.specs.Statements.{link_kinds, no_link}
+use Rattle.js_parsing_laws.specs.Told.{unrelated_at}
 
 -- each declarator has an initialiser
 abbrev pub is_constant : DeclarationKind → Bool

@@ -11,10 +11,10 @@ use Rattle.js_tree.specs.declared.id.NodeId.{NodeId}
 use Rattle.js_tree.specs.Holding.{Holds, HoldsAll, Keeps}
 use Rattle.js_cursor.specs.Parsers.{Parser}
 use Rattle.js_cursor.specs.declared.stop.Stop.{Stop}
-use Rattle.js_parsing.specs.Answers.{Verdict, Stretch, Stops}
-use Rattle.js_parsing.specs.Lexemes.{Lex, Walked, spot}
-use Rattle.js_parsing.specs.Stands.{StandsHere}
-use Rattle.js_parsing.specs.States.{At, Same}
+use Rattle.js_parsing_laws.specs.Answers.{Verdict, Stretch, Stops}
+use Rattle.js_parsing_laws.specs.Lexemes.{Lex, Walked, spot}
+use Rattle.js_parsing_laws.specs.Stands.{StandsHere}
+use Rattle.js_parsing_laws.specs.States.{At, Same}
 use Rattle.js_declarations.specs.Declarations.{AllOf, Declarator, NoneOf, NoOne, list_of}
 use Rattle.js_declarations.specs.declared.head.HeadDeclarator.{HeadDeclarator}
 use Rattle.js_declarations.specs.declared.head.HeadForm.{HeadForm}

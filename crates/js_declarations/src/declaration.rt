@@ -3,18 +3,18 @@
 ghost use Rattle.std.specs.Prelude.{◌≡◌, ◌&&◌, not, IfOk, MatchResult};
 ghost use Rattle.js_cursor.specs.Places.{IsAt, goal};
 ghost use Rattle.js_grammar.specs.Marks.{Mark};
-ghost use Rattle.js_parsing.specs.Nesting.{CanNest, room};
-ghost use Rattle.js_parsing.specs.States.{Standing};
+ghost use Rattle.js_parsing_laws.specs.Nesting.{CanNest, room};
+ghost use Rattle.js_parsing_laws.specs.States.{Standing};
 ghost use Rattle.js_declarations.specs.Declarations.{ChecksInitialiser, DeclaratorsRead, EndsDeclarator, NoDeclarators, ReadsDeclarator, ReadsOneDeclarator, is_constant, missing, no_initialiser};
 
-use js_patterns::binding::parse_binding_pattern;
 use js_base::{DiagnosticKind, Kind, NoMemory, Span};
 use js_cursor::{ParserImpl, Stop};
 use js_lex::ParserConfig;
 use js_parsing::diagnostics::diagnostic_at;
 use js_parsing::lexemes::{advance, name_stands};
-use js_parsing::nested::Nested;
 use js_parsing::nodes::{make_two, make_with_optional};
+use js_parsing_laws::nested::Nested;
+use js_patterns::binding::parse_binding_pattern;
 use js_tree::{DeclarationKind, NodeId, NodeKind, Op};
 
 /// The declarators behind the word of a declaration, with commas between them (ECMA-262, sections 14.3.1 and 14.3.2).

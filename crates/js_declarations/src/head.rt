@@ -1,19 +1,19 @@
 //! The first declarator in the head of a `for` (ECMA-262, sections 14.7.4, 14.7.5 and B.3.5). `in` is no operator there.
 
 ghost use Rattle.std.specs.Prelude.{MatchResult};
-ghost use Rattle.js_parsing.specs.Nesting.{CanNest, room};
-ghost use Rattle.js_parsing.specs.States.{Standing};
+ghost use Rattle.js_parsing_laws.specs.Nesting.{CanNest, room};
+ghost use Rattle.js_parsing_laws.specs.States.{Standing};
 ghost use Rattle.js_declarations.specs.Declarations.{is_constant};
 ghost use Rattle.js_declarations.specs.HeadDeclarators.{DeclaratorsBehind, InitialisedAs, NoneBehind, ReadsHeadDeclarator, ThroughHere};
 
-use js_patterns::binding::parse_binding_pattern;
 use crate::declaration::{make_bare_declarator, parse_declarators};
 use js_base::Kind;
 use js_cursor::{ParserImpl, Stop};
 use js_lex::ParserConfig;
 use js_parsing::lexemes::{advance, name_stands, stands};
-use js_parsing::nested::Nested;
 use js_parsing::nodes::{make_two, make_with_optional};
+use js_parsing_laws::nested::Nested;
+use js_patterns::binding::parse_binding_pattern;
 use js_tree::{DeclarationKind, NodeId, NodeKind, Op};
 
 /// What the first declarator in the head of a `for` is made of.

@@ -24,12 +24,12 @@ use Rattle.js_tree.specs.Nodes.{Node}
 use Rattle.js_tree.specs.Holding.{Holds, Keeps}
 use Rattle.js_tree.proofs.HoldingLemmas.{Keeps-trans, Keeps-made}
 use Rattle.js_cursor.specs.Parsers.{Parser}
-use Rattle.js_parsing.specs.Answers.{Answer, Numbered, Underived}
-use Rattle.js_parsing.specs.Lexemes.{Lex}
-use Rattle.js_parsing.specs.Moves.{Moved, MadeHere, plain_label}
-use Rattle.js_parsing.specs.Nesting.{room}
+use Rattle.js_parsing_laws.specs.Answers.{Answer, Numbered, Underived}
+use Rattle.js_parsing_laws.specs.Lexemes.{Lex}
+use Rattle.js_parsing_laws.specs.Moves.{Moved, MadeHere, plain_label}
+use Rattle.js_parsing_laws.specs.Nesting.{room}
 use Rattle.js_targets.specs.Taken.{TargetTaken, target_name}
-use Rattle.js_parsing.specs.States.{At}
+use Rattle.js_parsing_laws.specs.States.{At}
 use Rattle.js_targets.specs.Targets.{is_object, is_literal}
 use Rattle.js_expression_laws.specs.Rests.{OnlyOperand}
 use Rattle.js_targets.proofs.Refused.{literal_no_target}
@@ -40,11 +40,11 @@ use Rattle.js_targets.proofs.TargetsTaken.{assign_behind}
 use Rattle.js_targets.proofs.Assigned.{assign_part, no_branch, not_target, to_parts}
 use Rattle.js_expression_laws.proofs.Assignments.{all_assign, no_question, on_second, plain_here, second}
 use Rattle.js_expression_laws.proofs.Conditionals.{no_conditional}
-use Rattle.js_parsing.proofs.MadeNodes.{two_held, one_lies}
-use Rattle.js_parsing.proofs.Moving.{same_both}
+use Rattle.js_parsing_laws.proofs.MadeNodes.{two_held, one_lies}
+use Rattle.js_parsing_laws.proofs.Moving.{same_both}
 use Rattle.js_operand_laws.proofs.Operands.{by_path}
-use Rattle.js_parsing.proofs.Paths.{Path, ◌⟼◌, ◌⟶◌, ◌⟶✗◌, label_here, last_called, noded_by, token}
-use Rattle.js_parsing.proofs.Verdicts.{verdict_of}
+use Rattle.js_parsing_laws.proofs.Paths.{Path, ◌⟼◌, ◌⟶◌, ◌⟶✗◌, label_here, last_called, noded_by, token}
+use Rattle.js_parsing_laws.proofs.Verdicts.{verdict_of}
 
 -- as much is left where the place is the same
 pub room_same : {text : List ℕ} {f g : Flags} {p q : Parser} → At text f p → At text g q → q.prev_token_end ≡ p.prev_token_end → room q ≡ room p

@@ -33,28 +33,28 @@ use Rattle.js_tree.proofs.HoldingLemmas.{Keeps-trans, Keeps-made}
 use Rattle.js_cursor.specs.Parsers.{Parser}
 use Rattle.js_cursor.specs.Places.{goal}
 use Rattle.js_cursor.specs.declared.stop.Stop.{Stop}
-use Rattle.js_parsing.specs.Answers.{Grown, unclean, Underived, Answer, Numbered, Stretch, Stops}
-use Rattle.js_parsing.specs.Lexemes.{Lex, spot}
-use Rattle.js_parsing.specs.Moves.{Moved, MadeHere, plain_label}
-use Rattle.js_parsing.specs.Nesting.{room}
+use Rattle.js_parsing_laws.specs.Answers.{Grown, unclean, Underived, Answer, Numbered, Stretch, Stops}
+use Rattle.js_parsing_laws.specs.Lexemes.{Lex, spot}
+use Rattle.js_parsing_laws.specs.Moves.{Moved, MadeHere, plain_label}
+use Rattle.js_parsing_laws.specs.Nesting.{room}
 use Rattle.js_targets.specs.Taken.{TellsOnce, not_simple_at}
-use Rattle.js_parsing.specs.States.{At, Same}
+use Rattle.js_parsing_laws.specs.States.{At, Same}
 use Rattle.js_targets.specs.Targets.{is_object, is_literal, literal_kind}
 use Rattle.js_expression_laws.specs.Rests.{OnlyOperand}
 use Rattle.js_targets.proofs.Assigned.{assigns}
 use Rattle.js_expression_laws.proofs.Assignments.{assign_refused, assign_named}
 use Rattle.js_targets.proofs.Covers.{begins_there, part_there}
-use Rattle.js_parsing.proofs.Giving.{kept_one}
-use Rattle.js_parsing.proofs.Here.{found}
-use Rattle.js_parsing.proofs.MadeNodes.{two_held, made_lies}
-use Rattle.js_parsing.proofs.Moving.{same_both, same_itself, same_with, beside_nodes, stops_behind}
-use Rattle.js_parsing.proofs.Paths.{label_here, read_of, walked_both, walked_from, walked_one}
-use Rattle.js_parsing.proofs.Signs.{grew, none_kept, plain_of}
+use Rattle.js_parsing_laws.proofs.Giving.{kept_one}
+use Rattle.js_parsing_laws.proofs.Here.{found}
+use Rattle.js_parsing_laws.proofs.MadeNodes.{two_held, made_lies}
+use Rattle.js_parsing_laws.proofs.Moving.{same_both, same_itself, same_with, beside_nodes, stops_behind}
+use Rattle.js_parsing_laws.proofs.Paths.{label_here, read_of, walked_both, walked_from, walked_one}
+use Rattle.js_parsing_laws.proofs.Signs.{grew, none_kept, plain_of}
 use Rattle.js_targets.proofs.Targets.{Literal, of_array, of_object, literal_shape, kind_of_literal, by_braces, by_brackets, may_literal, of_short}
-use Rattle.js_parsing.proofs.Told.{told_at, told_same}
-use Rattle.js_parsing.proofs.Verdicts.{grown_both, grown_first, grown_on, grown_then}
-use Rattle.js_parsing.proofs.Verdicts.{after as grown_behind}
-use Rattle.js_parsing.specs.Classes.{IsEarly}
+use Rattle.js_parsing_laws.proofs.Told.{told_at, told_same}
+use Rattle.js_parsing_laws.proofs.Verdicts.{grown_both, grown_first, grown_on, grown_then}
+use Rattle.js_parsing_laws.proofs.Verdicts.{after as grown_behind}
+use Rattle.js_parsing_laws.specs.Classes.{IsEarly}
 
 literal_stands : (source : Goal) (text : List ℕ) (s s' from : ℕ) (f : Flags) (l : Label) (cs : Slots) (ls : Lexemes) (y : Lexeme) → Part text s ls → (here ls).from ≡ from → Takes rule (rule (at Primary f)) end (tree l cs end) s ls end s' (last y) → (o : Bool) → l.kind ≡ literal_kind o → one_of_kinds assign_operators y.kind ≡ true → same_kind Eq y.kind ≡ false
     → StandsAt AssignmentIsNotSimple source text (record { start = from; end = s' }) None None

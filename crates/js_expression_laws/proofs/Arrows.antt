@@ -45,7 +45,7 @@ use Rattle.js_grammar.specs.Marks.{Mark, a_lexeme}
 use Rattle.js_cursor.specs.Moves.{Peeks}
 use Rattle.js_cursor.specs.Moves.{Keeps as Keeps_one}
 use Rattle.js_base.specs.declared.diagnostic.DiagnosticKind.TheVariants.{LineterminatorBeforeArrow}
-use Rattle.js_parsing.specs.Told.{unrelated_at}
+use Rattle.js_parsing_laws.specs.Told.{unrelated_at}
 use Rattle.js_cursor.specs.Places.{goal}
 use Rattle.js_tree.specs.declared.id.NodeId.{NodeId}
 use Rattle.js_tree.specs.declared.kind.NodeKind.TheVariants as node_kind
@@ -57,53 +57,53 @@ use Rattle.js_cursor.specs.Checkpoints.{Remembers, GoesBack}
 use Rattle.js_cursor.specs.declared.checkpoint.ParserCheckpoint.{ParserCheckpoint}
 use Rattle.js_cursor.specs.declared.stop.Stop.{Stop}
 use Rattle.js_cursor.specs.declared.stop.Stop.TheVariants.{Fatal}
-use Rattle.js_parsing.specs.Stands.{NameHere, StandsHere}
-use Rattle.js_parsing.proofs.NameKinds.{a_name, listed_name, name_apart, name_at, name_test, name_whole, or_kind, listed_here}
+use Rattle.js_parsing_laws.specs.Stands.{NameHere, StandsHere}
+use Rattle.js_parsing_laws.proofs.NameKinds.{a_name, listed_name, name_apart, name_at, name_test, name_whole, or_kind, listed_here}
 use Rattle.js_cursor.specs.Moves.{is_last}
 use Rattle.js_cursor.specs.Parsers.{Parser}
 use Rattle.js_cursor.specs.Places.{IsAt}
 use Rattle.js_cursor.proofs.Changing.{came_back, back_follows}
 use Rattle.js_cursor.proofs.Later.{keeps_follows}
-use Rattle.js_parsing.specs.Answers.{Underived, Answer, Answers, beside, Numbered, Outcome, Refuses, Stretch, Stops, Grown, Verdict, clean, unclean, wider}
+use Rattle.js_parsing_laws.specs.Answers.{Underived, Answer, Answers, beside, Numbered, Outcome, Refuses, Stretch, Stops, Grown, Verdict, clean, unclean, wider}
 use Rattle.js_cursor.specs.Notes.{Notes}
-use Rattle.js_parsing.specs.Contexts.{arrow_body, braced_body, arrow_head}
+use Rattle.js_parsing_laws.specs.Contexts.{arrow_body, braced_body, arrow_head}
 use Rattle.js_expression_laws.specs.Arrows.{ArrowBehind, AsyncPassed, BeforeArrow, led_head, told_led, ChecksLine, FindsAnyHead, FindsHead, Head, HeadDerived, HeadRead, read_clean, read_unclean, IsHeadBefore, IsHeadHere, Leads, LooksForHead, NamesHead, NoArrowHere, NoLed, NoLine, NoLineHere, NoParametersHere, OnlyLed, ParametersRead, PlainHead, Quiet, a_head, told_head, Single, ToldHead, Unmoved, WentOn, arrow_label, body_of, head_of, late_arrow, lead_of, line_of}
 use Rattle.js_expression_laws.specs.declared.forms.ArrowHead.{ArrowHead}
-use Rattle.js_parsing.specs.Heads.{NoHead, OnlyArrow}
+use Rattle.js_parsing_laws.specs.Heads.{NoHead, OnlyArrow}
 use Rattle.js_expression_laws.specs.Rests.{OnlyOperandHere}
 use Rattle.js_expression_laws.specs.Closings.{ArrowBehindOne}
 use Rattle.js_expression_laws.proofs.Closings.{closes_alike}
 use Rattle.js_expression_laws.proofs.OnePlace.{calm, one_alone, one_move, one_told}
 use Rattle.js_expression_laws.proofs.ParenthesizedFronts.{no_arrow_admitted, args_one}
 use Rattle.js_cursor.specs.Tokens.{may_be_read_again}
-use Rattle.js_parsing.proofs.KeptTokens.{before_back, last_back}
-use Rattle.js_parsing.specs.Lexemes.{Lex, name_kinds, other_goals, signs, spot, slashes, Plain, may_name, Walked}
-use Rattle.js_parsing.specs.Moves.{Moved, MadeHere, LeafTaken, TakesLeaf, plain_label}
-use Rattle.js_parsing.specs.States.{At, Same, Standing, IsPlain, whole, sign, nothing as nothing_here, NodesLie, SpansLie}
+use Rattle.js_parsing_laws.proofs.KeptTokens.{before_back, last_back}
+use Rattle.js_parsing_laws.specs.Lexemes.{Lex, name_kinds, other_goals, signs, spot, slashes, Plain, may_name, Walked}
+use Rattle.js_parsing_laws.specs.Moves.{Moved, MadeHere, LeafTaken, TakesLeaf, plain_label}
+use Rattle.js_parsing_laws.specs.States.{At, Same, Standing, IsPlain, whole, sign, nothing as nothing_here, NodesLie, SpansLie}
 use Rattle.js_targets.proofs.ArraysBeforeSigns.{is_cover}
 use Rattle.js_targets.proofs.Assigned.{arrow_passes, no_yield, only_arrow, no_yield_escaped}
 use Rattle.js_targets.specs.Others.{NoYield}
-use Rattle.js_parsing.proofs.NamedFirsts.{fails_unnamed, fails_escaped}
+use Rattle.js_parsing_laws.proofs.NamedFirsts.{fails_unnamed, fails_escaped}
 use Rattle.js_expression_laws.specs.Yields.{BeginsYield}
 use Rattle.js_expression_laws.proofs.Assignments.{by_second, second}
 use Rattle.js_expression_laws.proofs.Conditionals.{conditional_none}
-use Rattle.js_parsing.proofs.Signs.{other_kind, plain_sign}
-use Rattle.js_parsing.proofs.Told.{beside_errors}
-use Rattle.js_parsing.proofs.Unbuilt.{nothing_unbuilt}
-use Rattle.js_parsing.proofs.ToEnd.{to_end_stays}
-use Rattle.js_parsing.proofs.Giving.{kept_one, fails_unescaped}
-use Rattle.js_parsing.proofs.Here.{angled, found, plainly, one_plain, newline_here, kind_here, told, uncut, told_plain}
-use Rattle.js_parsing.proofs.MadeNodes.{leaf_held, node_held, two_held, one_lies, one_lies_in, LabelLies, from_start}
-use Rattle.js_parsing.proofs.Moving.{beside_nodes, flags_same, heads_kept, same_both, same_itself, same_with, standing_for, stops_behind, nodes_lie}
+use Rattle.js_parsing_laws.proofs.Signs.{other_kind, plain_sign}
+use Rattle.js_parsing_laws.proofs.Told.{beside_errors}
+use Rattle.js_parsing_laws.proofs.Unbuilt.{nothing_unbuilt}
+use Rattle.js_parsing_laws.proofs.ToEnd.{to_end_stays}
+use Rattle.js_parsing_laws.proofs.Giving.{kept_one, fails_unescaped}
+use Rattle.js_parsing_laws.proofs.Here.{angled, found, plainly, one_plain, newline_here, kind_here, told, uncut, told_plain}
+use Rattle.js_parsing_laws.proofs.MadeNodes.{leaf_held, node_held, two_held, one_lies, one_lies_in, LabelLies, from_start}
+use Rattle.js_parsing_laws.proofs.Moving.{beside_nodes, flags_same, heads_kept, same_both, same_itself, same_with, standing_for, stops_behind, nodes_lie}
 use Rattle.js_operand_laws.proofs.Operands.{by_path, by_such, name_signless}
 use Rattle.js_pattern_laws.proofs.Bindings.{bound_path, ended_by, then_any}
-use Rattle.js_parsing.proofs.Paths.{Path, ◌⟼◌, ◌⟶◌, ◌⟶✗◌, fails_at, not_here, token, last_called, noded, by_symbol_as, label_here, read_of, walked_both, walked_from, walked_one, flagged_here, flagged_by}
-use Rattle.js_parsing.proofs.Signs.{none_kept, plain_of}
-use Rattle.js_parsing.proofs.Ahead.{pass_over}
-use Rattle.js_parsing.proofs.Escapes.{read_plain, escaped_unnamed}
-use Rattle.js_parsing.proofs.Verdicts.{grown_both, grown_first, grown_on, grown_then}
-use Rattle.js_parsing.specs.Classes.{IsEarly}
-use Rattle.js_parsing.proofs.Classes.{kept_early}
+use Rattle.js_parsing_laws.proofs.Paths.{Path, ◌⟼◌, ◌⟶◌, ◌⟶✗◌, fails_at, not_here, token, last_called, noded, by_symbol_as, label_here, read_of, walked_both, walked_from, walked_one, flagged_here, flagged_by}
+use Rattle.js_parsing_laws.proofs.Signs.{none_kept, plain_of}
+use Rattle.js_parsing_laws.proofs.Ahead.{pass_over}
+use Rattle.js_parsing_laws.proofs.Escapes.{read_plain, escaped_unnamed}
+use Rattle.js_parsing_laws.proofs.Verdicts.{grown_both, grown_first, grown_on, grown_then}
+use Rattle.js_parsing_laws.specs.Classes.{IsEarly}
+use Rattle.js_parsing_laws.proofs.Classes.{kept_early}
 use Rattle.std.proofs.lemmas.List.Elements.{All-same}
 
 -- ---- what begins like a head, with `=>` behind it, is no operand

@@ -34,28 +34,28 @@ use Rattle.js_tree.proofs.HoldingLemmas.{Keeps-trans, Keeps-made}
 use Rattle.js_cursor.specs.Parsers.{Parser}
 use Rattle.js_cursor.specs.Moves.{is_last}
 use Rattle.js_cursor.specs.Places.{goal}
-use Rattle.js_parsing.specs.Answers.{Underived, Answer, Numbered, Stretch, Verdict}
-use Rattle.js_parsing.specs.Lexemes.{Lex, Plain, other_goals}
-use Rattle.js_parsing.specs.Moves.{Moved, MadeHere, Tightness, plain_label}
+use Rattle.js_parsing_laws.specs.Answers.{Underived, Answer, Numbered, Stretch, Verdict}
+use Rattle.js_parsing_laws.specs.Lexemes.{Lex, Plain, other_goals}
+use Rattle.js_parsing_laws.specs.Moves.{Moved, MadeHere, Tightness, plain_label}
 use Rattle.js_targets.specs.Taken.{no_target_at}
-use Rattle.js_parsing.specs.States.{At}
+use Rattle.js_parsing_laws.specs.States.{At}
 use Rattle.js_targets.specs.Targets.{target_of, TargetNode}
 use Rattle.js_targets.proofs.Assigned.{an_assign, Assigns, assigns, assign_slots, assign_part, then_assign, not_target, assigned}
 use Rattle.js_expression_laws.proofs.Conditionals.{no_conditional}
-use Rattle.js_parsing.proofs.Signs.{other_kind}
+use Rattle.js_parsing_laws.proofs.Signs.{other_kind}
 use Rattle.js_targets.proofs.ArraysBeforeSigns.{is_cover, no_array, no_array_there, no_object_there, target_no_literal}
 use Rattle.js_expression_laws.specs.Rests.{OnlyOperand}
 use Rattle.js_targets.specs.Targets.{is_literal}
 use Rattle.js_targets.proofs.Covers.{row_of_target, lexed_there, no_simple_there, underived_there}
-use Rattle.js_parsing.proofs.Here.{found, told_plain}
-use Rattle.js_parsing.proofs.MadeNodes.{two_held, one_lies}
-use Rattle.js_parsing.proofs.Moving.{same_both}
+use Rattle.js_parsing_laws.proofs.Here.{found, told_plain}
+use Rattle.js_parsing_laws.proofs.MadeNodes.{two_held, one_lies}
+use Rattle.js_parsing_laws.proofs.Moving.{same_both}
 use Rattle.js_operand_laws.proofs.Operands.{by_path}
-use Rattle.js_parsing.proofs.Paths.{Path, ◌⟼◌, ◌⟶◌, ◌⟶✗◌, token, last_called, noded_by, label_here, read_of, walked_to}
-use Rattle.js_parsing.proofs.Signs.{none_kept, plain_of}
+use Rattle.js_parsing_laws.proofs.Paths.{Path, ◌⟼◌, ◌⟶◌, ◌⟶✗◌, token, last_called, noded_by, label_here, read_of, walked_to}
+use Rattle.js_parsing_laws.proofs.Signs.{none_kept, plain_of}
 use Rattle.js_targets.proofs.Targets.{of_short}
-use Rattle.js_parsing.proofs.Escapes.{read_listed}
-use Rattle.js_parsing.proofs.Tight.{plain_lex, plain_is_none}
+use Rattle.js_parsing_laws.proofs.Escapes.{read_listed}
+use Rattle.js_parsing_laws.proofs.Tight.{plain_lex, plain_is_none}
 
 -- the sign behind was told whole
 pub shifted : {text : List ℕ} {f : Flags} {n : Symbol} {p q t : Parser} {id : NodeId} {power : ℕ} → Numbered text f n p q id → Tightness text f q t power → Numbered text f n p t id

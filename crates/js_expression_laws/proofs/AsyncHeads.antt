@@ -35,20 +35,20 @@ use Rattle.js_cursor.specs.Moves.{OnlyMemory, Peeks, is_last}
 use Rattle.js_cursor.specs.Parsers.{Parser}
 use Rattle.js_cursor.specs.declared.stop.Stop.{Stop}
 use Rattle.js_cursor.proofs.Later.{follows_on}
-use Rattle.js_parsing.specs.Answers.{Underived}
-use Rattle.js_parsing.specs.Contexts.{arrow_head}
-use Rattle.js_parsing.specs.Heads.{NoHead, OnlyArrow}
-use Rattle.js_parsing.specs.Lexemes.{Lex, name_kinds, other_goals, read_kinds, signs, read_word}
-use Rattle.js_parsing.specs.Moves.{Moved, Moves}
-use Rattle.js_parsing.specs.Stands.{StandsHere}
-use Rattle.js_parsing.specs.States.{At, Standing}
-use Rattle.js_parsing.proofs.Here.{found, kind_here, one_plain, plainly, told, uncut, unsettled}
-use Rattle.js_parsing.proofs.Moving.{same_both}
-use Rattle.js_parsing.proofs.NameKinds.{name_apart, name_read, name_whole}
-use Rattle.js_parsing.proofs.Paths.{fails_at, read_of, walked_both, walked_one}
-use Rattle.js_parsing.proofs.Signs.{other_kind}
-use Rattle.js_parsing.proofs.Escapes.{read_as, read_plain, plain_or_word}
-use Rattle.js_parsing.proofs.Verdicts.{grown_then}
+use Rattle.js_parsing_laws.specs.Answers.{Underived}
+use Rattle.js_parsing_laws.specs.Contexts.{arrow_head}
+use Rattle.js_parsing_laws.specs.Heads.{NoHead, OnlyArrow}
+use Rattle.js_parsing_laws.specs.Lexemes.{Lex, name_kinds, other_goals, read_kinds, signs, read_word}
+use Rattle.js_parsing_laws.specs.Moves.{Moved, Moves}
+use Rattle.js_parsing_laws.specs.Stands.{StandsHere}
+use Rattle.js_parsing_laws.specs.States.{At, Standing}
+use Rattle.js_parsing_laws.proofs.Here.{found, kind_here, one_plain, plainly, told, uncut, unsettled}
+use Rattle.js_parsing_laws.proofs.Moving.{same_both}
+use Rattle.js_parsing_laws.proofs.NameKinds.{name_apart, name_read, name_whole}
+use Rattle.js_parsing_laws.proofs.Paths.{fails_at, read_of, walked_both, walked_one}
+use Rattle.js_parsing_laws.proofs.Signs.{other_kind}
+use Rattle.js_parsing_laws.proofs.Escapes.{read_as, read_plain, plain_or_word}
+use Rattle.js_parsing_laws.proofs.Verdicts.{grown_then}
 use Rattle.js_operand_laws.proofs.Operands.{name_signless}
 use Rattle.js_targets.proofs.ArraysBeforeSigns.{array_part, is_cover}
 use Rattle.js_targets.proofs.Assigned.{arrow_passes, assign_part, assign_slots, no_branch, no_yield, only_arrow, to_choice}

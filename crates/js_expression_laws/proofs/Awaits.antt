@@ -23,16 +23,16 @@ use Rattle.js_tree.proofs.HoldingLemmas.{Keeps-trans, Keeps-made}
 use Rattle.js_cursor.specs.Parsers.{Parser}
 use Rattle.js_expression_laws.specs.Exponents.{AwaitsHere}
 use Rattle.js_expression_laws.proofs.Exponents.{no_name_awaits}
-use Rattle.js_parsing.specs.Answers.{Underived, Answer, Numbered}
-use Rattle.js_parsing.specs.Lexemes.{Lex}
-use Rattle.js_parsing.specs.Moves.{Moved, MadeHere, plain_label}
-use Rattle.js_parsing.specs.Operators.{unary_kinds}
-use Rattle.js_parsing.specs.States.{At}
-use Rattle.js_parsing.proofs.MadeNodes.{one_held, one_lies}
-use Rattle.js_parsing.proofs.Moving.{same_both}
-use Rattle.js_parsing.proofs.NamedFirsts.{fails_at_await}
-use Rattle.js_parsing.proofs.Paths.{Path, ◌⟼◌, ◌⟶◌, ◌⟶✗◌, fails_at, token, last_called, noded_by, label_here}
-use Rattle.js_parsing.proofs.Phrases.{unary_choice, unary_part}
+use Rattle.js_parsing_laws.specs.Answers.{Underived, Answer, Numbered}
+use Rattle.js_parsing_laws.specs.Lexemes.{Lex}
+use Rattle.js_parsing_laws.specs.Moves.{Moved, MadeHere, plain_label}
+use Rattle.js_parsing_laws.specs.Operators.{unary_kinds}
+use Rattle.js_parsing_laws.specs.States.{At}
+use Rattle.js_parsing_laws.proofs.MadeNodes.{one_held, one_lies}
+use Rattle.js_parsing_laws.proofs.Moving.{same_both}
+use Rattle.js_parsing_laws.proofs.NamedFirsts.{fails_at_await}
+use Rattle.js_parsing_laws.proofs.Paths.{Path, ◌⟼◌, ◌⟶◌, ◌⟶✗◌, fails_at, token, last_called, noded_by, label_here}
+use Rattle.js_parsing_laws.proofs.Phrases.{unary_choice, unary_part}
 use Rattle.js_operand_laws.proofs.Operands.{by_path}
 
 -- behind it there stands what stands behind its operand

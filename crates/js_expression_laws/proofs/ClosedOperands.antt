@@ -20,16 +20,16 @@ use Rattle.js_tree.specs.declared.op.NumberBase.TheVariants as number
 use Rattle.js_cursor.specs.Moves.{OnlyMemory}
 use Rattle.js_cursor.specs.Parsers.{Parser}
 use Rattle.js_cursor.specs.declared.stop.Stop.{Stop}
-use Rattle.js_parsing.specs.Answers.{Answers, Numbered}
-use Rattle.js_parsing.specs.Lexemes.{Lex, may_name, name_kinds}
-use Rattle.js_parsing.specs.Moves.{Tightness}
-use Rattle.js_parsing.specs.Operators.{power_of, unary_kinds}
-use Rattle.js_parsing.specs.Stands.{StandsHere}
-use Rattle.js_parsing.specs.States.{At, Standing}
-use Rattle.js_parsing.proofs.Here.{kind_here, uncut, unsettled}
-use Rattle.js_parsing.proofs.Moving.{same_itself}
-use Rattle.js_parsing.proofs.Phrases.{unary_result}
-use Rattle.js_parsing.proofs.Signs.{plain_sign}
+use Rattle.js_parsing_laws.specs.Answers.{Answers, Numbered}
+use Rattle.js_parsing_laws.specs.Lexemes.{Lex, may_name, name_kinds}
+use Rattle.js_parsing_laws.specs.Moves.{Tightness}
+use Rattle.js_parsing_laws.specs.Operators.{power_of, unary_kinds}
+use Rattle.js_parsing_laws.specs.Stands.{StandsHere}
+use Rattle.js_parsing_laws.specs.States.{At, Standing}
+use Rattle.js_parsing_laws.proofs.Here.{kind_here, uncut, unsettled}
+use Rattle.js_parsing_laws.proofs.Moving.{same_itself}
+use Rattle.js_parsing_laws.proofs.Phrases.{unary_result}
+use Rattle.js_parsing_laws.proofs.Signs.{plain_sign}
 use Rattle.js_operand_laws.specs.Members.{LinkForm, by_call, by_index, by_name, no_link, sign_of}
 use Rattle.js_operand_laws.specs.Numbers.{node_of_number, op_of_number}
 use Rattle.js_operand_laws.specs.Templates.{heads}

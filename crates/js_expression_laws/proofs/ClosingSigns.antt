@@ -19,8 +19,8 @@ use Rattle.js_lex.proofs.Places.{peeks}
 use Rattle.js_lex.proofs.PunctuatorLexemes.{lone_scanned}
 use Rattle.js_lex.proofs.TriviaLemmas.{lone_no_trivia}
 use Rattle.js_cursor.specs.Parsers.{Parser}
-use Rattle.js_parsing.specs.States.{At, IsPlain, nothing, sign, whole}
-use Rattle.js_parsing.proofs.Here.{cut_angle}
+use Rattle.js_parsing_laws.specs.States.{At, IsPlain, nothing, sign, whole}
+use Rattle.js_parsing_laws.proofs.Here.{cut_angle}
 use Rattle.js_expression_laws.specs.ClosedOperands.{ClosesAt, closing_bytes, closing_signs}
 
 -- such a lexeme stands at the place

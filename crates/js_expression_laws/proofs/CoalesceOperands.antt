@@ -32,29 +32,29 @@ use Rattle.js_cursor.specs.Parsers.{Parser}
 use Rattle.js_cursor.specs.Places.{IsAt, goal}
 use Rattle.js_cursor.proofs.Later.{keeps_follows}
 use Rattle.js_cursor.specs.declared.stop.Stop.{Stop}
-use Rattle.js_parsing.specs.Answers.{Grown, Verdict, clean, unclean, wider, Stretch, Underived, Numbered, Stops, beside}
+use Rattle.js_parsing_laws.specs.Answers.{Grown, Verdict, clean, unclean, wider, Stretch, Underived, Numbered, Stops, beside}
 use Rattle.js_targets.specs.Targets.{Stood}
 use Rattle.js_expression_laws.specs.Coalescing.{is_or_and, mixed_at, ChecksMixed}
-use Rattle.js_parsing.specs.Lexemes.{Lex, Walked, spot, Plain}
-use Rattle.js_parsing.specs.Moves.{Moved, MadeHere, IsWholeHere}
-use Rattle.js_parsing.specs.States.{At, Same}
+use Rattle.js_parsing_laws.specs.Lexemes.{Lex, Walked, spot, Plain}
+use Rattle.js_parsing_laws.specs.Moves.{Moved, MadeHere, IsWholeHere}
+use Rattle.js_parsing_laws.specs.States.{At, Same}
 use Rattle.js_expression_laws.proofs.Coalescing.{Begun, operand, operands, coalesced, part, PartReads, AllSigns, NoSign, as_bit_or, no_bit_or, unread_operand, no_short, kind_of_or, begun_alone, begun_fails, begun_step}
-use Rattle.js_parsing.proofs.Signs.{plain_sign, whole_sign, other_kind}
+use Rattle.js_parsing_laws.proofs.Signs.{plain_sign, whole_sign, other_kind}
 use Rattle.js_expression_laws.proofs.Exponents.{lexes_all}
-use Rattle.js_parsing.proofs.Told.{beside_errors}
-use Rattle.js_parsing.proofs.Giving.{gives_up, kept_one}
-use Rattle.js_parsing.proofs.Here.{kind_here, begins_here}
-use Rattle.js_parsing.proofs.MadeNodes.{two_held, made_lies}
-use Rattle.js_parsing.proofs.Moving.{stops_behind, same_both, same_itself, same_with, beside_nodes}
-use Rattle.js_parsing.proofs.Paths.{skips, not_here, read_of, walked_both, walked_one, walked_to}
-use Rattle.js_parsing.proofs.Phrases.{narrow_operand}
-use Rattle.js_parsing.proofs.Signs.{none_kept}
-use Rattle.js_parsing.proofs.Escapes.{read_plain}
-use Rattle.js_parsing.proofs.Tight.{narrows, plain_lex}
-use Rattle.js_parsing.proofs.Verdicts.{verdict_of, either_way, and_then, behind_none, grown_then}
-use Rattle.js_parsing.proofs.Verdicts.{after as grown_behind}
-use Rattle.js_parsing.specs.Classes.{EndsParse}
-use Rattle.js_parsing.proofs.Classes.{one_early}
+use Rattle.js_parsing_laws.proofs.Told.{beside_errors}
+use Rattle.js_parsing_laws.proofs.Giving.{gives_up, kept_one}
+use Rattle.js_parsing_laws.proofs.Here.{kind_here, begins_here}
+use Rattle.js_parsing_laws.proofs.MadeNodes.{two_held, made_lies}
+use Rattle.js_parsing_laws.proofs.Moving.{stops_behind, same_both, same_itself, same_with, beside_nodes}
+use Rattle.js_parsing_laws.proofs.Paths.{skips, not_here, read_of, walked_both, walked_one, walked_to}
+use Rattle.js_parsing_laws.proofs.Phrases.{narrow_operand}
+use Rattle.js_parsing_laws.proofs.Signs.{none_kept}
+use Rattle.js_parsing_laws.proofs.Escapes.{read_plain}
+use Rattle.js_parsing_laws.proofs.Tight.{narrows, plain_lex}
+use Rattle.js_parsing_laws.proofs.Verdicts.{verdict_of, either_way, and_then, behind_none, grown_then}
+use Rattle.js_parsing_laws.proofs.Verdicts.{after as grown_behind}
+use Rattle.js_parsing_laws.specs.Classes.{EndsParse}
+use Rattle.js_parsing_laws.proofs.Classes.{one_early}
 
 -- the same of a node's kind and operator
 abbrev is_or_and_node : NodeKind → Op → Bool

@@ -45,9 +45,9 @@ use Rattle.js_tree.specs.declared.op.BigintBase.TheVariants as bigint
 use Rattle.js_tree.specs.declared.op.ClauseWord.{ClauseWord}
 use Rattle.js_tree.specs.declared.op.ClauseWord.TheVariants as clause
 use Rattle.js_tree.specs.Labels.{op_of, binary_kind, unary_kind, update_kind, assignment_kind, declaration_kind, property_op, method_op_of, number_op, bigint_kind, clause_kind}
-use Rattle.js_parsing.specs.Answers.{Stretch, Underived}
+use Rattle.js_parsing_laws.specs.Answers.{Stretch, Underived}
 use Rattle.js_expression_laws.specs.Coalescing.{is_or_and}
-use Rattle.js_parsing.specs.Lexemes.{Lex}
+use Rattle.js_parsing_laws.specs.Lexemes.{Lex}
 use Rattle.js_operand_laws.specs.Members.{Looped}
 
 -- ---- no operand of `??` is an `||` or `&&` expression

@@ -1,6 +1,6 @@
 -- Conditional expressions (ECMA-262, 13.14), and an AssignmentExpression that is none.
 use Rattle.js_base.proofs.KindLemmas.{kind_of_same}
-use Rattle.js_parsing.proofs.Signs.{plain_sign, other_kind}
+use Rattle.js_parsing_laws.proofs.Signs.{plain_sign, other_kind}
 use Rattle.std.proofs.Common.{ℕ, ◌≡◌, ◌≤◌, List, [], ◌∷◌, length, Bool, true, false, not, ◌&&◌, ◌||◌, IsTrue, Some, None, refl, sym, ap, subst, arith, ◌∙◌}
 use Rattle.std.specs.Prelude.{Err}
 use Rattle.std.proofs.lemmas.Bool.{false≢true, and_from, and_parts}
@@ -43,23 +43,23 @@ use Rattle.js_lex.specs.States.{goal_of}
 use Rattle.js_cursor.specs.Places.{IsAt, goal}
 use Rattle.js_cursor.proofs.Standing.{mark_here}
 use Rattle.js_expression_laws.specs.Rests.{Asked, OnlyOperand}
-use Rattle.js_parsing.specs.Moves.{Passes}
-use Rattle.js_parsing.proofs.Giving.{gives_up}
-use Rattle.js_parsing.specs.Lexemes.{Lex, Plain, other_goals}
+use Rattle.js_parsing_laws.specs.Moves.{Passes}
+use Rattle.js_parsing_laws.proofs.Giving.{gives_up}
+use Rattle.js_parsing_laws.specs.Lexemes.{Lex, Plain, other_goals}
 use Rattle.js_expression_laws.proofs.OnePlace.{brace_stands}
-use Rattle.js_parsing.specs.States.{At, Same}
-use Rattle.js_parsing.specs.Moves.{Moved, MadeHere, plain_label}
-use Rattle.js_parsing.specs.Answers.{Underived, Answer, Numbered, Stops, beside}
+use Rattle.js_parsing_laws.specs.States.{At, Same}
+use Rattle.js_parsing_laws.specs.Moves.{Moved, MadeHere, plain_label}
+use Rattle.js_parsing_laws.specs.Answers.{Underived, Answer, Numbered, Stops, beside}
 use Rattle.js_targets.proofs.Assigned.{an_assign, unassigned, nothing_assigned, assign_plain}
-use Rattle.js_parsing.proofs.Here.{kind_here, told_plain}
-use Rattle.js_parsing.proofs.MadeNodes.{node_held, one_lies}
-use Rattle.js_parsing.proofs.Moving.{same_both}
+use Rattle.js_parsing_laws.proofs.Here.{kind_here, told_plain}
+use Rattle.js_parsing_laws.proofs.MadeNodes.{node_held, one_lies}
+use Rattle.js_parsing_laws.proofs.Moving.{same_both}
 use Rattle.js_operand_laws.proofs.Operands.{by_path}
-use Rattle.js_parsing.proofs.Paths.{Path, ◌⟼◌, ◌⟶◌, ◌⟶✗◌, fails_at, not_here, token, called, last_called, noded_by, by_symbol_as, label_here}
-use Rattle.js_parsing.proofs.Phrases.{lift, lift_fails, narrow_operand, operand_assigned}
-use Rattle.js_parsing.proofs.Escapes.{read_listed, read_plain}
-use Rattle.js_parsing.proofs.Tight.{narrows, plain_lex, plain_so}
-use Rattle.js_parsing.specs.Classes.{EndsParse}
+use Rattle.js_parsing_laws.proofs.Paths.{Path, ◌⟼◌, ◌⟶◌, ◌⟶✗◌, fails_at, not_here, token, called, last_called, noded_by, by_symbol_as, label_here}
+use Rattle.js_parsing_laws.proofs.Phrases.{lift, lift_fails, narrow_operand, operand_assigned}
+use Rattle.js_parsing_laws.proofs.Escapes.{read_listed, read_plain}
+use Rattle.js_parsing_laws.proofs.Tight.{narrows, plain_lex, plain_so}
+use Rattle.js_parsing_laws.specs.Classes.{EndsParse}
 
 pub question_plain : (is_word Question || same_kind PrivateIdentifier Question) ≡ false
 unfolding words

@@ -47,27 +47,27 @@ use Rattle.js_cursor.specs.Moves.{Keeps as KeepsOne}
 use Rattle.js_cursor.specs.Places.{IsAt, goal}
 use Rattle.js_cursor.proofs.Later.{keeps_follows, follows_on}
 use Rattle.js_expression_laws.specs.Exponents.{ChecksBase, begins_by_unary, unary_base}
-use Rattle.js_parsing.specs.Lexemes.{Lex}
-use Rattle.js_parsing.specs.Operators.{unary_kinds}
-use Rattle.js_parsing.specs.States.{At}
-use Rattle.js_parsing.specs.Moves.{Moved, MadeHere, IsWholeHere, plain_label, unpassable}
-use Rattle.js_parsing.specs.Answers.{Grown, Verdict, clean, unclean, wider, Stretch, Underived, Answer, Numbered}
-use Rattle.js_parsing.proofs.Signs.{plain_sign, other_kind}
-use Rattle.js_parsing.proofs.Giving.{kept_one}
-use Rattle.js_parsing.proofs.Told.{beside_errors}
-use Rattle.js_parsing.proofs.Here.{kind_here, found, uncut, begins_here, unsettled}
-use Rattle.js_parsing.proofs.MadeNodes.{two_held, one_lies}
-use Rattle.js_parsing.proofs.Moving.{same_both}
+use Rattle.js_parsing_laws.specs.Lexemes.{Lex}
+use Rattle.js_parsing_laws.specs.Operators.{unary_kinds}
+use Rattle.js_parsing_laws.specs.States.{At}
+use Rattle.js_parsing_laws.specs.Moves.{Moved, MadeHere, IsWholeHere, plain_label, unpassable}
+use Rattle.js_parsing_laws.specs.Answers.{Grown, Verdict, clean, unclean, wider, Stretch, Underived, Answer, Numbered}
+use Rattle.js_parsing_laws.proofs.Signs.{plain_sign, other_kind}
+use Rattle.js_parsing_laws.proofs.Giving.{kept_one}
+use Rattle.js_parsing_laws.proofs.Told.{beside_errors}
+use Rattle.js_parsing_laws.proofs.Here.{kind_here, found, uncut, begins_here, unsettled}
+use Rattle.js_parsing_laws.proofs.MadeNodes.{two_held, one_lies}
+use Rattle.js_parsing_laws.proofs.Moving.{same_both}
 use Rattle.js_operand_laws.proofs.Operands.{by_path, of_unary}
-use Rattle.js_parsing.proofs.Paths.{Path, ◌⟼◌, ◌⟶◌, ◌⟶✗◌, fails_at, not_here, token, called, last_called, noded_by, label_here, read_of}
-use Rattle.js_parsing.proofs.Phrases.{lift, narrow_operand, unary_part, no_await}
-use Rattle.js_parsing.proofs.Escapes.{read_plain}
-use Rattle.js_parsing.proofs.Tight.{narrows, plain_lex}
-use Rattle.js_parsing.proofs.NamedFirsts.{fails_at_await}
-use Rattle.js_parsing.proofs.Verdicts.{verdict_of, either_way}
-use Rattle.js_parsing.proofs.Verdicts.{after as grown_behind}
-use Rattle.js_parsing.specs.Classes.{IsEarly}
-use Rattle.js_parsing.proofs.Classes.{one_early}
+use Rattle.js_parsing_laws.proofs.Paths.{Path, ◌⟼◌, ◌⟶◌, ◌⟶✗◌, fails_at, not_here, token, called, last_called, noded_by, label_here, read_of}
+use Rattle.js_parsing_laws.proofs.Phrases.{lift, narrow_operand, unary_part, no_await}
+use Rattle.js_parsing_laws.proofs.Escapes.{read_plain}
+use Rattle.js_parsing_laws.proofs.Tight.{narrows, plain_lex}
+use Rattle.js_parsing_laws.proofs.NamedFirsts.{fails_at_await}
+use Rattle.js_parsing_laws.proofs.Verdicts.{verdict_of, either_way}
+use Rattle.js_parsing_laws.proofs.Verdicts.{after as grown_behind}
+use Rattle.js_parsing_laws.specs.Classes.{IsEarly}
+use Rattle.js_parsing_laws.proofs.Classes.{one_early}
 
 abbrev power_behind : Flags → G
 power_behind f = tok Star2 ▸ symbol Exponent f

@@ -12,7 +12,7 @@ use Rattle.js_grammar.specs.Productions.{G, Flags, Name, Symbol, at, Program, Pa
 use Rattle.js_grammar.specs.Table.{rule, rule_of}
 use Rattle.js_grammar.proofs.Related.{Like, like_itself}
 use Rattle.js_grammar.proofs.Renamed.{renamed, paired, alike}
-use Rattle.js_parsing.specs.Contexts.{arrow_head}
+use Rattle.js_parsing_laws.specs.Contexts.{arrow_head}
 
 -- the same value, or off in place of on
 abbrev OffOr : Bool → Bool → Type 0

@@ -10,15 +10,15 @@ use Rattle.js_cursor.specs.Moves.{NotesArrow}
 use Rattle.js_cursor.specs.Parsers.{Parser}
 use Rattle.js_cursor.proofs.Changing.{ctx_set}
 use Rattle.js_cursor.proofs.Later.{follows_on}
-use Rattle.js_parsing.specs.Answers.{Grown}
-use Rattle.js_parsing.specs.Contexts.{EntersAsyncHead, arrow_head}
-use Rattle.js_parsing.specs.Heads.{NoHead, widened}
-use Rattle.js_parsing.specs.Lexemes.{Lex, name_kinds}
-use Rattle.js_parsing.specs.Stands.{NameHere, StandsHere}
-use Rattle.js_parsing.specs.States.{At, IsPlain, Same, Standing, flags_of, whole, sign, nothing as none_stands}
-use Rattle.js_parsing.proofs.Contexts.{async_head_at}
-use Rattle.js_parsing.proofs.Moving.{flags_same, standing, standing_for}
-use Rattle.js_parsing.proofs.NameKinds.{listed_here}
+use Rattle.js_parsing_laws.specs.Answers.{Grown}
+use Rattle.js_parsing_laws.specs.Contexts.{EntersAsyncHead, arrow_head}
+use Rattle.js_parsing_laws.specs.Heads.{NoHead, widened}
+use Rattle.js_parsing_laws.specs.Lexemes.{Lex, name_kinds}
+use Rattle.js_parsing_laws.specs.Stands.{NameHere, StandsHere}
+use Rattle.js_parsing_laws.specs.States.{At, IsPlain, Same, Standing, flags_of, whole, sign, nothing as none_stands}
+use Rattle.js_parsing_laws.proofs.Contexts.{async_head_at}
+use Rattle.js_parsing_laws.proofs.Moving.{flags_same, standing, standing_for}
+use Rattle.js_parsing_laws.proofs.NameKinds.{listed_here}
 use Rattle.js_expression_laws.specs.Arrows.{EntersHead, Head, HeadRead, HeadBehindAsync, name_head, NamesHead, NoHeadHere, NoLine, NoLineHere, NoParametersHere, TriesHead, TriesParameters, ToldHead, Unmoved, read_clean, read_unclean}
 use Rattle.js_expression_laws.proofs.Arrows.{neither, plain_head_flags, same_arrow, unmoved, unmoved_went_on}
 use Rattle.js_expression_laws.proofs.NotedHeads.{noted_here}

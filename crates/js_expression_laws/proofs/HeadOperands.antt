@@ -24,14 +24,14 @@ use Rattle.js_tree.specs.Nodes.{Node, empty_program, label, node_at}
 use Rattle.js_cursor.specs.Parsers.{Parser}
 use Rattle.js_cursor.specs.declared.stop.Stop.{Stop}
 use Rattle.js_cursor.specs.declared.stop.Stop.TheVariants.{Fatal, NoMemory}
-use Rattle.js_parsing.specs.Answers.{Answer, Grown, Numbered, Stops, Stretch, Underived, clean, unclean, wider}
-use Rattle.js_parsing.specs.Lexemes.{Lex}
-use Rattle.js_parsing.specs.Moves.{MadeHere}
-use Rattle.js_parsing.specs.States.{At}
-use Rattle.js_parsing.proofs.Here.{kind_here}
-use Rattle.js_parsing.proofs.Paths.{not_here}
-use Rattle.js_parsing.proofs.Escapes.{read_plain}
-use Rattle.js_parsing.proofs.Unbuilt.{nothing_unbuilt}
+use Rattle.js_parsing_laws.specs.Answers.{Answer, Grown, Numbered, Stops, Stretch, Underived, clean, unclean, wider}
+use Rattle.js_parsing_laws.specs.Lexemes.{Lex}
+use Rattle.js_parsing_laws.specs.Moves.{MadeHere}
+use Rattle.js_parsing_laws.specs.States.{At}
+use Rattle.js_parsing_laws.proofs.Here.{kind_here}
+use Rattle.js_parsing_laws.proofs.Paths.{not_here}
+use Rattle.js_parsing_laws.proofs.Escapes.{read_plain}
+use Rattle.js_parsing_laws.proofs.Unbuilt.{nothing_unbuilt}
 use Rattle.js_targets.specs.Taken.{NoTargetFrom, goes_through}
 use Rattle.js_targets.specs.Targets.{is_literal, target_of}
 use Rattle.js_targets.proofs.ArraysBeforeSigns.{is_cover}

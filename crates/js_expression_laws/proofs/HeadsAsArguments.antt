@@ -9,7 +9,7 @@ use Rattle.js_grammar.specs.Productions.{G, Flags, at, opt, tok, plus_in, Params
 use Rattle.js_grammar.specs.Productions.{sym as symbol}
 use Rattle.js_grammar.specs.Table.{rule, rule_of, name, args, bound_rest, rest_of}
 use Rattle.js_grammar.proofs.Frame.{framed}
-use Rattle.js_parsing.proofs.FreeOfIn.{any_in}
+use Rattle.js_parsing_laws.proofs.FreeOfIn.{any_in}
 use Rattle.js_targets.proofs.ArrayTargets.{One, deep, target_step, target_last, target_property, last_property, array_up, object_up}
 use Rattle.js_targets.proofs.Targets.{by_primary, of_assignment, target_left_hand_side}
 

@@ -18,11 +18,11 @@ use Rattle.js_grammar.proofs.Looks.{apart, covers}
 use Rattle.js_tree.specs.declared.id.NodeId.{NodeId}
 use Rattle.js_cursor.specs.Moves.{Peeks}
 use Rattle.js_cursor.specs.Parsers.{Parser}
-use Rattle.js_parsing.specs.Lexemes.{Lex}
-use Rattle.js_parsing.specs.Stands.{StandsHere}
-use Rattle.js_parsing.specs.States.{At, Standing}
-use Rattle.js_parsing.proofs.Paths.{fails_at}
-use Rattle.js_parsing.proofs.Signs.{other_kind, plain_sign}
+use Rattle.js_parsing_laws.specs.Lexemes.{Lex}
+use Rattle.js_parsing_laws.specs.Stands.{StandsHere}
+use Rattle.js_parsing_laws.specs.States.{At, Standing}
+use Rattle.js_parsing_laws.proofs.Paths.{fails_at}
+use Rattle.js_parsing_laws.proofs.Signs.{other_kind, plain_sign}
 use Rattle.js_expression_laws.specs.Arrows.{FindsAnyHead, FindsAsyncHead, FindsHead, IsHeadOf, NoLed}
 use Rattle.js_expression_laws.specs.Lists.{AsyncListBegins, FindsList, NoParameters, parameters_of}
 use Rattle.js_expression_laws.specs.declared.forms.ArrowHead.{ArrowHead}

@@ -27,17 +27,17 @@ use Rattle.js_cursor.specs.Parsers.{Parser}
 use Rattle.js_cursor.specs.declared.stop.Stop.{Stop}
 use Rattle.js_operand_laws.proofs.Links.{no_lhs_here}
 use Rattle.js_operand_laws.proofs.Members.{no_head}
-use Rattle.js_parsing.specs.Answers.{Answers, Stops, Underived}
-use Rattle.js_parsing.specs.Lexemes.{Lex, signs}
-use Rattle.js_parsing.specs.Operators.{unary_kinds}
-use Rattle.js_parsing.specs.States.{At}
-use Rattle.js_parsing.proofs.Classes.{here_ends}
-use Rattle.js_parsing.proofs.Giving.{gives_up}
-use Rattle.js_parsing.proofs.Here.{told, uncut, unsettled}
-use Rattle.js_parsing.proofs.Moving.{stops_behind, stops_so}
-use Rattle.js_parsing.proofs.Paths.{at_kind}
-use Rattle.js_parsing.proofs.Phrases.{no_operator, lift_fails}
-use Rattle.js_parsing.proofs.Verdicts.{after as grown_behind}
+use Rattle.js_parsing_laws.specs.Answers.{Answers, Stops, Underived}
+use Rattle.js_parsing_laws.specs.Lexemes.{Lex, signs}
+use Rattle.js_parsing_laws.specs.Operators.{unary_kinds}
+use Rattle.js_parsing_laws.specs.States.{At}
+use Rattle.js_parsing_laws.proofs.Classes.{here_ends}
+use Rattle.js_parsing_laws.proofs.Giving.{gives_up}
+use Rattle.js_parsing_laws.proofs.Here.{told, uncut, unsettled}
+use Rattle.js_parsing_laws.proofs.Moving.{stops_behind, stops_so}
+use Rattle.js_parsing_laws.proofs.Paths.{at_kind}
+use Rattle.js_parsing_laws.proofs.Phrases.{no_operator, lift_fails}
+use Rattle.js_parsing_laws.proofs.Verdicts.{after as grown_behind}
 use Rattle.js_pattern_laws.specs.Parameters.{parameters_left}
 use Rattle.js_pattern_laws.proofs.ParameterLists.{no_params}
 use Rattle.js_pattern_laws.proofs.Peeks.{peeked_kind}

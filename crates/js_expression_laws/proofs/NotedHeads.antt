@@ -10,14 +10,14 @@ use Rattle.js_cursor.specs.Places.{IsAt}
 use Rattle.js_cursor.proofs.Changing.{noted_on, operand_noted_on}
 use Rattle.js_cursor.proofs.Noting.{noted_step}
 use Rattle.js_expression_laws.specs.Arrows.{NoParametersHere, OnlyArrowHere, Unmoved}
-use Rattle.js_parsing.proofs.ToEnd.{to_end_stays}
-use Rattle.js_parsing.specs.Heads.{NoHead, NotedHeads, OnlyArrow, flags_in, widened}
-use Rattle.js_parsing.specs.Lexemes.{spot}
-use Rattle.js_parsing.specs.States.{At, IsPlain, Standing, flags_of, whole, sign, nothing as none_stands, SpansLie}
+use Rattle.js_parsing_laws.proofs.ToEnd.{to_end_stays}
+use Rattle.js_parsing_laws.specs.Heads.{NoHead, NotedHeads, OnlyArrow, flags_in, widened}
+use Rattle.js_parsing_laws.specs.Lexemes.{spot}
+use Rattle.js_parsing_laws.specs.States.{At, IsPlain, Standing, flags_of, whole, sign, nothing as none_stands, SpansLie}
 use Rattle.js_tree.specs.Holding.{Keeps}
 use Rattle.js_tree.specs.Nodes.{Node}
-use Rattle.js_parsing.proofs.Moving.{flags_same, same_both, standing, standing_for}
-use Rattle.js_parsing.specs.Classes.{IsEarly}
+use Rattle.js_parsing_laws.proofs.Moving.{flags_same, same_both, standing, standing_for}
+use Rattle.js_parsing_laws.specs.Classes.{IsEarly}
 use Rattle.std.proofs.lemmas.List.Elements.{All-same}
 
 -- none stands here, by what is noted

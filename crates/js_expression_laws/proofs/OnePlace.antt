@@ -11,11 +11,11 @@ use Rattle.js_grammar.specs.Lexemes.{division}
 use Rattle.js_grammar.proofs.Alike.{lex-same}
 use Rattle.js_grammar.proofs.Lexemes.{first_or}
 use Rattle.js_lex.specs.Reading.{LexemeBehind}
-use Rattle.js_parsing.specs.Lexemes.{Lex, Plain, is_read, other_goals, signs, signs_of, slashes, template_tails}
-use Rattle.js_parsing.proofs.Here.{Plainly, plain_there, plainly, signs_are}
-use Rattle.js_parsing.proofs.Paths.{read_of}
-use Rattle.js_parsing.proofs.Slashes.{sign_there, tail_goal}
-use Rattle.js_parsing.proofs.Tight.{plain_so}
+use Rattle.js_parsing_laws.specs.Lexemes.{Lex, Plain, is_read, other_goals, signs, signs_of, slashes, template_tails}
+use Rattle.js_parsing_laws.proofs.Here.{Plainly, plain_there, plainly, signs_are}
+use Rattle.js_parsing_laws.proofs.Paths.{read_of}
+use Rattle.js_parsing_laws.proofs.Slashes.{sign_there, tail_goal}
+use Rattle.js_parsing_laws.proofs.Tight.{plain_so}
 
 -- ---- kinds
 

@@ -29,18 +29,18 @@ use Rattle.js_tree.specs.Holding.{Holds, Keeps}
 use Rattle.js_tree.proofs.HoldingLemmas.{Keeps-trans, Keeps-made}
 use Rattle.js_cursor.specs.Moves.{is_last}
 use Rattle.js_cursor.specs.Parsers.{Parser}
-use Rattle.js_parsing.specs.Lexemes.{Lex, Plain, other_goals, Walked, spot, read_kinds}
-use Rattle.js_parsing.specs.States.{At, Same}
-use Rattle.js_parsing.specs.Moves.{Moved, Tightness, MadeHere, operation_label}
-use Rattle.js_parsing.specs.Operators.{power_of}
-use Rattle.js_parsing.specs.Answers.{Grown, Verdict, Stretch, Underived, Numbered, beside}
-use Rattle.js_parsing.proofs.Here.{told_plain, begins_here, found, plain_token, slash_here}
-use Rattle.js_parsing.proofs.Paths.{skips, read_of, walked_both, walked_one, walked_to, walked_from}
-use Rattle.js_parsing.proofs.Tight.{stops_by_power, power_listed, Level, level_of, operator_read, plain_is_none, plain_lex, plain_so, power_anywhere}
-use Rattle.js_parsing.proofs.Verdicts.{verdict_of, either_way, and_then, behind_none, grown_then}
-use Rattle.js_parsing.proofs.Verdicts.{after as grown_behind}
-use Rattle.js_parsing.proofs.Moving.{same_both, same_with, beside_nodes}
-use Rattle.js_parsing.proofs.MadeNodes.{two_held, made_lies}
+use Rattle.js_parsing_laws.specs.Lexemes.{Lex, Plain, other_goals, Walked, spot, read_kinds}
+use Rattle.js_parsing_laws.specs.States.{At, Same}
+use Rattle.js_parsing_laws.specs.Moves.{Moved, Tightness, MadeHere, operation_label}
+use Rattle.js_parsing_laws.specs.Operators.{power_of}
+use Rattle.js_parsing_laws.specs.Answers.{Grown, Verdict, Stretch, Underived, Numbered, beside}
+use Rattle.js_parsing_laws.proofs.Here.{told_plain, begins_here, found, plain_token, slash_here}
+use Rattle.js_parsing_laws.proofs.Paths.{skips, read_of, walked_both, walked_one, walked_to, walked_from}
+use Rattle.js_parsing_laws.proofs.Tight.{stops_by_power, power_listed, Level, level_of, operator_read, plain_is_none, plain_lex, plain_so, power_anywhere}
+use Rattle.js_parsing_laws.proofs.Verdicts.{verdict_of, either_way, and_then, behind_none, grown_then}
+use Rattle.js_parsing_laws.proofs.Verdicts.{after as grown_behind}
+use Rattle.js_parsing_laws.proofs.Moving.{same_both, same_with, beside_nodes}
+use Rattle.js_parsing_laws.proofs.MadeNodes.{two_held, made_lies}
 
 -- A node of the level cap has been read, and what remains is the parts behind it.
 pub record Ring (text : List ℕ) (f : Flags) (m s from cap : ℕ) (l : Label) (cs : Slots) (s' : ℕ) (pass : Lexemes → Lexemes) : Type 0 where

@@ -22,11 +22,11 @@ use Rattle.js_grammar.proofs.FollowLaws.{row_claimed}
 use Rattle.js_grammar.proofs.Heads.{One, the_last, and_more, in_one, of_operands, operand_taken}
 use Rattle.js_grammar.proofs.Looks.{apart, covers, covered, not_both}
 use Rattle.js_grammar.proofs.RightEdges.{of_operand, first_row}
-use Rattle.js_parsing.proofs.FreeOfIn.{any_in}
-use Rattle.js_parsing.proofs.Escapes.{read_plain}
-use Rattle.js_parsing.specs.Answers.{Underived}
-use Rattle.js_parsing.specs.Heads.{OnlyArrow}
-use Rattle.js_parsing.specs.Lexemes.{Lex}
+use Rattle.js_parsing_laws.proofs.FreeOfIn.{any_in}
+use Rattle.js_parsing_laws.proofs.Escapes.{read_plain}
+use Rattle.js_parsing_laws.specs.Answers.{Underived}
+use Rattle.js_parsing_laws.specs.Heads.{OnlyArrow}
+use Rattle.js_parsing_laws.specs.Lexemes.{Lex}
 use Rattle.js_targets.proofs.Targets.{of_assignment, target_left_hand_side}
 
 -- ---- what stands in the parentheses of an operand, as arguments

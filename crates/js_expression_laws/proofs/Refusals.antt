@@ -1,5 +1,5 @@
 -- What is told of an operand that is no target.
-use Rattle.js_parsing.proofs.Signs.{plain_of, none_kept}
+use Rattle.js_parsing_laws.proofs.Signs.{plain_of, none_kept}
 use Rattle.js_targets.proofs.Refused.{refused}
 use Rattle.std.proofs.Common.{ℕ, ◌≡◌, ◌≤◌, ◌⊎◌, inl, inr, List, length, Bool, true, false, not, ◌&&◌, ◌||◌, IsTrue, Some, None, refl, sym, ap, subst, arith, ◌∙◌, nat_lt}
 use Rattle.std.specs.Prelude.{IsCharBoundary, IsSome, is_some, if◌then◌else◌}
@@ -24,22 +24,22 @@ use Rattle.js_grammar.proofs.Looks.{covers, covered, apart}
 use Rattle.js_cursor.specs.Parsers.{Parser}
 use Rattle.js_cursor.specs.Places.{goal}
 use Rattle.js_cursor.specs.declared.stop.Stop.{Stop}
-use Rattle.js_parsing.specs.Answers.{Answer, Numbered, Verdict, Stops}
-use Rattle.js_parsing.specs.Lexemes.{Lex, read_kinds}
-use Rattle.js_parsing.specs.Moves.{Moved}
-use Rattle.js_parsing.specs.Operators.{power_of}
+use Rattle.js_parsing_laws.specs.Answers.{Answer, Numbered, Verdict, Stops}
+use Rattle.js_parsing_laws.specs.Lexemes.{Lex, read_kinds}
+use Rattle.js_parsing_laws.specs.Moves.{Moved}
+use Rattle.js_parsing_laws.specs.Operators.{power_of}
 use Rattle.js_expression_laws.specs.Rests.{update_kinds}
-use Rattle.js_parsing.specs.Stands.{ending_kinds, Ended}
+use Rattle.js_parsing_laws.specs.Stands.{ending_kinds, Ended}
 use Rattle.js_targets.specs.Taken.{no_target_at}
-use Rattle.js_parsing.specs.States.{At, Same}
+use Rattle.js_parsing_laws.specs.States.{At, Same}
 use Rattle.js_targets.specs.Targets.{target_of, Stood}
 use Rattle.js_targets.proofs.Covers.{row_of_target, Untargeted, no_target_there}
-use Rattle.js_parsing.proofs.Here.{found, uncut}
-use Rattle.js_parsing.proofs.Moving.{same_itself, same_both}
-use Rattle.js_parsing.proofs.Paths.{read_of, not_here, settles}
+use Rattle.js_parsing_laws.proofs.Here.{found, uncut}
+use Rattle.js_parsing_laws.proofs.Moving.{same_itself, same_both}
+use Rattle.js_parsing_laws.proofs.Paths.{read_of, not_here, settles}
 use Rattle.js_targets.proofs.Targets.{passes_itself, of_unary}
 use Rattle.js_expression_laws.proofs.Updates.{of_update, update_plain, a_postfix, postfix_here, line_here}
-use Rattle.js_parsing.specs.Classes.{EndsParse}
+use Rattle.js_parsing_laws.specs.Classes.{EndsParse}
 use Rattle.js_cursor.specs.Moves.{GivesUp}
 
 -- ---- what ends an operand

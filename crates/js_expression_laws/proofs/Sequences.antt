@@ -27,23 +27,23 @@ use Rattle.js_tree.specs.Nodes.{Node}
 use Rattle.js_tree.specs.Holding.{Holds, HoldsAll, Keeps}
 use Rattle.js_tree.proofs.HoldingLemmas.{HoldsAll-one, HoldsAll-next, Keeps-trans, Keeps-made}
 use Rattle.js_cursor.specs.Parsers.{Parser}
-use Rattle.js_parsing.specs.Lexemes.{Lex, Walked, spot, Plain}
-use Rattle.js_parsing.specs.States.{At, Same}
-use Rattle.js_parsing.specs.Moves.{Moved, MadeHere, plain_label}
-use Rattle.js_parsing.specs.Nesting.{room}
-use Rattle.js_parsing.specs.Answers.{Grown, Verdict, Stretch, Underived, Numbered, beside}
-use Rattle.js_parsing.proofs.Signs.{plain_sign, other_kind}
-use Rattle.js_parsing.proofs.Here.{begins_here, kind_here}
-use Rattle.js_parsing.proofs.MadeNodes.{node_held, one_lies}
-use Rattle.js_parsing.proofs.Moving.{same_both}
-use Rattle.js_parsing.proofs.Nesting.{later_room}
+use Rattle.js_parsing_laws.specs.Lexemes.{Lex, Walked, spot, Plain}
+use Rattle.js_parsing_laws.specs.States.{At, Same}
+use Rattle.js_parsing_laws.specs.Moves.{Moved, MadeHere, plain_label}
+use Rattle.js_parsing_laws.specs.Nesting.{room}
+use Rattle.js_parsing_laws.specs.Answers.{Grown, Verdict, Stretch, Underived, Numbered, beside}
+use Rattle.js_parsing_laws.proofs.Signs.{plain_sign, other_kind}
+use Rattle.js_parsing_laws.proofs.Here.{begins_here, kind_here}
+use Rattle.js_parsing_laws.proofs.MadeNodes.{node_held, one_lies}
+use Rattle.js_parsing_laws.proofs.Moving.{same_both}
+use Rattle.js_parsing_laws.proofs.Nesting.{later_room}
 use Rattle.js_operand_laws.proofs.Operands.{by_path}
-use Rattle.js_parsing.proofs.Paths.{Path, skips, not_here, walked_both, walked_one, label_here}
-use Rattle.js_parsing.proofs.Phrases.{lift, narrow_operand, narrow_assignment}
-use Rattle.js_parsing.proofs.Escapes.{read_plain}
-use Rattle.js_parsing.proofs.Tight.{narrows, plain_lex}
-use Rattle.js_parsing.proofs.Verdicts.{verdict_of, either_way, and_then, behind_none, grown_then}
-use Rattle.js_parsing.proofs.Verdicts.{after as grown_behind}
+use Rattle.js_parsing_laws.proofs.Paths.{Path, skips, not_here, walked_both, walked_one, label_here}
+use Rattle.js_parsing_laws.proofs.Phrases.{lift, narrow_operand, narrow_assignment}
+use Rattle.js_parsing_laws.proofs.Escapes.{read_plain}
+use Rattle.js_parsing_laws.proofs.Tight.{narrows, plain_lex}
+use Rattle.js_parsing_laws.proofs.Verdicts.{verdict_of, either_way, and_then, behind_none, grown_then}
+use Rattle.js_parsing_laws.proofs.Verdicts.{after as grown_behind}
 
 abbrev item : Flags → G
 item f = symbol Assignment f

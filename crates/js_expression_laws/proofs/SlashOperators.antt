@@ -23,10 +23,10 @@ use Rattle.js_grammar.proofs.OperatorLoops.{operand_follow}
 use Rattle.js_grammar.proofs.Operators.{climbs, levels, operates}
 use Rattle.js_grammar.proofs.RightEdges.{of_operand}
 use Rattle.js_grammar.proofs.Towers.{Link, OneOf, linked_label}
-use Rattle.js_parsing.specs.Lexemes.{Lex, Plain, other_goals, slashes}
-use Rattle.js_parsing.specs.Operators.{power_of}
-use Rattle.js_parsing.proofs.Escapes.{read_plain}
-use Rattle.js_parsing.proofs.Tight.{plain_so}
+use Rattle.js_parsing_laws.specs.Lexemes.{Lex, Plain, other_goals, slashes}
+use Rattle.js_parsing_laws.specs.Operators.{power_of}
+use Rattle.js_parsing_laws.proofs.Escapes.{read_plain}
+use Rattle.js_parsing_laws.proofs.Tight.{plain_so}
 use Rattle.js_expression_laws.proofs.OnePlace.{brace_stands}
 
 -- ---- no operator is of another lexical goal, nor a brace

@@ -23,16 +23,16 @@ use Rattle.js_cursor.specs.Notes.{is_noted}
 use Rattle.js_cursor.specs.Parsers.{Parser}
 use Rattle.js_cursor.specs.declared.stop.Stop.{Stop}
 use Rattle.js_cursor.specs.declared.stop.Stop.TheVariants.{Fatal}
-use Rattle.js_parsing.specs.Answers.{Grown, Refuses, Stops, Stretch, Underived}
-use Rattle.js_parsing.specs.Arguments.{Arguments, NoArguments, Partway, item_of, list_of}
-use Rattle.js_parsing.specs.Heads.{NoHead, OnlyArrow}
-use Rattle.js_parsing.specs.Lexemes.{Lex}
-use Rattle.js_parsing.specs.States.{At, Standing}
-use Rattle.js_parsing.proofs.Here.{kind_here}
-use Rattle.js_parsing.proofs.Moving.{same_both, standing}
-use Rattle.js_parsing.proofs.Paths.{walked_from}
-use Rattle.js_parsing.proofs.Unbuilt.{nothing_unbuilt}
-use Rattle.js_parsing.proofs.Verdicts.{either_way}
+use Rattle.js_parsing_laws.specs.Answers.{Grown, Refuses, Stops, Stretch, Underived}
+use Rattle.js_parsing_laws.specs.Arguments.{Arguments, NoArguments, Partway, item_of, list_of}
+use Rattle.js_parsing_laws.specs.Heads.{NoHead, OnlyArrow}
+use Rattle.js_parsing_laws.specs.Lexemes.{Lex}
+use Rattle.js_parsing_laws.specs.States.{At, Standing}
+use Rattle.js_parsing_laws.proofs.Here.{kind_here}
+use Rattle.js_parsing_laws.proofs.Moving.{same_both, standing}
+use Rattle.js_parsing_laws.proofs.Paths.{walked_from}
+use Rattle.js_parsing_laws.proofs.Unbuilt.{nothing_unbuilt}
+use Rattle.js_parsing_laws.proofs.Verdicts.{either_way}
 use Rattle.js_targets.specs.Others.{NoYield}
 use Rattle.js_targets.proofs.ArraysBeforeSigns.{is_cover}
 use Rattle.js_expression_laws.specs.Arrows.{ArgumentsTold, AttemptsHead, FindsHead, Head, HeadDerived, HeadRead, HeadStands, NeverArrow, read_clean, read_unclean, IsHeadRead, NoHeadHere, NoLine, NoSlash, OnlyArrowHere, OperandExcluded, PlainHead, a_head, told_head, SlashFound, ToldHead, TriesHead, Unmoved, WentOn, head_of}
@@ -41,7 +41,7 @@ use Rattle.js_expression_laws.proofs.HeadsAsArguments.{params_as_arguments}
 use Rattle.js_expression_laws.proofs.NotedHeads.{noted_operand, there_too}
 use Rattle.js_expression_laws.proofs.ParenthesizedFronts.{no_operand_before}
 use Rattle.js_expression_laws.proofs.SlashesInText.{all_calm}
-use Rattle.js_parsing.specs.Contexts.{arrow_head}
+use Rattle.js_parsing_laws.specs.Contexts.{arrow_head}
 use Rattle.js_expression_laws.proofs.FreeOfAwait.{params_around}
 use Rattle.js_expression_laws.specs.Closings.{ArrowBehindOne, ArrowFound}
 use Rattle.js_expression_laws.proofs.Exponents.{longer}

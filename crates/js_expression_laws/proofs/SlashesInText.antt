@@ -21,9 +21,9 @@ use Rattle.js_lex.proofs.KindsOfLexemes.{plain_end, slash_word, slash_equals_wor
 use Rattle.js_lex.proofs.Places.{at_end, peeks}
 use Rattle.js_lex.proofs.StringPlaces.{front_word}
 use Rattle.js_lex.proofs.TriviaLemmas.{some_width}
-use Rattle.js_parsing.specs.Lexemes.{Lex, other_goals, signs_of, slashes}
-use Rattle.js_parsing.proofs.Here.{plainly}
-use Rattle.js_parsing.proofs.Slashes.{pattern_goal, sign_there}
+use Rattle.js_parsing_laws.specs.Lexemes.{Lex, other_goals, signs_of, slashes}
+use Rattle.js_parsing_laws.proofs.Here.{plainly}
+use Rattle.js_parsing_laws.proofs.Slashes.{pattern_goal, sign_there}
 use Rattle.js_expression_laws.specs.Arrows.{NoSlash}
 use Rattle.js_expression_laws.proofs.Arrows.{AllCalm}
 use Rattle.js_expression_laws.proofs.OnePlace.{calm}

@@ -33,24 +33,24 @@ use Rattle.js_tree.specs.Holding.{Holds, Keeps}
 use Rattle.js_tree.proofs.HoldingLemmas.{Keeps-trans, Keeps-made}
 use Rattle.js_cursor.specs.Parsers.{Parser}
 use Rattle.js_cursor.specs.Moves.{is_last}
-use Rattle.js_parsing.specs.Lexemes.{Lex, is_read, read_kinds, Plain}
+use Rattle.js_parsing_laws.specs.Lexemes.{Lex, is_read, read_kinds, Plain}
 use Rattle.js_expression_laws.specs.Rests.{update_kinds}
-use Rattle.js_parsing.specs.States.{At}
-use Rattle.js_parsing.specs.Moves.{Moved, MadeHere, plain_label}
-use Rattle.js_parsing.specs.Answers.{Underived, Answer, Numbered, beside}
+use Rattle.js_parsing_laws.specs.States.{At}
+use Rattle.js_parsing_laws.specs.Moves.{Moved, MadeHere, plain_label}
+use Rattle.js_parsing_laws.specs.Answers.{Underived, Answer, Numbered, beside}
 use Rattle.js_targets.specs.Targets.{target_of, TargetNode}
-use Rattle.js_parsing.proofs.Signs.{plain_sign}
+use Rattle.js_parsing_laws.proofs.Signs.{plain_sign}
 use Rattle.js_targets.proofs.Covers.{row_of_target, target_path, target_fails, target_unread}
-use Rattle.js_parsing.proofs.Here.{kind_here, unsettled, newline_here}
-use Rattle.js_parsing.proofs.MadeNodes.{one_held, one_lies}
-use Rattle.js_parsing.proofs.Moving.{same_both}
+use Rattle.js_parsing_laws.proofs.Here.{kind_here, unsettled, newline_here}
+use Rattle.js_parsing_laws.proofs.MadeNodes.{one_held, one_lies}
+use Rattle.js_parsing_laws.proofs.Moving.{same_both}
 use Rattle.js_operand_laws.proofs.Operands.{by_path}
-use Rattle.js_parsing.proofs.Paths.{reads, Path, ◌⟼◌, ◌⟶◌, ◌⟶✗◌, at_kind, fails_at, token, last_token, last_called, noded, flagged_by, flagged_here, label_here}
-use Rattle.js_parsing.proofs.Phrases.{lift, plain_row, primary_operand}
+use Rattle.js_parsing_laws.proofs.Paths.{reads, Path, ◌⟼◌, ◌⟶◌, ◌⟶✗◌, at_kind, fails_at, token, last_token, last_called, noded, flagged_by, flagged_here, label_here}
+use Rattle.js_parsing_laws.proofs.Phrases.{lift, plain_row, primary_operand}
 use Rattle.js_targets.proofs.Targets.{passes_itself, of_unary}
-use Rattle.js_parsing.proofs.Escapes.{read_plain, no_word_among}
-use Rattle.js_parsing.proofs.Tight.{plain_is_read, plain_lex}
-use Rattle.js_parsing.proofs.Verdicts.{verdict_of}
+use Rattle.js_parsing_laws.proofs.Escapes.{read_plain, no_word_among}
+use Rattle.js_parsing_laws.proofs.Tight.{plain_is_read, plain_lex}
+use Rattle.js_parsing_laws.proofs.Verdicts.{verdict_of}
 
 -- a claim on both operators
 pub of_update : (P : Kind → Type 0) (k : Kind) → one_of_kinds update_kinds k ≡ true → P Plus2 → P Minus2 → P k

@@ -31,18 +31,18 @@ use Rattle.js_tree.specs.Nodes.{Node}
 use Rattle.js_tree.specs.Holding.{Holds, Keeps}
 use Rattle.js_tree.proofs.HoldingLemmas.{HoldsAll-one_hole, Keeps-refl, Keeps-trans, Keeps-made, Keeps-longer}
 use Rattle.js_cursor.specs.Parsers.{Parser}
-use Rattle.js_parsing.specs.Answers.{Underived, Answer, Numbered}
-use Rattle.js_parsing.specs.Lexemes.{Lex, other_goals, slashes, template_tails}
-use Rattle.js_parsing.specs.Moves.{Moved, MadeHere, plain_label}
-use Rattle.js_parsing.specs.States.{At}
-use Rattle.js_parsing.proofs.Ahead.{pass_over}
-use Rattle.js_parsing.proofs.Here.{told_plain, angled, uncut, kind_here, newline_here, sign_here, slash_here}
-use Rattle.js_parsing.proofs.MadeNodes.{node_held, one_held, one_lies}
-use Rattle.js_parsing.proofs.Moving.{same_both}
-use Rattle.js_parsing.proofs.NamedFirsts.{fails_at_yield}
-use Rattle.js_parsing.proofs.Paths.{Path, angles, reads, ◌⟼◌, ◌⟶◌, ◌⟶✗◌, fails_at, token, last_called, noded_by, flagged_by, flagged_here, label_here, by_symbol_as}
-use Rattle.js_parsing.proofs.Signs.{other_kind, plain_sign}
-use Rattle.js_parsing.proofs.Tight.{plain_lex}
+use Rattle.js_parsing_laws.specs.Answers.{Underived, Answer, Numbered}
+use Rattle.js_parsing_laws.specs.Lexemes.{Lex, other_goals, slashes, template_tails}
+use Rattle.js_parsing_laws.specs.Moves.{Moved, MadeHere, plain_label}
+use Rattle.js_parsing_laws.specs.States.{At}
+use Rattle.js_parsing_laws.proofs.Ahead.{pass_over}
+use Rattle.js_parsing_laws.proofs.Here.{told_plain, angled, uncut, kind_here, newline_here, sign_here, slash_here}
+use Rattle.js_parsing_laws.proofs.MadeNodes.{node_held, one_held, one_lies}
+use Rattle.js_parsing_laws.proofs.Moving.{same_both}
+use Rattle.js_parsing_laws.proofs.NamedFirsts.{fails_at_yield}
+use Rattle.js_parsing_laws.proofs.Paths.{Path, angles, reads, ◌⟼◌, ◌⟶◌, ◌⟶✗◌, fails_at, token, last_called, noded_by, flagged_by, flagged_here, label_here, by_symbol_as}
+use Rattle.js_parsing_laws.proofs.Signs.{other_kind, plain_sign}
+use Rattle.js_parsing_laws.proofs.Tight.{plain_lex}
 use Rattle.js_operand_laws.proofs.Operands.{by_path}
 use Rattle.js_expression_laws.proofs.OnePlace.{brace_of, tail_of}
 use Rattle.js_pattern_laws.proofs.Bindings.{ended_by}

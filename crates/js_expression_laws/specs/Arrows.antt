@@ -25,13 +25,13 @@ use Rattle.js_cursor.specs.Notes.{is_noted}
 use Rattle.js_cursor.specs.Parsers.{Parser}
 use Rattle.js_cursor.specs.declared.stop.Stop.{Stop}
 use Rattle.js_cursor.specs.declared.stop.Stop.TheVariants.{Fatal}
-use Rattle.js_parsing.specs.Answers.{Answers, Grown, Outcome, Stops, Stretch, Underived}
-use Rattle.js_parsing.specs.Contexts.{EntersAsyncHead, arrow_body, arrow_head, braced_body}
-use Rattle.js_parsing.specs.Heads.{NoHead, NotedHeads, OnlyArrow}
-use Rattle.js_parsing.specs.Lexemes.{Lex, Walked, name_kinds, spot}
-use Rattle.js_parsing.specs.Moves.{Moved}
-use Rattle.js_parsing.specs.Stands.{StandsHere}
-use Rattle.js_parsing.specs.States.{At, Same, NodesLie, SpansLie}
+use Rattle.js_parsing_laws.specs.Answers.{Answers, Grown, Outcome, Stops, Stretch, Underived}
+use Rattle.js_parsing_laws.specs.Contexts.{EntersAsyncHead, arrow_body, arrow_head, braced_body}
+use Rattle.js_parsing_laws.specs.Heads.{NoHead, NotedHeads, OnlyArrow}
+use Rattle.js_parsing_laws.specs.Lexemes.{Lex, Walked, name_kinds, spot}
+use Rattle.js_parsing_laws.specs.Moves.{Moved}
+use Rattle.js_parsing_laws.specs.Stands.{StandsHere}
+use Rattle.js_parsing_laws.specs.States.{At, Same, NodesLie, SpansLie}
 use Rattle.js_targets.specs.Others.{NoYield}
 use Rattle.js_expression_laws.specs.declared.forms.ArrowHead.{ArrowHead}
 use Rattle.js_expression_laws.specs.Closings.{ArrowBehindOne}

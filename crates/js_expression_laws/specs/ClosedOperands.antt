@@ -9,7 +9,7 @@ use Rattle.js_tree.specs.declared.kind.NodeKind.TheVariants as node
 use Rattle.js_tree.specs.declared.op.Op.TheVariants as op
 use Rattle.js_tree.specs.declared.op.NumberBase.TheVariants as base
 use Rattle.js_cursor.specs.Parsers.{Parser}
-use Rattle.js_parsing.specs.Moves.{TakesLeaf}
+use Rattle.js_parsing_laws.specs.Moves.{TakesLeaf}
 
 -- no expression goes on with these
 abbrev pub closing_signs : List Kind

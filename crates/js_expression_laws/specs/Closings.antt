@@ -7,7 +7,7 @@ use Rattle.js_grammar.specs.Brackets.{bracket, move, pop}
 use Rattle.js_grammar.specs.Grammar.{Lexeme}
 use Rattle.js_grammar.specs.Lexemes.{division}
 use Rattle.js_lex.specs.Reading.{LexemeBehind}
-use Rattle.js_parsing.specs.Lexemes.{slashes}
+use Rattle.js_parsing_laws.specs.Lexemes.{slashes}
 use Rattle.js_expression_laws.specs.declared.forms.OpenBracket.{OpenBracket}
 use Rattle.js_expression_laws.specs.declared.forms.OpenBracket.TheVariants.{Round, Square, Curly}
 

@@ -8,7 +8,7 @@ use Rattle.js_grammar.specs.Trees.{Op, of}
 use Rattle.js_cursor.specs.Moves.{Keeps, GivesUp}
 use Rattle.js_cursor.specs.Parsers.{Parser}
 use Rattle.js_cursor.specs.declared.stop.Stop.{Stop}
-use Rattle.js_parsing.specs.Classes.{EndsParse}
+use Rattle.js_parsing_laws.specs.Classes.{EndsParse}
 
 -- the operator of a node is `||` or `&&`
 abbrev pub is_or_and : Op → Bool

@@ -8,7 +8,7 @@ use Rattle.js_base.specs.declared.diagnostic.Diagnostic.{Diagnostic}
 use Rattle.js_base.specs.declared.diagnostic.DiagnosticKind.TheVariants.{UnaryExponentiationLeftOperand}
 use Rattle.js_cursor.specs.Moves.{Keeps}
 use Rattle.js_cursor.specs.Parsers.{Parser}
-use Rattle.js_parsing.specs.Operators.{unary_kinds}
+use Rattle.js_parsing_laws.specs.Operators.{unary_kinds}
 
 -- a unary expression there is no base
 abbrev pub unary_base : ℕ → ℕ → Diagnostic

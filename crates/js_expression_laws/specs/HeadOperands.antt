@@ -12,9 +12,9 @@ use Rattle.js_tree.specs.Holding.{Holds}
 use Rattle.js_cursor.specs.Parsers.{Parser}
 use Rattle.js_cursor.specs.declared.stop.Stop.{Stop}
 use Rattle.js_cursor.specs.declared.stop.Stop.TheVariants.{Fatal, NoMemory}
-use Rattle.js_parsing.specs.Answers.{Numbered}
-use Rattle.js_parsing.specs.Lexemes.{Lex}
-use Rattle.js_parsing.specs.States.{At}
+use Rattle.js_parsing_laws.specs.Answers.{Numbered}
+use Rattle.js_parsing_laws.specs.Lexemes.{Lex}
+use Rattle.js_parsing_laws.specs.States.{At}
 use Rattle.js_targets.specs.Taken.{NoTargetFrom}
 use Rattle.js_targets.specs.Targets.{is_literal, target_of}
 

@@ -11,11 +11,11 @@ use Rattle.js_tree.specs.Labels.{kind_of}
 use Rattle.js_tree.specs.Nodes.{node_at}
 use Rattle.js_cursor.specs.Parsers.{Parser}
 use Rattle.js_cursor.specs.declared.stop.Stop.{Stop}
-use Rattle.js_parsing.specs.Answers.{Numbered}
-use Rattle.js_parsing.specs.Contexts.{arrow_head}
-use Rattle.js_parsing.specs.Lexemes.{Lex}
-use Rattle.js_parsing.specs.Stands.{StandsHere}
-use Rattle.js_parsing.specs.States.{At}
+use Rattle.js_parsing_laws.specs.Answers.{Numbered}
+use Rattle.js_parsing_laws.specs.Contexts.{arrow_head}
+use Rattle.js_parsing_laws.specs.Lexemes.{Lex}
+use Rattle.js_parsing_laws.specs.Stands.{StandsHere}
+use Rattle.js_parsing_laws.specs.States.{At}
 use Rattle.js_expression_laws.specs.Arrows.{IsHeadBefore, NoAssignment, Unmoved, lead_of}
 use Rattle.js_expression_laws.specs.declared.forms.ArrowHead.{ArrowHead}
 

@@ -7,8 +7,8 @@ use Rattle.js_base.specs.KindSets.{literal_kinds}
 use Rattle.js_base.specs.Operators.{row_of, unary_operators, update_operators}
 use Rattle.js_grammar.specs.Productions.{Flags}
 use Rattle.js_cursor.specs.Parsers.{Parser}
-use Rattle.js_parsing.specs.Heads.{NoHead}
-use Rattle.js_parsing.specs.States.{At}
+use Rattle.js_parsing_laws.specs.Heads.{NoHead}
+use Rattle.js_parsing_laws.specs.States.{At}
 use Rattle.js_expression_laws.specs.Arrows.{NoOperandHere}
 use Rattle.js_expression_laws.specs.declared.forms.HeadLookahead.{HeadLookahead}
 use Rattle.js_expression_laws.specs.declared.forms.HeadLookahead.TheVariants as lookahead

@@ -11,8 +11,8 @@ use Rattle.js_targets.specs.Targets.{is_literal}
 use Rattle.js_cursor.specs.Parsers.{Parser}
 use Rattle.js_cursor.specs.Places.{goal}
 use Rattle.js_cursor.specs.declared.stop.Stop.{Stop}
-use Rattle.js_parsing.specs.Answers.{Numbered, Outcome}
-use Rattle.js_parsing.specs.States.{At}
+use Rattle.js_parsing_laws.specs.Answers.{Numbered, Outcome}
+use Rattle.js_parsing_laws.specs.States.{At}
 
 -- neither an arrow function nor a YieldExpression begins at the place
 abbrev pub OnlyOperand : List ℕ → Flags → ℕ → Type 0

@@ -10,9 +10,9 @@ use Rattle.js_grammar.specs.Productions.{Flags, at, Assignment}
 use Rattle.js_tree.specs.declared.id.NodeId.{NodeId}
 use Rattle.js_cursor.specs.Parsers.{Parser}
 use Rattle.js_cursor.specs.declared.stop.Stop.{Stop}
-use Rattle.js_parsing.specs.Answers.{Outcome}
-use Rattle.js_parsing.specs.Moves.{Moved}
-use Rattle.js_parsing.specs.States.{At}
+use Rattle.js_parsing_laws.specs.Answers.{Outcome}
+use Rattle.js_parsing_laws.specs.Moves.{Moved}
+use Rattle.js_parsing_laws.specs.States.{At}
 
 -- `yield` stands here, without an escape, under Yield
 pub record BeginsYield (p : Parser) : Type 0 where

@@ -4,7 +4,7 @@ ghost use Rattle.std.specs.Prelude.{◌≡◌, MatchResult};
 ghost use Rattle.js_base.specs.Characters.{one_of};
 ghost use Rattle.js_cursor.specs.Moves.{OnlyMemory};
 ghost use Rattle.js_expression_laws.specs.ClosedOperands.{TakesClosed, TakesLexeme, ClosesAt, closing_bytes};
-ghost use Rattle.js_parsing.specs.States.{Standing};
+ghost use Rattle.js_parsing_laws.specs.States.{Standing};
 
 use js_base::Kind;
 use js_cursor::{ParserImpl, Stop};

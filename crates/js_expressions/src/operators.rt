@@ -9,18 +9,18 @@ ghost use Rattle.js_tree.specs.Holding.{Holds};
 ghost use Rattle.js_tree.specs.Labels.{logical_kind};
 ghost use Rattle.js_expression_laws.specs.Coalescing.{ChecksMixed, mixed_at};
 ghost use Rattle.js_expression_laws.specs.Coalescing as coalescing;
-ghost use Rattle.js_parsing.specs.Lexemes.{Lex};
+ghost use Rattle.js_parsing_laws.specs.Lexemes.{Lex};
 ghost use Rattle.js_targets.specs.Targets.{Stood};
 ghost use Rattle.js_grammar.specs.Levels.{level_at};
 ghost use Rattle.js_grammar.specs.Marks.{Mark};
 ghost use Rattle.js_cursor.specs.Places.{IsAt, goal};
 ghost use Rattle.js_expression_laws.specs.Exponents.{ChecksBase, begins_by_unary, unary_base};
 ghost use Rattle.js_grammar.specs.Productions.{at, Exponent, Short};
-ghost use Rattle.js_parsing.specs.Answers.{Answers};
-ghost use Rattle.js_parsing.specs.Moves.{MadeHere, operation_label};
-ghost use Rattle.js_parsing.specs.Nesting.{CanNest, room};
-ghost use Rattle.js_parsing.specs.Operators.{power_of};
-ghost use Rattle.js_parsing.specs.States.{Standing};
+ghost use Rattle.js_parsing_laws.specs.Answers.{Answers};
+ghost use Rattle.js_parsing_laws.specs.Moves.{MadeHere, operation_label};
+ghost use Rattle.js_parsing_laws.specs.Nesting.{CanNest, room};
+ghost use Rattle.js_parsing_laws.specs.Operators.{power_of};
+ghost use Rattle.js_parsing_laws.specs.States.{Standing};
 
 use crate::unary::{begins_await, parse_unary_expression_or_higher};
 use js_base::{
@@ -31,8 +31,8 @@ use js_cursor::{ParserImpl, Stop};
 use js_lex::ParserConfig;
 use js_parsing::diagnostics::kept_so_far;
 use js_parsing::lexemes::{advance, operator_here, reads_here};
-use js_parsing::nested::Nested;
 use js_parsing::nodes::make_two;
+use js_parsing_laws::nested::Nested;
 use js_tree::{NodeId, NodeKind, Op, ParserAstBuilder};
 
 /// A ShortCircuitExpression (ECMA-262, section 13.13): operands, and `??` between them, grouped to the left. An operand

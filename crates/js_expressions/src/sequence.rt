@@ -4,17 +4,17 @@ ghost use Rattle.std.specs.Prelude.{◌≡◌, ◌≤◌, ◌∷◌, [], Some};
 ghost use Rattle.js_base.specs.declared.kind.Kind.TheVariants.{Comma};
 ghost use Rattle.js_grammar.specs.Productions.{at, Expression};
 ghost use Rattle.js_expression_laws.specs.HeadOperands.{TellsOperand};
-ghost use Rattle.js_parsing.specs.Answers.{Answers};
-ghost use Rattle.js_parsing.specs.Nesting.{CanNest, room};
-ghost use Rattle.js_parsing.specs.States.{Standing};
+ghost use Rattle.js_parsing_laws.specs.Answers.{Answers};
+ghost use Rattle.js_parsing_laws.specs.Nesting.{CanNest, room};
+ghost use Rattle.js_parsing_laws.specs.States.{Standing};
 
 use crate::assignment::parse_assignment_expression;
 use js_base::Kind;
 use js_cursor::{ParserImpl, Stop};
 use js_lex::ParserConfig;
 use js_parsing::lexemes::advance;
-use js_parsing::nested::Nested;
 use js_parsing::nodes::make_list;
+use js_parsing_laws::nested::Nested;
 use js_tree::{NodeId, NodeKind, Op};
 
 /// An Expression (ECMA-262, section 13.16).

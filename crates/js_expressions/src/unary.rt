@@ -4,18 +4,18 @@ ghost use Rattle.std.specs.Prelude.{◌≡◌, ◌↔◌, IsTrue, true, false};
 ghost use Rattle.js_base.specs.Kinds.{one_of_kinds};
 ghost use Rattle.js_expression_laws.specs.Exponents.{AwaitsHere};
 ghost use Rattle.js_grammar.specs.Productions.{at, Unary};
-ghost use Rattle.js_parsing.specs.Answers.{Answers};
-ghost use Rattle.js_parsing.specs.Nesting.{CanNest, room};
-ghost use Rattle.js_parsing.specs.Operators.{unary_kinds};
-ghost use Rattle.js_parsing.specs.States.{Standing};
+ghost use Rattle.js_parsing_laws.specs.Answers.{Answers};
+ghost use Rattle.js_parsing_laws.specs.Nesting.{CanNest, room};
+ghost use Rattle.js_parsing_laws.specs.Operators.{unary_kinds};
+ghost use Rattle.js_parsing_laws.specs.States.{Standing};
 
 use crate::update::parse_update_expression;
 use js_base::{Kind, map_unary_operator};
 use js_cursor::{ParserImpl, Stop};
 use js_lex::ParserConfig;
 use js_parsing::lexemes::{advance, escaped_word_stands};
-use js_parsing::nested::Nested;
 use js_parsing::nodes::make_one;
+use js_parsing_laws::nested::Nested;
 use js_tree::{NodeId, NodeKind, Op};
 
 /// A UnaryExpression (ECMA-262, section 13.5): an operator or `await` and what it stands before, or an UpdateExpression.

@@ -5,11 +5,11 @@ ghost use Rattle.js_base.specs.Kinds.{one_of_kinds};
 ghost use Rattle.js_grammar.specs.Productions.{at, Update, prefix_flag};
 ghost use Rattle.js_tree.specs.declared.kind.NodeKind.TheVariants as node;
 ghost use Rattle.js_tree.specs.declared.op.Op.TheVariants as op;
-ghost use Rattle.js_parsing.specs.Answers.{Answers};
-ghost use Rattle.js_parsing.specs.Moves.{MadeHere, plain_label};
-ghost use Rattle.js_parsing.specs.Nesting.{CanNest, room};
+ghost use Rattle.js_parsing_laws.specs.Answers.{Answers};
+ghost use Rattle.js_parsing_laws.specs.Moves.{MadeHere, plain_label};
+ghost use Rattle.js_parsing_laws.specs.Nesting.{CanNest, room};
 ghost use Rattle.js_expression_laws.specs.Rests.{update_kinds};
-ghost use Rattle.js_parsing.specs.States.{Standing};
+ghost use Rattle.js_parsing_laws.specs.States.{Standing};
 
 use js_base::{NoMemory, Span, UpdateOperator, map_update_operator};
 use js_cursor::{ParserImpl, Stop};
@@ -17,8 +17,8 @@ use js_lex::ParserConfig;
 use js_operands::left_hand_side::parse_lhs_expression_or_higher;
 use js_parsing::diagnostics::kept_so_far;
 use js_parsing::lexemes::{advance, ends_operand};
-use js_parsing::nested::Nested;
 use js_parsing::nodes::make_one;
+use js_parsing_laws::nested::Nested;
 use js_targets::cover::{cover, refuse_target};
 use js_tree::{NodeFlags, NodeId, NodeKind, Op};
 

@@ -8,17 +8,17 @@ ghost use Rattle.js_tree.specs.declared.op.Op.TheVariants as op;
 ghost use Rattle.js_expression_laws.specs.HeadOperands.{IsNoTarget};
 ghost use Rattle.js_expression_laws.specs.Yields.{BeginsYield, ReadsYield, other_arguments, yields_argument};
 ghost use Rattle.js_base.specs.Kinds.{one_of_kinds};
-ghost use Rattle.js_parsing.specs.Answers.{Answers};
-ghost use Rattle.js_parsing.specs.Moves.{MadeHere, plain_label};
-ghost use Rattle.js_parsing.specs.Nesting.{CanNest, room};
-ghost use Rattle.js_parsing.specs.States.{Standing};
+ghost use Rattle.js_parsing_laws.specs.Answers.{Answers};
+ghost use Rattle.js_parsing_laws.specs.Moves.{MadeHere, plain_label};
+ghost use Rattle.js_parsing_laws.specs.Nesting.{CanNest, room};
+ghost use Rattle.js_parsing_laws.specs.States.{Standing};
 
 use js_base::{Kind, NoMemory, Span};
 use js_cursor::{ParserImpl, Stop};
 use js_lex::ParserConfig;
 use js_parsing::lexemes::advance;
-use js_parsing::nested::Nested;
 use js_parsing::nodes::make_optional;
+use js_parsing_laws::nested::Nested;
 use js_tree::{NodeFlags, NodeId, NodeKind, Op};
 
 /// Whether a YieldExpression begins here: `yield` is no name where the parameter Yield is on.

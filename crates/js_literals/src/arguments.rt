@@ -3,19 +3,19 @@
 ghost use Rattle.std.specs.Prelude.{◌≡◌, ◌+◌, true, false, MatchResult, IfOk};
 ghost use Rattle.js_base.specs.declared.kind.Kind.TheVariants.{Dot3, LParen};
 ghost use Rattle.js_cursor.specs.Moves.{Keeps, Opened};
-ghost use Rattle.js_parsing.specs.Arguments.{Arguments, FindsDue, NoArguments, TakesItem, spread_at};
+ghost use Rattle.js_parsing_laws.specs.Arguments.{Arguments, FindsDue, NoArguments, TakesItem, spread_at};
 ghost use Rattle.js_operand_laws.specs.Spreads.{ReadsSpread};
-ghost use Rattle.js_parsing.specs.Stands.{StandsHere};
-ghost use Rattle.js_parsing.specs.Nesting.{CanNest, room};
-ghost use Rattle.js_parsing.specs.States.{Standing};
+ghost use Rattle.js_parsing_laws.specs.Stands.{StandsHere};
+ghost use Rattle.js_parsing_laws.specs.Nesting.{CanNest, room};
+ghost use Rattle.js_parsing_laws.specs.States.{Standing};
 
 use js_base::{Diagnostic, DiagnosticKind, Kind, NoMemory, Span};
 use js_cursor::{ListStep, ParserImpl, Stop};
 use js_lex::ParserConfig;
 use js_parsing::context::assignment_with_in;
 use js_parsing::lexemes::{advance, stands};
-use js_parsing::nested::Nested;
 use js_parsing::nodes::make_one;
+use js_parsing_laws::nested::Nested;
 use js_tree::{NodeId, NodeKind, Op};
 
 /// Arguments in their parentheses, behind the children that the node has already. `spreads`: one may be spread.

@@ -4,11 +4,11 @@ ghost use Rattle.std.specs.Prelude.{◌≡◌, ◌+◌, false, MatchResult};
 ghost use Rattle.js_base.specs.declared.kind.Kind.TheVariants.{LBrack, RBrack};
 ghost use Rattle.js_cursor.specs.Moves.{Opened};
 ghost use Rattle.js_grammar.specs.Productions.{at, Primary};
-ghost use Rattle.js_parsing.specs.Answers.{Answers};
+ghost use Rattle.js_parsing_laws.specs.Answers.{Answers};
 ghost use Rattle.js_operand_laws.specs.Arrays.{Elements, NoElements, TakesElement};
-ghost use Rattle.js_parsing.specs.Stands.{StandsHere};
-ghost use Rattle.js_parsing.specs.Nesting.{CanNest, room};
-ghost use Rattle.js_parsing.specs.States.{Standing};
+ghost use Rattle.js_parsing_laws.specs.Stands.{StandsHere};
+ghost use Rattle.js_parsing_laws.specs.Nesting.{CanNest, room};
+ghost use Rattle.js_parsing_laws.specs.States.{Standing};
 
 use crate::arguments::parse_argument;
 use crate::leaf::parse_leaf;
@@ -16,8 +16,8 @@ use js_base::{Kind, Span};
 use js_cursor::{ParserImpl, Stop};
 use js_lex::ParserConfig;
 use js_parsing::lexemes::{advance, stands};
-use js_parsing::nested::Nested;
 use js_parsing::nodes::make_list;
+use js_parsing_laws::nested::Nested;
 use js_tree::{NodeId, NodeKind, Op};
 
 /// An ArrayLiteral (ECMA-262, section 13.2.4).

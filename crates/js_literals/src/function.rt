@@ -3,11 +3,11 @@
 ghost use Rattle.std.specs.Prelude.{◌≡◌, ◌+◌, ◌∷◌, [], IfOk, MatchResult, Some, true, false};
 ghost use Rattle.js_cursor.specs.Moves.{OnlyMemory};
 ghost use Rattle.js_grammar.specs.Productions.{at, async_flag, flag, generator_flag, Primary};
-ghost use Rattle.js_parsing.specs.Answers.{Answers};
-ghost use Rattle.js_parsing.specs.Moves.{MadeHere, plain_label};
-ghost use Rattle.js_parsing.specs.Nesting.{CanNest, room};
-ghost use Rattle.js_parsing.specs.NodeTexts.{is_textual};
-ghost use Rattle.js_parsing.specs.States.{Standing};
+ghost use Rattle.js_parsing_laws.specs.Answers.{Answers};
+ghost use Rattle.js_parsing_laws.specs.Moves.{MadeHere, plain_label};
+ghost use Rattle.js_parsing_laws.specs.Nesting.{CanNest, room};
+ghost use Rattle.js_parsing_laws.specs.NodeTexts.{is_textual};
+ghost use Rattle.js_parsing_laws.specs.States.{Standing};
 ghost use Rattle.js_tree.specs.declared.op.Op.TheVariants as op;
 ghost use Rattle.js_tree.specs.Labels.{number_of};
 ghost use Rattle.js_operand_laws.specs.Functions.{BeginsFunction, FunctionBehind, FunctionHere, NamesFunction, TakesName, TakesParts};
@@ -20,7 +20,7 @@ use js_operand_laws::forms::{FunctionForm, FunctionParts};
 use js_parsing::context::{body_of_function, parameters_of_function};
 use js_parsing::diagnostics::diagnostic_at;
 use js_parsing::lexemes::{advance, name_stands, name_stands_under, stands};
-use js_parsing::nested::Nested;
+use js_parsing_laws::nested::Nested;
 use js_tree::{NodeFlags, NodeId, NodeKind, Op};
 
 /// Whether a function begins here: `function`, or `async` with `function` behind it on its line.

@@ -5,11 +5,11 @@ ghost use Rattle.js_base.specs.declared.kind.Kind.TheVariants.{RParen, Str};
 ghost use Rattle.js_cursor.specs.Moves.{OnlyMemory, Opened};
 ghost use Rattle.js_grammar.specs.Productions.{at, IdentifierName};
 ghost use Rattle.js_operand_laws.specs.Numbers.{node_of_number, op_of_number};
-ghost use Rattle.js_parsing.specs.Answers.{Answers};
-ghost use Rattle.js_parsing.specs.Lexemes.{read_word};
-ghost use Rattle.js_parsing.specs.Moves.{IsWholeHere, Passes, TakesLeaf};
-ghost use Rattle.js_parsing.specs.NodeTexts.{is_name_node, is_textual};
-ghost use Rattle.js_parsing.specs.States.{Standing};
+ghost use Rattle.js_parsing_laws.specs.Answers.{Answers};
+ghost use Rattle.js_parsing_laws.specs.Lexemes.{read_word};
+ghost use Rattle.js_parsing_laws.specs.Moves.{IsWholeHere, Passes, TakesLeaf};
+ghost use Rattle.js_parsing_laws.specs.NodeTexts.{is_name_node, is_textual};
+ghost use Rattle.js_parsing_laws.specs.States.{Standing};
 ghost use Rattle.js_tree.specs.declared.kind.NodeKind.TheVariants as node;
 ghost use Rattle.js_tree.specs.declared.op.Op.TheVariants as op;
 

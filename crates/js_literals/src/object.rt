@@ -9,15 +9,15 @@ ghost use Rattle.js_grammar.specs.Productions.{at, body_of, computed_flag, flag,
 ghost use Rattle.js_tree.specs.Labels.{number_of};
 ghost use Rattle.js_tree.specs.declared.op.PropertyKind.TheVariants.{Init};
 ghost use Rattle.js_operand_laws.specs.Objects.{NoProperties, Properties, ReadsAccessor, ReadsAsyncMethod, ReadsBehindName, begins_async, ReadsMethod, ReadsShorthand, ReadsValue, TakesProperty, ends_name_kinds, flags_of_form, form_of, function_label, kind_of_form, method_left, property_label};
-ghost use Rattle.js_parsing.specs.Answers.{Answers};
-ghost use Rattle.js_parsing.specs.Lexemes.{may_name, read_word};
-ghost use Rattle.js_parsing.specs.Lists.{ReadsItem};
-ghost use Rattle.js_parsing.specs.Methods.{ReadsWhole};
-ghost use Rattle.js_parsing.specs.Moves.{MadeHere};
-ghost use Rattle.js_parsing.specs.Nesting.{CanNest, room};
-ghost use Rattle.js_parsing.specs.NodeTexts.{SpellsName};
-ghost use Rattle.js_parsing.specs.Stands.{StandsHere};
-ghost use Rattle.js_parsing.specs.States.{Standing};
+ghost use Rattle.js_parsing_laws.specs.Answers.{Answers};
+ghost use Rattle.js_parsing_laws.specs.Lexemes.{may_name, read_word};
+ghost use Rattle.js_parsing_laws.specs.Lists.{ReadsItem};
+ghost use Rattle.js_parsing_laws.specs.Methods.{ReadsWhole};
+ghost use Rattle.js_parsing_laws.specs.Moves.{MadeHere};
+ghost use Rattle.js_parsing_laws.specs.Nesting.{CanNest, room};
+ghost use Rattle.js_parsing_laws.specs.NodeTexts.{SpellsName};
+ghost use Rattle.js_parsing_laws.specs.Stands.{StandsHere};
+ghost use Rattle.js_parsing_laws.specs.States.{Standing};
 
 use crate::arguments::parse_spread_element;
 use crate::function::function_flags;
@@ -28,8 +28,8 @@ use js_lex::ParserConfig;
 use js_operand_laws::forms::PropertyName;
 use js_parsing::context::{assignment_with_in, body_of_function, parameters_in_method};
 use js_parsing::lexemes::{advance, is_name_here, is_read_word, keyword_of, stands};
-use js_parsing::nested::{MethodForm, Nested};
 use js_parsing::nodes::{make_list, make_name};
+use js_parsing_laws::nested::{MethodForm, Nested};
 use js_tree::{NodeFlags, NodeId, NodeKind, Op, PropertyKind};
 
 /// An ObjectLiteral (ECMA-262, section 13.2.5).

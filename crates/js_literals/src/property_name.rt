@@ -3,9 +3,9 @@
 ghost use Rattle.std.specs.Prelude.{◌≡◌, true, false};
 ghost use Rattle.js_base.specs.declared.kind.Kind.TheVariants.{LBrack};
 ghost use Rattle.js_operand_laws.specs.PropertyNames.{NamesComputed, NamesPlainly, NamesProperty};
-ghost use Rattle.js_parsing.specs.Nesting.{CanNest, room};
-ghost use Rattle.js_parsing.specs.Stands.{StandsHere};
-ghost use Rattle.js_parsing.specs.States.{Standing};
+ghost use Rattle.js_parsing_laws.specs.Nesting.{CanNest, room};
+ghost use Rattle.js_parsing_laws.specs.Stands.{StandsHere};
+ghost use Rattle.js_parsing_laws.specs.States.{Standing};
 
 use crate::leaf::{number_node, number_op, parse_identifier_name, parse_leaf, parse_string};
 use js_base::Kind;
@@ -14,7 +14,7 @@ use js_lex::ParserConfig;
 use js_operand_laws::forms::PropertyName;
 use js_parsing::context::assignment_with_in;
 use js_parsing::lexemes::{advance, stands};
-use js_parsing::nested::Nested;
+use js_parsing_laws::nested::Nested;
 use js_tree::{NodeId, NodeKind, Op};
 
 /// A PropertyName (ECMA-262, section 13.2.5): a word, a string, a number, or an AssignmentExpression in brackets.

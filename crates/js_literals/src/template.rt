@@ -4,11 +4,11 @@ ghost use Rattle.std.specs.Prelude.{◌≡◌, ◌≤◌, ◌∷◌, [], true, I
 ghost use Rattle.js_base.specs.Kinds.{one_of_kinds};
 ghost use Rattle.js_cursor.specs.Moves.{OnlyMemory};
 ghost use Rattle.js_operand_laws.specs.Templates.{BeginsPart, ReadsTagged, TakesPart, StandingPart, TagsTemplate, TakesTemplate, TellsTemplate, element_label, heads, inside_end, inside_fits, last_parts};
-ghost use Rattle.js_parsing.specs.Moves.{MadeHere};
-ghost use Rattle.js_parsing.specs.Nesting.{CanNest, room};
-ghost use Rattle.js_parsing.specs.States.{Standing};
+ghost use Rattle.js_parsing_laws.specs.Moves.{MadeHere};
+ghost use Rattle.js_parsing_laws.specs.Nesting.{CanNest, room};
+ghost use Rattle.js_parsing_laws.specs.States.{Standing};
 ghost use Rattle.js_grammar.specs.Productions.{at, tail_flag, Primary};
-ghost use Rattle.js_parsing.specs.Answers.{Answers};
+ghost use Rattle.js_parsing_laws.specs.Answers.{Answers};
 ghost use Rattle.js_tree.specs.Labels.{number_of};
 ghost use Rattle.std.specs.Prelude.{cond, ◌+◌};
 
@@ -18,8 +18,8 @@ use js_lex::ParserConfig;
 use js_operand_laws::forms::PassedPart;
 use js_parsing::context::expression_with_in;
 use js_parsing::diagnostics::diagnostic_at;
-use js_parsing::nested::Nested;
 use js_parsing::nodes::{make_list, make_two};
+use js_parsing_laws::nested::Nested;
 use js_tree::{NodeFlags, NodeId, NodeKind, Op};
 
 /// Whether a template begins with this.

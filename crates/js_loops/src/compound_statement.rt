@@ -3,11 +3,11 @@
 ghost use Rattle.std.specs.Prelude.{◌≡◌, true, false};
 ghost use Rattle.js_base.specs.Contexts.{has_flag, in_flag};
 ghost use Rattle.js_base.specs.declared.kind.Kind.TheVariants.{Do, If, While, With};
-ghost use Rattle.js_parsing.specs.Stands.{StandsHere};
-ghost use Rattle.js_parsing.specs.Nesting.{CanNest, room};
-ghost use Rattle.js_parsing.specs.NodeTexts.{is_textual};
-ghost use Rattle.js_parsing.specs.States.{Standing};
-ghost use Rattle.js_parsing.specs.Statements.{TakesAnywhere};
+ghost use Rattle.js_parsing_laws.specs.Stands.{StandsHere};
+ghost use Rattle.js_parsing_laws.specs.Nesting.{CanNest, room};
+ghost use Rattle.js_parsing_laws.specs.NodeTexts.{is_textual};
+ghost use Rattle.js_parsing_laws.specs.States.{Standing};
+ghost use Rattle.js_parsing_laws.specs.Statements.{TakesAnywhere};
 ghost use Rattle.js_statement_laws.specs.CompoundStatements.{HeadsHere, TakesAlternate, TakesParens};
 
 use js_base::Kind;
@@ -15,8 +15,8 @@ use js_cursor::{ParserImpl, Stop};
 use js_lex::ParserConfig;
 use js_literals::leaf::close_parentheses;
 use js_parsing::lexemes::{advance, stands};
-use js_parsing::nested::Nested;
 use js_parsing::nodes::{make_two, make_two_and_optional};
+use js_parsing_laws::nested::Nested;
 use js_tree::{NodeId, NodeKind, Op};
 
 /// An Expression in parentheses at the head of a statement (ECMA-262, chapter 14): the parentheses make no node.

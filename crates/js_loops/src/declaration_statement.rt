@@ -5,10 +5,10 @@ ghost use Rattle.js_base.specs.Contexts.{has_flag, in_flag};
 ghost use Rattle.js_base.specs.declared.kind.Kind.TheVariants.{Var};
 ghost use Rattle.js_grammar.specs.Productions.{at, ListItem, Sub};
 ghost use Rattle.js_cursor.specs.Moves.{OnlyMemory};
-ghost use Rattle.js_parsing.specs.Nesting.{CanNest, room};
-ghost use Rattle.js_parsing.specs.Stands.{StandsHere};
-ghost use Rattle.js_parsing.specs.States.{Standing};
-ghost use Rattle.js_parsing.specs.Statements.{TakesAnywhere, TakesStatement};
+ghost use Rattle.js_parsing_laws.specs.Nesting.{CanNest, room};
+ghost use Rattle.js_parsing_laws.specs.Stands.{StandsHere};
+ghost use Rattle.js_parsing_laws.specs.States.{Standing};
+ghost use Rattle.js_parsing_laws.specs.Statements.{TakesAnywhere, TakesStatement};
 ghost use Rattle.js_tree.specs.Labels.{declaration_kind};
 ghost use Rattle.js_statement_laws.specs.DeclarationStatements.{ReadsDeclaration};
 ghost use Rattle.js_statement_laws.specs.LetStatements.{BeginsLexical, FindsLexical, LetBegins, TellsLexical, behind_let};
@@ -20,8 +20,8 @@ use js_declarations::declaration::parse_declarators;
 use js_lex::ParserConfig;
 use js_parsing::diagnostics::diagnostic_at;
 use js_parsing::lexemes::{advance, stands};
-use js_parsing::nested::Nested;
 use js_parsing::nodes::make_list;
+use js_parsing_laws::nested::Nested;
 use js_tree::{DeclarationKind, NodeId, NodeKind, Op};
 
 /// A VariableStatement (ECMA-262, section 14.3.2).

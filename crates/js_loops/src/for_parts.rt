@@ -7,9 +7,9 @@ ghost use Rattle.js_base.specs.declared.diagnostic.DiagnosticKind.TheVariants.{F
 ghost use Rattle.js_cursor.specs.Moves.{OnlyMemory};
 ghost use Rattle.js_cursor.specs.Places.{IsAt, goal};
 ghost use Rattle.js_grammar.specs.Marks.{Mark};
-ghost use Rattle.js_parsing.specs.Told.{unrelated_at};
-ghost use Rattle.js_parsing.specs.Nesting.{CanNest, room};
-ghost use Rattle.js_parsing.specs.States.{Standing};
+ghost use Rattle.js_parsing_laws.specs.Told.{unrelated_at};
+ghost use Rattle.js_parsing_laws.specs.Nesting.{CanNest, room};
+ghost use Rattle.js_parsing_laws.specs.States.{Standing};
 ghost use Rattle.js_base.specs.declared.kind.Kind.TheVariants.{Semicolon};
 ghost use Rattle.js_declarations.specs.HeadDeclarators.{ThroughHere};
 ghost use Rattle.js_targets.specs.Taken.{EndsTarget};
@@ -24,8 +24,8 @@ use js_declarations::head::{
 use js_lex::ParserConfig;
 use js_parsing::diagnostics::{diagnostic_at, kept_so_far};
 use js_parsing::lexemes::{advance, stands};
-use js_parsing::nested::Nested;
 use js_parsing::nodes::{make_list, make_one};
+use js_parsing_laws::nested::Nested;
 use js_statement_laws::sequences::Sequences;
 use js_targets::array_target::literal_target;
 use js_targets::cover::{cover, is_array_or_object, refuse_target};

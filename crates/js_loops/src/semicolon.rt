@@ -2,9 +2,9 @@
 
 ghost use Rattle.std.specs.Prelude.{◌≡◌, ◌&&◌, MatchResult};
 ghost use Rattle.js_base.specs.Kinds.{one_of_kinds};
-ghost use Rattle.js_parsing.specs.Answers.{Stops};
-ghost use Rattle.js_parsing.specs.States.{Standing};
-ghost use Rattle.js_parsing.specs.Statements.{EndsStatement, NoEnd, link_kinds};
+ghost use Rattle.js_parsing_laws.specs.Answers.{Stops};
+ghost use Rattle.js_parsing_laws.specs.States.{Standing};
+ghost use Rattle.js_parsing_laws.specs.Statements.{EndsStatement, NoEnd, link_kinds};
 
 use js_base::Kind;
 use js_cursor::{ParserImpl, Stop};

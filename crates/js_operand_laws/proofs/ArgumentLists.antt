@@ -36,24 +36,24 @@ use Rattle.js_cursor.specs.declared.stop.ListStep.{ListStep}
 use Rattle.js_cursor.specs.declared.stop.ListStep.TheVariants.{Element, End, EndAfterComma}
 use Rattle.js_cursor.specs.declared.stop.Stop.{Stop}
 use Rattle.js_cursor.specs.declared.stop.Stop.TheVariants.{Fatal, NoMemory}
-use Rattle.js_parsing.proofs.Giving.{gives_up}
-use Rattle.js_parsing.specs.Lexemes.{Lex, nowhere, signs}
-use Rattle.js_parsing.specs.States.{At, Same, Standing, flags_of}
-use Rattle.js_parsing.specs.Nesting.{room}
-use Rattle.js_parsing.specs.Moves.{Moved, Moves, unpassable}
-use Rattle.js_parsing.specs.Answers.{Verdict, clean, Stretch, Stops}
-use Rattle.js_parsing.specs.Arguments.{item_of, items, list_of, rest_of, due_of, behind_item, NoItem, ItemTaken, TakesItem, Partway, Due, FindsDue}
-use Rattle.js_parsing.proofs.Signs.{none_seen, plain_sign, other_kind}
-use Rattle.js_parsing.proofs.Stretches.{stretches}
-use Rattle.js_parsing.proofs.Here.{uncut}
-use Rattle.js_parsing.proofs.Signs.{AllAre, NoneIs}
-use Rattle.js_parsing.proofs.Signs.{stands_there}
-use Rattle.js_parsing.proofs.Moving.{same_both, same_itself, moves, standing, stops_behind}
-use Rattle.js_parsing.proofs.Nesting.{nested_room, later_room}
-use Rattle.js_parsing.proofs.Paths.{walked_both, walked_one, one_read, passes, skips, read_of, not_here, settles}
-use Rattle.js_parsing.proofs.Verdicts.{verdict_of, either_way, and_then}
-use Rattle.js_parsing.proofs.Verdicts.{after as grown_behind}
-use Rattle.js_parsing.proofs.Classes.{here_ends}
+use Rattle.js_parsing_laws.proofs.Giving.{gives_up}
+use Rattle.js_parsing_laws.specs.Lexemes.{Lex, nowhere, signs}
+use Rattle.js_parsing_laws.specs.States.{At, Same, Standing, flags_of}
+use Rattle.js_parsing_laws.specs.Nesting.{room}
+use Rattle.js_parsing_laws.specs.Moves.{Moved, Moves, unpassable}
+use Rattle.js_parsing_laws.specs.Answers.{Verdict, clean, Stretch, Stops}
+use Rattle.js_parsing_laws.specs.Arguments.{item_of, items, list_of, rest_of, due_of, behind_item, NoItem, ItemTaken, TakesItem, Partway, Due, FindsDue}
+use Rattle.js_parsing_laws.proofs.Signs.{none_seen, plain_sign, other_kind}
+use Rattle.js_parsing_laws.proofs.Stretches.{stretches}
+use Rattle.js_parsing_laws.proofs.Here.{uncut}
+use Rattle.js_parsing_laws.proofs.Signs.{AllAre, NoneIs}
+use Rattle.js_parsing_laws.proofs.Signs.{stands_there}
+use Rattle.js_parsing_laws.proofs.Moving.{same_both, same_itself, moves, standing, stops_behind}
+use Rattle.js_parsing_laws.proofs.Nesting.{nested_room, later_room}
+use Rattle.js_parsing_laws.proofs.Paths.{walked_both, walked_one, one_read, passes, skips, read_of, not_here, settles}
+use Rattle.js_parsing_laws.proofs.Verdicts.{verdict_of, either_way, and_then}
+use Rattle.js_parsing_laws.proofs.Verdicts.{after as grown_behind}
+use Rattle.js_parsing_laws.proofs.Classes.{here_ends}
 use Rattle.js_base.specs.declared.diagnostic.DiagnosticKind.TheVariants.{ExpectClosingOrSeparator}
 
 pub is_that : (k : Kind) (y : Lexeme) → (y.kind ≡ k) × (y.escaped ≡ false) → IsTrue (seen (is k) y)

@@ -34,31 +34,31 @@ use Rattle.js_cursor.specs.declared.stop.ListStep.{ListStep}
 use Rattle.js_cursor.specs.declared.stop.ListStep.TheVariants.{Element, End, EndAfterComma}
 use Rattle.js_cursor.specs.declared.stop.Stop.{Stop}
 use Rattle.js_cursor.specs.declared.stop.Stop.TheVariants.{Fatal, NoMemory}
-use Rattle.js_parsing.specs.Lexemes.{Lex}
-use Rattle.js_parsing.specs.States.{At, Standing}
-use Rattle.js_parsing.specs.Answers.{Stretch, Underived, Numbered, Stops}
-use Rattle.js_parsing.specs.Arguments.{Partway, ItemTaken, NoItem}
-use Rattle.js_parsing.specs.ArrayLiterals.{array_of, elements}
+use Rattle.js_parsing_laws.specs.Lexemes.{Lex}
+use Rattle.js_parsing_laws.specs.States.{At, Standing}
+use Rattle.js_parsing_laws.specs.Answers.{Stretch, Underived, Numbered, Stops}
+use Rattle.js_parsing_laws.specs.Arguments.{Partway, ItemTaken, NoItem}
+use Rattle.js_parsing_laws.specs.ArrayLiterals.{array_of, elements}
 use Rattle.js_operand_laws.specs.Arrays.{TakesElement, Elements}
-use Rattle.js_parsing.specs.Stands.{StandsHere}
-use Rattle.js_parsing.specs.Moves.{Moved, Moves, MadeHere, LeafTaken, TakesLeaf, plain_label, unpassable}
-use Rattle.js_parsing.specs.Nesting.{room}
+use Rattle.js_parsing_laws.specs.Stands.{StandsHere}
+use Rattle.js_parsing_laws.specs.Moves.{Moved, Moves, MadeHere, LeafTaken, TakesLeaf, plain_label, unpassable}
+use Rattle.js_parsing_laws.specs.Nesting.{room}
 use Rattle.js_operand_laws.proofs.ArgumentLists.{none_there}
-use Rattle.js_parsing.proofs.Bracketed.{opened_here, opened_later}
-use Rattle.js_parsing.proofs.Signs.{none_seen, plain_sign}
-use Rattle.js_parsing.proofs.Giving.{gives_up}
-use Rattle.js_parsing.proofs.Here.{uncut}
-use Rattle.js_parsing.proofs.Signs.{NoneIs}
-use Rattle.js_parsing.proofs.MadeNodes.{leaf_held, node_held, one_lies, made_lies}
-use Rattle.js_parsing.proofs.Signs.{stands_not}
-use Rattle.js_parsing.proofs.Moving.{same_with, beside_nodes, moves, standing, stops_behind, stops_so}
-use Rattle.js_parsing.proofs.Nesting.{nested_room, later_room}
+use Rattle.js_parsing_laws.proofs.Bracketed.{opened_here, opened_later}
+use Rattle.js_parsing_laws.proofs.Signs.{none_seen, plain_sign}
+use Rattle.js_parsing_laws.proofs.Giving.{gives_up}
+use Rattle.js_parsing_laws.proofs.Here.{uncut}
+use Rattle.js_parsing_laws.proofs.Signs.{NoneIs}
+use Rattle.js_parsing_laws.proofs.MadeNodes.{leaf_held, node_held, one_lies, made_lies}
+use Rattle.js_parsing_laws.proofs.Signs.{stands_not}
+use Rattle.js_parsing_laws.proofs.Moving.{same_with, beside_nodes, moves, standing, stops_behind, stops_so}
+use Rattle.js_parsing_laws.proofs.Nesting.{nested_room, later_room}
 use Rattle.js_operand_laws.proofs.Operands.{by_path, behind_primary}
-use Rattle.js_parsing.proofs.Parts.{part_path, part_from, part_goes, part_path_fails, parts, part_sign, part_last}
-use Rattle.js_parsing.proofs.Paths.{◌⟼◌, at_kind, last_token, noded, label_here}
-use Rattle.js_parsing.proofs.Verdicts.{verdict_of}
-use Rattle.js_parsing.proofs.Verdicts.{after as grown_behind}
-use Rattle.js_parsing.proofs.Classes.{here_ends}
+use Rattle.js_parsing_laws.proofs.Parts.{part_path, part_from, part_goes, part_path_fails, parts, part_sign, part_last}
+use Rattle.js_parsing_laws.proofs.Paths.{◌⟼◌, at_kind, last_token, noded, label_here}
+use Rattle.js_parsing_laws.proofs.Verdicts.{verdict_of}
+use Rattle.js_parsing_laws.proofs.Verdicts.{after as grown_behind}
+use Rattle.js_parsing_laws.proofs.Classes.{here_ends}
 use Rattle.js_base.specs.declared.diagnostic.DiagnosticKind.TheVariants.{ExpectClosingOrSeparator}
 
 -- ---- items with commas between, by the first of them

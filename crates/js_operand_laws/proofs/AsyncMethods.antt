@@ -19,20 +19,20 @@ use Rattle.js_grammar.proofs.Calculus.{◌▹◌, ◌▹✗◌, done, fails_alt,
 use Rattle.js_tree.specs.declared.id.NodeId.{NodeId}
 use Rattle.js_cursor.specs.Moves.{Eats}
 use Rattle.js_cursor.specs.Parsers.{Parser}
-use Rattle.js_parsing.specs.declared.nested.MethodForm.TheVariants.{Method}
-use Rattle.js_parsing.specs.Arguments.{Partway, behind_item}
-use Rattle.js_parsing.specs.Lexemes.{Lex, read_word}
-use Rattle.js_parsing.specs.Moves.{Moved}
-use Rattle.js_parsing.specs.States.{At, Same}
-use Rattle.js_parsing.specs.Nesting.{room}
+use Rattle.js_parsing_laws.specs.declared.nested.MethodForm.TheVariants.{Method}
+use Rattle.js_parsing_laws.specs.Arguments.{Partway, behind_item}
+use Rattle.js_parsing_laws.specs.Lexemes.{Lex, read_word}
+use Rattle.js_parsing_laws.specs.Moves.{Moved}
+use Rattle.js_parsing_laws.specs.States.{At, Same}
+use Rattle.js_parsing_laws.specs.Nesting.{room}
 use Rattle.js_operand_laws.specs.Objects.{async_line, begins_async, ends_name_kinds, method_left, methods, with_method}
 use Rattle.js_operand_laws.specs.PropertyNames.{NameRead, NoName, NoNames}
-use Rattle.js_parsing.proofs.Escapes.{unescaped_word}
-use Rattle.js_parsing.proofs.Moving.{moves, same_itself}
-use Rattle.js_parsing.proofs.Nesting.{nested_room}
-use Rattle.js_parsing.proofs.Parts.{part_from, part_goes, part_path_fails, part_sign, parts}
-use Rattle.js_parsing.proofs.Paths.{fails_at}
-use Rattle.js_parsing.proofs.Signs.{other_kind, plain_sign, whole_sign}
+use Rattle.js_parsing_laws.proofs.Escapes.{unescaped_word}
+use Rattle.js_parsing_laws.proofs.Moving.{moves, same_itself}
+use Rattle.js_parsing_laws.proofs.Nesting.{nested_room}
+use Rattle.js_parsing_laws.proofs.Parts.{part_from, part_goes, part_path_fails, part_sign, parts}
+use Rattle.js_parsing_laws.proofs.Paths.{fails_at}
+use Rattle.js_parsing_laws.proofs.Signs.{other_kind, plain_sign, whole_sign}
 use Rattle.js_operand_laws.proofs.AsyncWords.{part_within, same_line}
 use Rattle.js_operand_laws.proofs.Methods.{no_first}
 use Rattle.js_operand_laws.proofs.Properties.{behind_shorthand, name_part, no_name_begins, property_name_kinds}

@@ -26,22 +26,22 @@ use Rattle.js_cursor.specs.Moves.{OnlyMemory, Peeks}
 use Rattle.js_cursor.specs.declared.stop.Stop.{Stop}
 use Rattle.js_cursor.specs.Parsers.{Parser}
 use Rattle.js_tree.specs.declared.id.NodeId.{NodeId}
-use Rattle.js_parsing.proofs.Giving.{fails_unescaped}
-use Rattle.js_parsing.specs.Arguments.{Partway}
-use Rattle.js_parsing.specs.Lexemes.{Lex, escaped_word, name_kinds, other_goals, signs}
-use Rattle.js_parsing.specs.Moves.{Moved}
-use Rattle.js_parsing.specs.Stands.{StandsHere}
-use Rattle.js_parsing.specs.States.{At}
+use Rattle.js_parsing_laws.proofs.Giving.{fails_unescaped}
+use Rattle.js_parsing_laws.specs.Arguments.{Partway}
+use Rattle.js_parsing_laws.specs.Lexemes.{Lex, escaped_word, name_kinds, other_goals, signs}
+use Rattle.js_parsing_laws.specs.Moves.{Moved}
+use Rattle.js_parsing_laws.specs.Stands.{StandsHere}
+use Rattle.js_parsing_laws.specs.States.{At}
 use Rattle.js_operand_laws.specs.Functions.{BeginsFunction, FunctionBehind, FunctionHere, FunctionNext, function_line}
 use Rattle.js_operand_laws.specs.declared.forms.FunctionForm.TheVariants.{Expression}
-use Rattle.js_parsing.proofs.Ahead.{pass_over}
-use Rattle.js_parsing.proofs.Here.{angled, newline_here, one_plain, plain_there, plainly, signs_are, told, told_plain, uncut}
-use Rattle.js_parsing.proofs.NameKinds.{name_apart}
-use Rattle.js_parsing.proofs.Parts.{part_path_fails, part_sign}
-use Rattle.js_parsing.proofs.Paths.{fails_at, read_of}
-use Rattle.js_parsing.proofs.Signs.{other_kind}
-use Rattle.js_parsing.proofs.Escapes.{plain_word, read_plain}
-use Rattle.js_parsing.proofs.Verdicts.{verdict_of}
+use Rattle.js_parsing_laws.proofs.Ahead.{pass_over}
+use Rattle.js_parsing_laws.proofs.Here.{angled, newline_here, one_plain, plain_there, plainly, signs_are, told, told_plain, uncut}
+use Rattle.js_parsing_laws.proofs.NameKinds.{name_apart}
+use Rattle.js_parsing_laws.proofs.Parts.{part_path_fails, part_sign}
+use Rattle.js_parsing_laws.proofs.Paths.{fails_at, read_of}
+use Rattle.js_parsing_laws.proofs.Signs.{other_kind}
+use Rattle.js_parsing_laws.proofs.Escapes.{plain_word, read_plain}
+use Rattle.js_parsing_laws.proofs.Verdicts.{verdict_of}
 
 -- ---- what stands behind the current lexeme, as a peek tells it
 

@@ -34,31 +34,31 @@ use Rattle.js_cursor.specs.Parsers.{Parser}
 use Rattle.js_cursor.specs.Places.{goal}
 use Rattle.js_cursor.specs.declared.stop.Stop.{Stop}
 use Rattle.js_cursor.specs.declared.stop.Stop.TheVariants.{Fatal, NoMemory}
-use Rattle.js_parsing.specs.Answers.{Numbered, Stops, Stretch, Underived, Verdict, unclean}
-use Rattle.js_parsing.specs.Arguments.{Partway}
-use Rattle.js_parsing.specs.Lexemes.{Lex, escaped_word, may_name, name_kinds, read_word, spot}
-use Rattle.js_parsing.specs.Moves.{LeafTaken, Moved, MadeHere, plain_label}
-use Rattle.js_parsing.specs.Nesting.{room}
-use Rattle.js_parsing.specs.Stands.{NameUnder, StandsHere}
-use Rattle.js_parsing.specs.States.{At, Same}
+use Rattle.js_parsing_laws.specs.Answers.{Numbered, Stops, Stretch, Underived, Verdict, unclean}
+use Rattle.js_parsing_laws.specs.Arguments.{Partway}
+use Rattle.js_parsing_laws.specs.Lexemes.{Lex, escaped_word, may_name, name_kinds, read_word, spot}
+use Rattle.js_parsing_laws.specs.Moves.{LeafTaken, Moved, MadeHere, plain_label}
+use Rattle.js_parsing_laws.specs.Nesting.{room}
+use Rattle.js_parsing_laws.specs.Stands.{NameUnder, StandsHere}
+use Rattle.js_parsing_laws.specs.States.{At, Same}
 use Rattle.js_operand_laws.specs.declared.forms.FunctionForm.{FunctionForm}
 use Rattle.js_operand_laws.specs.declared.forms.FunctionForm.TheVariants.{Declaration, Expression}
 use Rattle.js_operand_laws.specs.declared.forms.FunctionParts.{FunctionParts}
 use Rattle.js_operand_laws.specs.Functions.{NamesFunction, NoFunction, PartsTaken, TakesName, behind_star, function_line, function_slots, nameless, BeginsFunction}
-use Rattle.js_parsing.proofs.Giving.{gives_up_here, kept_one}
-use Rattle.js_parsing.proofs.Here.{found, uncut}
-use Rattle.js_parsing.proofs.MadeNodes.{leaf_held, node_held, one_lies}
-use Rattle.js_parsing.proofs.Moving.{moves, same_both, same_itself, stops_behind}
-use Rattle.js_parsing.proofs.NodeTexts.{name_word}
-use Rattle.js_parsing.proofs.NameKinds.{listed_here, listed_name, name_apart, name_at, name_passes, name_read, name_test}
-use Rattle.js_parsing.proofs.NamedFirsts.{fails_unnamed}
-use Rattle.js_parsing.proofs.Parts.{part_called, part_from, part_goes, part_path, part_path_fails, part_sign, parts}
-use Rattle.js_parsing.proofs.Paths.{Path, ◌⟼◌, at_kind, fails_at, flagged_by, flagged_here, last_called, by_symbol_as, label_here, noded, not_here, walked_to}
-use Rattle.js_parsing.proofs.Signs.{other_kind, plain_sign, whole_sign}
-use Rattle.js_parsing.proofs.Told.{told_at, told_same}
-use Rattle.js_parsing.proofs.Verdicts.{after as grown_behind, verdict_of}
+use Rattle.js_parsing_laws.proofs.Giving.{gives_up_here, kept_one}
+use Rattle.js_parsing_laws.proofs.Here.{found, uncut}
+use Rattle.js_parsing_laws.proofs.MadeNodes.{leaf_held, node_held, one_lies}
+use Rattle.js_parsing_laws.proofs.Moving.{moves, same_both, same_itself, stops_behind}
+use Rattle.js_parsing_laws.proofs.NodeTexts.{name_word}
+use Rattle.js_parsing_laws.proofs.NameKinds.{listed_here, listed_name, name_apart, name_at, name_passes, name_read, name_test}
+use Rattle.js_parsing_laws.proofs.NamedFirsts.{fails_unnamed}
+use Rattle.js_parsing_laws.proofs.Parts.{part_called, part_from, part_goes, part_path, part_path_fails, part_sign, parts}
+use Rattle.js_parsing_laws.proofs.Paths.{Path, ◌⟼◌, at_kind, fails_at, flagged_by, flagged_here, last_called, by_symbol_as, label_here, noded, not_here, walked_to}
+use Rattle.js_parsing_laws.proofs.Signs.{other_kind, plain_sign, whole_sign}
+use Rattle.js_parsing_laws.proofs.Told.{told_at, told_same}
+use Rattle.js_parsing_laws.proofs.Verdicts.{after as grown_behind, verdict_of}
 use Rattle.js_operand_laws.proofs.Operands.{behind_primary, by_path, one_path, name_signless, name_signless}
-use Rattle.js_parsing.proofs.Escapes.{read_as, read_plain}
+use Rattle.js_parsing_laws.proofs.Escapes.{read_as, read_plain}
 use Rattle.js_operand_laws.proofs.AsyncWords.{any_between, function_here, no_reference, part_within, same_line}
 
 star_plain : (is_word Star || same_kind PrivateIdentifier Star) ≡ false

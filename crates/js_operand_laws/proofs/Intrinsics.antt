@@ -17,7 +17,7 @@ use Rattle.js_grammar.proofs.FirstClaims.{firsts}
 use Rattle.js_grammar.proofs.FirstRules.{fails_here, fails_part}
 use Rattle.js_base.proofs.KindLemmas.{kind_of_same}
 use Rattle.std.proofs.lemmas.Bool.{and_parts}
-use Rattle.js_parsing.proofs.Signs.{none_seen, NoneIs}
+use Rattle.js_parsing_laws.proofs.Signs.{none_seen, NoneIs}
 use Rattle.js_grammar.proofs.FollowLaws.{fails_by}
 use Rattle.js_tree.specs.declared.id.NodeId.{NodeId}
 use Rattle.js_tree.specs.declared.kind.NodeKind.TheVariants as node
@@ -26,24 +26,24 @@ use Rattle.js_tree.specs.Holding.{Holds, Keeps}
 use Rattle.js_tree.proofs.HoldingLemmas.{HoldsAll-one, Keeps-trans, Keeps-made}
 use Rattle.js_cursor.specs.Parsers.{Parser}
 use Rattle.js_cursor.specs.declared.stop.Stop.{Stop}
-use Rattle.js_parsing.specs.Lexemes.{Lex}
-use Rattle.js_parsing.specs.States.{At, Same}
-use Rattle.js_parsing.specs.Moves.{Moved}
-use Rattle.js_parsing.specs.Nesting.{room}
-use Rattle.js_parsing.specs.Answers.{Grown, Underived, Numbered, Outcome}
-use Rattle.js_parsing.specs.Arguments.{item_of, list_of}
-use Rattle.js_parsing.specs.Stands.{StandsHere}
+use Rattle.js_parsing_laws.specs.Lexemes.{Lex}
+use Rattle.js_parsing_laws.specs.States.{At, Same}
+use Rattle.js_parsing_laws.specs.Moves.{Moved}
+use Rattle.js_parsing_laws.specs.Nesting.{room}
+use Rattle.js_parsing_laws.specs.Answers.{Grown, Underived, Numbered, Outcome}
+use Rattle.js_parsing_laws.specs.Arguments.{item_of, list_of}
+use Rattle.js_parsing_laws.specs.Stands.{StandsHere}
 use Rattle.js_operand_laws.specs.Members.{WithArguments, MakesWithArguments}
-use Rattle.js_parsing.proofs.Signs.{plain_sign}
-use Rattle.js_parsing.proofs.MadeNodes.{node_held, one_lies}
-use Rattle.js_parsing.proofs.Signs.{stands_not}
-use Rattle.js_parsing.proofs.Parts.{part_path}
-use Rattle.js_parsing.proofs.Moving.{same_both, stops_behind}
-use Rattle.js_parsing.proofs.Nesting.{nested_room, later_room}
+use Rattle.js_parsing_laws.proofs.Signs.{plain_sign}
+use Rattle.js_parsing_laws.proofs.MadeNodes.{node_held, one_lies}
+use Rattle.js_parsing_laws.proofs.Signs.{stands_not}
+use Rattle.js_parsing_laws.proofs.Parts.{part_path}
+use Rattle.js_parsing_laws.proofs.Moving.{same_both, stops_behind}
+use Rattle.js_parsing_laws.proofs.Nesting.{nested_room, later_room}
 use Rattle.js_operand_laws.proofs.Operands.{by_path, behind_primary}
-use Rattle.js_parsing.proofs.Paths.{Path, ◌⟼◌, ◌⟶◌, ◌⟶✗◌, at_kind, token, called, noded, label_here}
-use Rattle.js_parsing.proofs.Verdicts.{grown_then}
-use Rattle.js_parsing.proofs.Verdicts.{after as grown_behind}
+use Rattle.js_parsing_laws.proofs.Paths.{Path, ◌⟼◌, ◌⟶◌, ◌⟶✗◌, at_kind, token, called, noded, label_here}
+use Rattle.js_parsing_laws.proofs.Verdicts.{grown_then}
+use Rattle.js_parsing_laws.proofs.Verdicts.{after as grown_behind}
 use Rattle.std.specs.Prelude.{Result, Ok, Err, ◌||◌}
 
 percent_plain : (is_word Percent || same_kind PrivateIdentifier Percent) ≡ false

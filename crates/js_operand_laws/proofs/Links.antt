@@ -1,5 +1,5 @@
 -- The loops over links behind members and in optional chains: their starts, steps, ends and failures, over the lexemes that are read.
-use Rattle.js_parsing.proofs.Signs.{none_seen, AllAre, NoneIs}
+use Rattle.js_parsing_laws.proofs.Signs.{none_seen, AllAre, NoneIs}
 use Rattle.std.proofs.Common.{ℕ, ◌≡◌, ◌≤◌, ◌⊎◌, inl, inr, max, Bool, true, false, not, ◌&&◌, IsTrue, List, [], ◌∷◌, refl, sym, ap, subst, arith, ◌∙◌, ◌||◌}
 use Rattle.std.proofs.lemmas.Bool.{false≢true, and_parts, and_from}
 use Rattle.js_base.specs.declared.kind.Kind.{Kind}
@@ -25,13 +25,13 @@ use Rattle.js_grammar.proofs.Towers.{Link, link, linked_label, make_of, this, of
 use Rattle.js_grammar.proofs.Chains.{is_member, is_call, is_links, base_of, climbs, member_links, call_links, chain_links, members, calls, chains}
 use Rattle.js_grammar.proofs.Lexemes.{first_or}
 use Rattle.js_grammar.proofs.LinkLoops.{private, member_name, member_index}
-use Rattle.js_parsing.specs.Lexemes.{Lex}
-use Rattle.js_parsing.specs.Answers.{Stretch, Underived}
+use Rattle.js_parsing_laws.specs.Lexemes.{Lex}
+use Rattle.js_parsing_laws.specs.Answers.{Stretch, Underived}
 use Rattle.js_operand_laws.specs.Templates.{heads, tagged_label}
 use Rattle.js_operand_laws.specs.Members.{Looped, NoBareNew, NoMember, NoSuperCall, SuperWord, before_call, without_arguments, access_kinds, link_kinds, LinkForm, by_name, by_call, by_index, chained, admits as admits_link, OnlyLink, sign_of, node_of, link_label}
 use Rattle.js_operand_laws.specs.declared.forms.LinkBase.TheVariants.{Member as OfMember'}
-use Rattle.js_parsing.proofs.Dead.{fails_dead, live, lives}
-use Rattle.js_parsing.proofs.Paths.{reads}
+use Rattle.js_parsing_laws.proofs.Dead.{fails_dead, live, lives}
+use Rattle.js_parsing_laws.proofs.Paths.{reads}
 use Rattle.js_operand_laws.specs.NewTargets.{target_slots}
 
 abbrev no_function : Look

@@ -12,9 +12,9 @@ use Rattle.js_tree.specs.Holding.{Makes}
 use Rattle.js_tree.specs.Nodes.{Node, label, new_node}
 use Rattle.js_tree.specs.Sources.{text_of}
 use Rattle.js_cursor.specs.Parsers.{Parser}
-use Rattle.js_parsing.specs.Moves.{MadeHere}
-use Rattle.js_parsing.specs.NodeTexts.{is_textual}
-use Rattle.js_parsing.proofs.NodeTexts.{untextual}
+use Rattle.js_parsing_laws.specs.Moves.{MadeHere}
+use Rattle.js_parsing_laws.specs.NodeTexts.{is_textual}
+use Rattle.js_parsing_laws.proofs.NodeTexts.{untextual}
 
 made_of : (v : Parser) (ms : List Node) (k : NodeKind) (s : Span) (o : Op) (f : NodeFlags) (ids : List (Option NodeId)) (l : Label) (r : Result NodeId NoMemory) → label (new_node k s o f None ids) ≡ l → is_textual k ≡ false → Makes (new_node k s o f None ids) v.nodes ms r → IfOk r (λ id. MadeHere l ids v (record v { nodes = ms }) id)
 made_of v ms k s o f ids l (Ok id) n p m = record {

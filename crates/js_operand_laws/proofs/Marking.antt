@@ -10,10 +10,10 @@ use Rattle.js_tree.specs.Nodes.{Node, flags_set, label, node_at, with_flags, emp
 use Rattle.js_tree.proofs.HoldingLemmas.{Holds-flagged, Keeps-flags}
 use Rattle.std.proofs.lemmas.List.{length-set, set_past}
 use Rattle.js_operand_laws.specs.Marked.{is_function, MarksNode}
-use Rattle.js_parsing.proofs.MadeNodes.{held_label}
+use Rattle.js_parsing_laws.proofs.MadeNodes.{held_label}
 use Rattle.std.proofs.lemmas.List.Elements.{All-set, All-get_or, All-same}
-use Rattle.js_parsing.specs.NodeTexts.{NodeFits}
-use Rattle.js_parsing.specs.States.{NodesLie}
+use Rattle.js_parsing_laws.specs.NodeTexts.{NodeFits}
+use Rattle.js_parsing_laws.specs.States.{NodesLie}
 
 more_bit : (b : Bool) (n k : ℕ) → with_bit b (n + k) ≡ with_bit b n + 2 * k
 more_bit true n k = omega arith

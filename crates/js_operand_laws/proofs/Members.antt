@@ -1,6 +1,6 @@
 -- Members, `new` and optional chains, from what the calls that read them answer.
 use Rattle.js_grammar.specs.Pruning.{every_kind}
-use Rattle.js_parsing.proofs.Signs.{none_seen, stands_there, stands_not}
+use Rattle.js_parsing_laws.proofs.Signs.{none_seen, stands_there, stands_not}
 use Rattle.std.proofs.Common.{ℕ, ◌≡◌, ◌≤◌, ◌<◌, ◌+◌, ◌⊎◌, inl, inr, max, List, [], ◌∷◌, length, Option, Some, None, Bool, true, false, not, ◌&&◌, ◌||◌, IsTrue, refl, sym, ap, subst, arith, ◌∙◌, nat_lt, ◌++◌}
 use Rattle.std.specs.Prelude.{Result, Ok, Err, MatchResult}
 use Rattle.std.proofs.lemmas.Bool.{false≢true, and_parts, and_from}
@@ -47,42 +47,42 @@ use Rattle.js_cursor.specs.Moves.{Enters, GivesUp, Leaves, MovesOn, OnlyMemory, 
 use Rattle.js_cursor.specs.declared.stop.Stop.{Stop}
 use Rattle.js_cursor.specs.declared.stop.Stop.TheVariants.{Fatal, NoMemory}
 use Rattle.js_cursor.proofs.Later.{follows_on}
-use Rattle.js_parsing.specs.Lexemes.{Lex, escaped_word, is_read, read_kinds, read_word, name_kinds, other_goals, signs, Plain}
-use Rattle.js_parsing.specs.States.{At, Same, Standing}
-use Rattle.js_parsing.specs.Nesting.{room}
-use Rattle.js_parsing.proofs.Nesting.{nested_room, later_room}
-use Rattle.js_parsing.specs.Moves.{Moved, MadeHere, TakesLeaf, IsWholeHere, plain_label, unpassable}
-use Rattle.js_parsing.specs.Answers.{Grown, Verdict, clean, Stretch, Underived, Numbered, Outcome, Stops, beside}
-use Rattle.js_parsing.specs.Stands.{StandsHere}
+use Rattle.js_parsing_laws.specs.Lexemes.{Lex, escaped_word, is_read, read_kinds, read_word, name_kinds, other_goals, signs, Plain}
+use Rattle.js_parsing_laws.specs.States.{At, Same, Standing}
+use Rattle.js_parsing_laws.specs.Nesting.{room}
+use Rattle.js_parsing_laws.proofs.Nesting.{nested_room, later_room}
+use Rattle.js_parsing_laws.specs.Moves.{Moved, MadeHere, TakesLeaf, IsWholeHere, plain_label, unpassable}
+use Rattle.js_parsing_laws.specs.Answers.{Grown, Verdict, clean, Stretch, Underived, Numbered, Outcome, Stops, beside}
+use Rattle.js_parsing_laws.specs.Stands.{StandsHere}
 use Rattle.js_operand_laws.specs.Members.{access_kinds, no_link_behind, Taken, NoBareNew, NoMember, NoOther, Headed, a_member, a_new, a_super, is_super_word, MemberSoFar, NoAccess, NoParen, NoLhs, HeadOutcome, link_kinds, LinkForm, by_name, by_call, by_index, indexed, admits, chained, sign_of, link_label, NoLink, OnlyLink, Linked, LinkHere, a_link, no_link, ReadsLink, WithArguments, MakesWithArguments, WithIndex, MakesWithIndex, LinkOutcome, Beyond, CallSoFar, ChainSoFar, Callee, a_head, a_call, CalleeOutcome, TellsChain}
 use Rattle.js_operand_laws.specs.Templates.{ChainLinkOutcome, GoesOn, ReadsChainLink, ReadsTagged, Tagged, TagOutcome, TagSign, Templated, heads, tagged_label}
 use Rattle.js_operand_laws.proofs.SuperWords.{no_super_member, no_super_new, no_super_there}
 use Rattle.js_operand_laws.proofs.Templates.{heads_there, tag_taken}
-use Rattle.js_parsing.specs.Arguments.{Partway}
-use Rattle.js_parsing.proofs.Here.{angled, begins_here, uncut, found, told_plain}
-use Rattle.js_parsing.proofs.Verdicts.{verdict_of, either_way, and_then, behind_none, grown_then}
-use Rattle.js_parsing.proofs.Verdicts.{after as grown_behind}
-use Rattle.js_parsing.proofs.Moving.{moves, same_both, beside_nodes, elsewhere, at_depth, stops_behind, stops_in, stops_so, standing, same_with}
-use Rattle.js_parsing.proofs.MadeNodes.{leaf_held, node_held, one_lies, made_lies}
-use Rattle.js_parsing.proofs.Escapes.{read_as, read_listed, read_plain}
-use Rattle.js_parsing.proofs.Paths.{reads, Path, ◌⟶✗◌, skips, token, passes_test, read_of, walked_both, walked_one, noded, noding, label_here, fails_at}
+use Rattle.js_parsing_laws.specs.Arguments.{Partway}
+use Rattle.js_parsing_laws.proofs.Here.{angled, begins_here, uncut, found, told_plain}
+use Rattle.js_parsing_laws.proofs.Verdicts.{verdict_of, either_way, and_then, behind_none, grown_then}
+use Rattle.js_parsing_laws.proofs.Verdicts.{after as grown_behind}
+use Rattle.js_parsing_laws.proofs.Moving.{moves, same_both, beside_nodes, elsewhere, at_depth, stops_behind, stops_in, stops_so, standing, same_with}
+use Rattle.js_parsing_laws.proofs.MadeNodes.{leaf_held, node_held, one_lies, made_lies}
+use Rattle.js_parsing_laws.proofs.Escapes.{read_as, read_listed, read_plain}
+use Rattle.js_parsing_laws.proofs.Paths.{reads, Path, ◌⟶✗◌, skips, token, passes_test, read_of, walked_both, walked_one, noded, noding, label_here, fails_at}
 use Rattle.js_operand_laws.proofs.Operands.{by_path, primary_fails, primary_kinds}
-use Rattle.js_parsing.proofs.NameKinds.{no_listed_name}
-use Rattle.js_parsing.proofs.Giving.{gives_up}
-use Rattle.js_parsing.proofs.Signs.{AllAre, NoneIs}
+use Rattle.js_parsing_laws.proofs.NameKinds.{no_listed_name}
+use Rattle.js_parsing_laws.proofs.Giving.{gives_up}
+use Rattle.js_parsing_laws.proofs.Signs.{AllAre, NoneIs}
 use Rattle.js_operand_laws.proofs.Links.{call_kinds, call_template, call_template_fails, chain_template_fails, member_template, member_template_fails, NotCall, bases, before_chain, with_arguments, member_start, no_member, member_new, no_member_new, member_step, member_step_fails, member_end, no_new_before, new_unfollowed, no_new_by, no_super_call, no_super_word, super_begin, new_member, new_bare, member_before_chain, no_call_at_all, no_call_behind, call_begin, call_step, call_step_fails, call_ends, base_member, base_call, base_none, chain_begin, no_first, chain_step, chain_step_fails, chain_ends, no_lhs, lhs_new, lhs_call, lhs_chain, call_unfollowed, member_before, member_alone, call_alone, no_lhs_here, call_heads, chain_heads}
 use Rattle.js_operand_laws.proofs.Links.{no_link as no_chain_link}
 use Rattle.js_operand_laws.specs.NewTargets.{target_slots}
-use Rattle.js_parsing.proofs.Stretches.{stretches}
-use Rattle.js_parsing.proofs.Parts.{part_path, part_path_fails, parts, part_sign, part_last, part_called}
-use Rattle.js_parsing.proofs.Signs.{plain_sign, other_kind}
+use Rattle.js_parsing_laws.proofs.Stretches.{stretches}
+use Rattle.js_parsing_laws.proofs.Parts.{part_path, part_path_fails, parts, part_sign, part_last, part_called}
+use Rattle.js_parsing_laws.proofs.Signs.{plain_sign, other_kind}
 use Rattle.js_operand_laws.specs.declared.forms.LinkBase.{LinkBase}
 use Rattle.js_operand_laws.specs.declared.forms.LinkBase.TheVariants as base
 use Rattle.js_base.specs.Texts.{words}
 use Rattle.js_grammar.specs.Lexemes.{is_word as is_name_word}
-use Rattle.js_parsing.proofs.Classes.{here_ends}
+use Rattle.js_parsing_laws.proofs.Classes.{here_ends}
 use Rattle.js_base.specs.declared.diagnostic.DiagnosticKind.TheVariants.{ExpectClosing}
-use Rattle.js_parsing.proofs.Tight.{plain_is_read, plain_lex}
+use Rattle.js_parsing_laws.proofs.Tight.{plain_is_read, plain_lex}
 
 -- ---- which lexeme stands here
 

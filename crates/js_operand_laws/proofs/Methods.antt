@@ -22,21 +22,21 @@ use Rattle.js_operand_laws.specs.Objects.{flags_of_form, function_label, kind_of
 use Rattle.js_tree.specs.declared.op.PropertyKind.{PropertyKind}
 use Rattle.js_tree.specs.declared.op.PropertyKind.TheVariants as property
 use Rattle.js_tree.specs.Labels.{property_op}
-use Rattle.js_parsing.specs.declared.nested.MethodForm.{MethodForm}
-use Rattle.js_parsing.specs.declared.nested.MethodForm.TheVariants.{Method, Getter, Setter}
-use Rattle.js_parsing.specs.Answers.{Numbered, Stops, Underived}
-use Rattle.js_parsing.specs.Arguments.{PartTaken, Partway, behind_item}
-use Rattle.js_parsing.specs.Lexemes.{Lex}
-use Rattle.js_parsing.specs.Methods.{WholeTaken, parameters_of}
-use Rattle.js_parsing.specs.Moves.{Moved, MadeHere}
-use Rattle.js_parsing.specs.States.{At, Same}
-use Rattle.js_parsing.proofs.MadeNodes.{node_held, one_lies}
-use Rattle.js_parsing.proofs.Moving.{same_both, stops_behind}
-use Rattle.js_parsing.proofs.Parts.{part_path, part_path_fails, parts}
-use Rattle.js_parsing.proofs.Paths.{Path, ◌⟶◌, ◌⟶✗◌, flagged_by, flagged_here, last_called, token}
-use Rattle.js_parsing.proofs.Signs.{plain_sign}
-use Rattle.js_parsing.proofs.Verdicts.{grown_then}
-use Rattle.js_parsing.proofs.Verdicts.{after as grown_behind}
+use Rattle.js_parsing_laws.specs.declared.nested.MethodForm.{MethodForm}
+use Rattle.js_parsing_laws.specs.declared.nested.MethodForm.TheVariants.{Method, Getter, Setter}
+use Rattle.js_parsing_laws.specs.Answers.{Numbered, Stops, Underived}
+use Rattle.js_parsing_laws.specs.Arguments.{PartTaken, Partway, behind_item}
+use Rattle.js_parsing_laws.specs.Lexemes.{Lex}
+use Rattle.js_parsing_laws.specs.Methods.{WholeTaken, parameters_of}
+use Rattle.js_parsing_laws.specs.Moves.{Moved, MadeHere}
+use Rattle.js_parsing_laws.specs.States.{At, Same}
+use Rattle.js_parsing_laws.proofs.MadeNodes.{node_held, one_lies}
+use Rattle.js_parsing_laws.proofs.Moving.{same_both, stops_behind}
+use Rattle.js_parsing_laws.proofs.Parts.{part_path, part_path_fails, parts}
+use Rattle.js_parsing_laws.proofs.Paths.{Path, ◌⟶◌, ◌⟶✗◌, flagged_by, flagged_here, last_called, token}
+use Rattle.js_parsing_laws.proofs.Signs.{plain_sign}
+use Rattle.js_parsing_laws.proofs.Verdicts.{grown_then}
+use Rattle.js_parsing_laws.proofs.Verdicts.{after as grown_behind}
 use Rattle.js_operand_laws.proofs.Spreads.{ends_there}
 use Rattle.js_operand_laws.proofs.Wholes.{part_answers, part_under, whole_answers, whole_behind_hole, whole_last, whole_of}
 

@@ -42,21 +42,21 @@ use Rattle.js_operand_laws.specs.Members.{MemberSoFar, NoMember, NoOther}
 use Rattle.js_operand_laws.specs.NewTargets.{BehindDot, BehindNew, ChecksTarget, TargetOutcome, no_target_at, outside_at, target_slots}
 use Rattle.js_operand_laws.proofs.Links.{member_target, new_target, no_member_new, with_arguments}
 use Rattle.js_operand_laws.proofs.Members.{called_member, new_other, new_skips, no_primary, no_super_at_new}
-use Rattle.js_parsing.specs.Answers.{Grown, Stops, Stretch, Verdict, unclean}
-use Rattle.js_parsing.specs.Classes.{EndsParse, ends_parse}
-use Rattle.js_parsing.specs.Lexemes.{Lex, spot}
-use Rattle.js_parsing.specs.Moves.{MadeHere, Moved, plain_label}
-use Rattle.js_parsing.specs.Stands.{StandsHere}
-use Rattle.js_parsing.specs.States.{At, Same, flags_of}
-use Rattle.js_parsing.proofs.Giving.{gives_up, kept_one}
-use Rattle.js_parsing.proofs.Here.{begins_here, found, uncut}
-use Rattle.js_parsing.proofs.MadeNodes.{leaf_held, made_lies}
-use Rattle.js_parsing.proofs.Moving.{beside_nodes, same_both, same_itself, same_with, stops_behind}
-use Rattle.js_parsing.proofs.Paths.{Path, ◌⟶◌, label_here, last_token, skips, token, walked_to}
-use Rattle.js_parsing.proofs.Signs.{none_seen, stands_not, stands_there}
-use Rattle.js_parsing.proofs.Told.{told_at, told_same}
-use Rattle.js_parsing.proofs.Verdicts.{grown_then, told_wider, verdict_of}
-use Rattle.js_parsing.proofs.Verdicts.{after as grown_behind}
+use Rattle.js_parsing_laws.specs.Answers.{Grown, Stops, Stretch, Verdict, unclean}
+use Rattle.js_parsing_laws.specs.Classes.{EndsParse, ends_parse}
+use Rattle.js_parsing_laws.specs.Lexemes.{Lex, spot}
+use Rattle.js_parsing_laws.specs.Moves.{MadeHere, Moved, plain_label}
+use Rattle.js_parsing_laws.specs.Stands.{StandsHere}
+use Rattle.js_parsing_laws.specs.States.{At, Same, flags_of}
+use Rattle.js_parsing_laws.proofs.Giving.{gives_up, kept_one}
+use Rattle.js_parsing_laws.proofs.Here.{begins_here, found, uncut}
+use Rattle.js_parsing_laws.proofs.MadeNodes.{leaf_held, made_lies}
+use Rattle.js_parsing_laws.proofs.Moving.{beside_nodes, same_both, same_itself, same_with, stops_behind}
+use Rattle.js_parsing_laws.proofs.Paths.{Path, ◌⟶◌, label_here, last_token, skips, token, walked_to}
+use Rattle.js_parsing_laws.proofs.Signs.{none_seen, stands_not, stands_there}
+use Rattle.js_parsing_laws.proofs.Told.{told_at, told_same}
+use Rattle.js_parsing_laws.proofs.Verdicts.{grown_then, told_wider, verdict_of}
+use Rattle.js_parsing_laws.proofs.Verdicts.{after as grown_behind}
 
 -- ---- what was passed
 

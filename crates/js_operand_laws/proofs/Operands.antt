@@ -36,23 +36,23 @@ use Rattle.js_cursor.specs.Parsers.{Parser}
 use Rattle.js_cursor.specs.Moves.{OnlyMemory}
 use Rattle.js_cursor.specs.declared.stop.Stop.{Stop}
 use Rattle.js_cursor.specs.declared.stop.Stop.TheVariants.{Fatal, NoMemory}
-use Rattle.js_parsing.specs.Lexemes.{Plain, escaped_word, is_read, may_name, name_kinds, read_kinds, signs}
-use Rattle.js_parsing.specs.States.{At, Same, NodesLie}
-use Rattle.js_parsing.specs.Moves.{Moved, MadeHere, LeafTaken, TakesLeaf, plain_label, unpassable}
-use Rattle.js_parsing.specs.Answers.{Underived, Answer, Numbered, Outcome, beside}
+use Rattle.js_parsing_laws.specs.Lexemes.{Plain, escaped_word, is_read, may_name, name_kinds, read_kinds, signs}
+use Rattle.js_parsing_laws.specs.States.{At, Same, NodesLie}
+use Rattle.js_parsing_laws.specs.Moves.{Moved, MadeHere, LeafTaken, TakesLeaf, plain_label, unpassable}
+use Rattle.js_parsing_laws.specs.Answers.{Underived, Answer, Numbered, Outcome, beside}
 use Rattle.js_operand_laws.specs.Functions.{NoFunctionHere}
 use Rattle.js_operand_laws.specs.Numbers.{node_of_number, op_of_number}
 use Rattle.js_operand_laws.proofs.AsyncWords.{no_expression}
-use Rattle.js_parsing.specs.Operators.{unary_kinds}
-use Rattle.js_parsing.proofs.Moving.{same_both, same_with, beside_nodes}
-use Rattle.js_parsing.proofs.Dead.{live, lives}
-use Rattle.js_parsing.proofs.NameKinds.{at_name, listed_name, name_apart, name_passes, name_read, name_test}
-use Rattle.js_parsing.proofs.NamedFirsts.{fails_unnamed, fails_escaped}
-use Rattle.js_parsing.proofs.MadeNodes.{leaf_held, one_held, LabelLies, from_start, one_lies}
-use Rattle.js_parsing.proofs.Tight.{plain_reads}
-use Rattle.js_parsing.proofs.Escapes.{read_as}
-use Rattle.js_parsing.proofs.Paths.{Path, ◌⟼◌, ◌⟶◌, ◌⟶✗◌, at_kind, token, last_token, last_called, passes_test, noded, noded_by, by_symbol_as, label_here, read_of, walked_one}
-use Rattle.js_parsing.specs.Answers.{clean}
+use Rattle.js_parsing_laws.specs.Operators.{unary_kinds}
+use Rattle.js_parsing_laws.proofs.Moving.{same_both, same_with, beside_nodes}
+use Rattle.js_parsing_laws.proofs.Dead.{live, lives}
+use Rattle.js_parsing_laws.proofs.NameKinds.{at_name, listed_name, name_apart, name_passes, name_read, name_test}
+use Rattle.js_parsing_laws.proofs.NamedFirsts.{fails_unnamed, fails_escaped}
+use Rattle.js_parsing_laws.proofs.MadeNodes.{leaf_held, one_held, LabelLies, from_start, one_lies}
+use Rattle.js_parsing_laws.proofs.Tight.{plain_reads}
+use Rattle.js_parsing_laws.proofs.Escapes.{read_as}
+use Rattle.js_parsing_laws.proofs.Paths.{Path, ◌⟼◌, ◌⟶◌, ◌⟶✗◌, at_kind, token, last_token, last_called, passes_test, noded, noded_by, by_symbol_as, label_here, read_of, walked_one}
+use Rattle.js_parsing_laws.specs.Answers.{clean}
 
 -- a claim on each unary operator
 pub of_unary : (P : Kind → Type 0) (k : Kind) → one_of_kinds unary_kinds k ≡ true → P Minus → P Plus → P Bang → P Tilde → P Typeof → P Void → P Delete → P k

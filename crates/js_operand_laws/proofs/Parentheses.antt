@@ -28,24 +28,24 @@ use Rattle.js_cursor.specs.Parsers.{Parser}
 use Rattle.js_cursor.specs.Moves.{Expects, GivesUp, is_last}
 use Rattle.js_cursor.specs.declared.stop.Stop.{Stop}
 use Rattle.js_cursor.specs.declared.stop.Stop.TheVariants.{Fatal, NoMemory}
-use Rattle.js_parsing.specs.Lexemes.{Lex}
-use Rattle.js_parsing.specs.States.{At}
-use Rattle.js_parsing.specs.Moves.{Passes, unpassable}
+use Rattle.js_parsing_laws.specs.Lexemes.{Lex}
+use Rattle.js_parsing_laws.specs.States.{At}
+use Rattle.js_parsing_laws.specs.Moves.{Passes, unpassable}
 use Rattle.js_operand_laws.specs.Marked.{is_function, Marks}
-use Rattle.js_parsing.specs.Moves.{Moved, MadeHere, IsWholeHere, plain_label}
-use Rattle.js_parsing.specs.Answers.{clean, unclean, wider, Stretch, Underived, Answer, Numbered, Stops}
-use Rattle.js_parsing.proofs.Signs.{plain_sign, other_kind}
-use Rattle.js_parsing.proofs.Dead.{all_read}
-use Rattle.js_parsing.proofs.Giving.{gives_up}
-use Rattle.js_parsing.proofs.Here.{found, uncut}
-use Rattle.js_parsing.proofs.MadeNodes.{one_held, one_lies_in}
-use Rattle.js_parsing.proofs.Moving.{same_both, moves}
+use Rattle.js_parsing_laws.specs.Moves.{Moved, MadeHere, IsWholeHere, plain_label}
+use Rattle.js_parsing_laws.specs.Answers.{clean, unclean, wider, Stretch, Underived, Answer, Numbered, Stops}
+use Rattle.js_parsing_laws.proofs.Signs.{plain_sign, other_kind}
+use Rattle.js_parsing_laws.proofs.Dead.{all_read}
+use Rattle.js_parsing_laws.proofs.Giving.{gives_up}
+use Rattle.js_parsing_laws.proofs.Here.{found, uncut}
+use Rattle.js_parsing_laws.proofs.MadeNodes.{one_held, one_lies_in}
+use Rattle.js_parsing_laws.proofs.Moving.{same_both, moves}
 use Rattle.js_operand_laws.proofs.Operands.{by_path, behind_primary}
-use Rattle.js_parsing.proofs.Paths.{Path, ◌⟼◌, ◌⟶◌, ◌⟶✗◌, at_kind, fails_at, token, last_token, noded, label_here, read_of}
+use Rattle.js_parsing_laws.proofs.Paths.{Path, ◌⟼◌, ◌⟶◌, ◌⟶✗◌, at_kind, fails_at, token, last_token, noded, label_here, read_of}
 use Rattle.js_operand_laws.proofs.Tame.{unmarked}
-use Rattle.js_parsing.proofs.Verdicts.{verdict_of}
-use Rattle.js_parsing.specs.Classes.{EndsParse}
-use Rattle.js_parsing.proofs.Classes.{here_ends, gives_up_by}
+use Rattle.js_parsing_laws.proofs.Verdicts.{verdict_of}
+use Rattle.js_parsing_laws.specs.Classes.{EndsParse}
+use Rattle.js_parsing_laws.proofs.Classes.{here_ends, gives_up_by}
 
 -- a symbol that was read, with a flag on its node
 module _ {text : List ℕ} {n : Symbol} {X : Test} {h : Label → Label} (heads : (l : Label) (cs vs : Slots) (y : Lexeme) → Admits X (tree (h l) cs vs) y → Admits (after n) (tree l cs vs) y) where

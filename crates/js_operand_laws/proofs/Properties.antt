@@ -17,14 +17,14 @@ use Rattle.js_cursor.specs.Parsers.{Parser}
 use Rattle.js_operand_laws.specs.Objects.{NoAsyncMethod, accessors, getter_of, method_left, methods, named, setter_of, shorthand, value_left, with_method, with_value}
 use Rattle.js_operand_laws.specs.PropertyNames.{NameRead, NoName}
 use Rattle.js_operand_laws.specs.Spreads.{spread}
-use Rattle.js_parsing.specs.declared.nested.MethodForm.TheVariants.{Method, Getter, Setter}
-use Rattle.js_parsing.specs.Arguments.{Partway, behind_item}
-use Rattle.js_parsing.specs.Lexemes.{Lex, may_name, name_kinds, read_word}
-use Rattle.js_parsing.proofs.NamedFirsts.{fails_unnamed}
-use Rattle.js_parsing.specs.Methods.{WholeTaken}
-use Rattle.js_parsing.specs.States.{At}
-use Rattle.js_parsing.proofs.Parts.{part_from}
-use Rattle.js_parsing.proofs.Paths.{◌⟶✗◌, fails_at}
+use Rattle.js_parsing_laws.specs.declared.nested.MethodForm.TheVariants.{Method, Getter, Setter}
+use Rattle.js_parsing_laws.specs.Arguments.{Partway, behind_item}
+use Rattle.js_parsing_laws.specs.Lexemes.{Lex, may_name, name_kinds, read_word}
+use Rattle.js_parsing_laws.proofs.NamedFirsts.{fails_unnamed}
+use Rattle.js_parsing_laws.specs.Methods.{WholeTaken}
+use Rattle.js_parsing_laws.specs.States.{At}
+use Rattle.js_parsing_laws.proofs.Parts.{part_from}
+use Rattle.js_parsing_laws.proofs.Paths.{◌⟶✗◌, fails_at}
 use Rattle.js_operand_laws.proofs.Methods.{no_first}
 use Rattle.js_operand_laws.proofs.Wholes.{part_under, whole_part}
 

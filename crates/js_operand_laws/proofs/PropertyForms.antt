@@ -23,24 +23,24 @@ use Rattle.js_cursor.specs.declared.stop.Stop.{Stop}
 use Rattle.js_operand_laws.specs.declared.forms.PropertyName.{PropertyName}
 use Rattle.js_operand_laws.specs.Spreads.{PartOutcome, spread}
 use Rattle.js_operand_laws.proofs.Wholes.{part_by}
-use Rattle.js_parsing.proofs.Escapes.{keyword_is}
-use Rattle.js_parsing.specs.declared.nested.MethodForm.{MethodForm}
-use Rattle.js_parsing.specs.declared.nested.MethodForm.TheVariants.{Method, Getter, Setter}
-use Rattle.js_parsing.specs.Arguments.{NoItem, Partway, behind_item}
-use Rattle.js_parsing.specs.Lexemes.{Lex, may_name, name_kinds, read_word, keyword_kind}
-use Rattle.js_parsing.specs.Moves.{LeafTaken, MadeHere, Moved, Moves, plain_label}
-use Rattle.js_parsing.specs.Nesting.{room}
+use Rattle.js_parsing_laws.proofs.Escapes.{keyword_is}
+use Rattle.js_parsing_laws.specs.declared.nested.MethodForm.{MethodForm}
+use Rattle.js_parsing_laws.specs.declared.nested.MethodForm.TheVariants.{Method, Getter, Setter}
+use Rattle.js_parsing_laws.specs.Arguments.{NoItem, Partway, behind_item}
+use Rattle.js_parsing_laws.specs.Lexemes.{Lex, may_name, name_kinds, read_word, keyword_kind}
+use Rattle.js_parsing_laws.specs.Moves.{LeafTaken, MadeHere, Moved, Moves, plain_label}
+use Rattle.js_parsing_laws.specs.Nesting.{room}
 use Rattle.js_base.specs.declared.span.Span.{Span}
 use Rattle.js_tree.specs.declared.kind.NodeKind.TheVariants as node
 use Rattle.js_tree.specs.declared.op.Op.TheVariants as op_made
 use Rattle.js_operand_laws.proofs.Members.{name_taken}
 use Rattle.js_operand_laws.proofs.PropertyNames.{literal_kinds, word_outcome}
-use Rattle.js_parsing.specs.States.{At}
-use Rattle.js_parsing.proofs.Moving.{beside_nodes, neither}
-use Rattle.js_parsing.proofs.Parts.{part_from, part_sign, parts}
-use Rattle.js_parsing.proofs.Paths.{◌⟶✗◌, token}
-use Rattle.js_parsing.proofs.Signs.{plain_sign}
-use Rattle.js_parsing.specs.Stands.{StandsHere}
+use Rattle.js_parsing_laws.specs.States.{At}
+use Rattle.js_parsing_laws.proofs.Moving.{beside_nodes, neither}
+use Rattle.js_parsing_laws.proofs.Parts.{part_from, part_sign, parts}
+use Rattle.js_parsing_laws.proofs.Paths.{◌⟶✗◌, token}
+use Rattle.js_parsing_laws.proofs.Signs.{plain_sign}
+use Rattle.js_parsing_laws.specs.Stands.{StandsHere}
 use Rattle.js_operand_laws.proofs.Methods.{no_first}
 use Rattle.js_operand_laws.proofs.Properties.{behind_shorthand, forms, kinds_apart, name_part, no_async_line, no_forms, no_getter, no_method, no_name_begins, no_setter, no_named_shorthand, no_shorthand, no_spread, no_value, only_getters, only_method, only_methods, only_named, only_setters, only_shorthand, only_spread, property_name_kinds, none_of_line, with_star, word_apart}
 use Rattle.js_operand_laws.proofs.WordProperties.{name_async, no_accessor, no_dots, no_methods, no_star, no_values, not_alone, one_begins}

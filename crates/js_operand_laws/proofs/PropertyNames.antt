@@ -38,20 +38,20 @@ use Rattle.js_cursor.specs.declared.stop.Stop.TheVariants.{Fatal, NoMemory}
 use Rattle.js_operand_laws.specs.Numbers.{node_of_number, op_of_number}
 use Rattle.js_operand_laws.specs.PropertyNames.{NoName, NoNames, NameRead, NameOutcome}
 use Rattle.js_operand_laws.proofs.Operands.{exponential_test, of_number, one_path, plain_leaf}
-use Rattle.js_parsing.specs.Answers.{Underived, Numbered, Outcome, Stops}
-use Rattle.js_parsing.specs.Lexemes.{Lex, signs}
-use Rattle.js_parsing.specs.Moves.{IsWholeHere, LeafTaken, Moved, TakesLeaf, plain_label, unpassable}
-use Rattle.js_parsing.specs.Stands.{StandsHere}
-use Rattle.js_parsing.specs.States.{At, Same, NodesLie}
-use Rattle.js_parsing.proofs.Classes.{here_ends}
-use Rattle.js_parsing.proofs.Giving.{gives_up}
-use Rattle.js_parsing.proofs.Here.{uncut}
-use Rattle.js_parsing.proofs.MadeNodes.{leaf_held, one_lies, from_start}
-use Rattle.js_parsing.proofs.Moving.{beside_nodes, moves, same_both, same_with, stops_behind, stops_so}
-use Rattle.js_parsing.proofs.Paths.{Path, ◌⟼◌, ◌⟶◌, ◌⟶✗◌, at_kind, called, fails_at, label_here, last_called, last_token, noded, token}
-use Rattle.js_parsing.proofs.Signs.{none_seen, other_kind, plain_among, plain_sign, stands_not}
-use Rattle.js_parsing.proofs.Verdicts.{grown_then}
-use Rattle.js_parsing.proofs.Verdicts.{after as grown_behind}
+use Rattle.js_parsing_laws.specs.Answers.{Underived, Numbered, Outcome, Stops}
+use Rattle.js_parsing_laws.specs.Lexemes.{Lex, signs}
+use Rattle.js_parsing_laws.specs.Moves.{IsWholeHere, LeafTaken, Moved, TakesLeaf, plain_label, unpassable}
+use Rattle.js_parsing_laws.specs.Stands.{StandsHere}
+use Rattle.js_parsing_laws.specs.States.{At, Same, NodesLie}
+use Rattle.js_parsing_laws.proofs.Classes.{here_ends}
+use Rattle.js_parsing_laws.proofs.Giving.{gives_up}
+use Rattle.js_parsing_laws.proofs.Here.{uncut}
+use Rattle.js_parsing_laws.proofs.MadeNodes.{leaf_held, one_lies, from_start}
+use Rattle.js_parsing_laws.proofs.Moving.{beside_nodes, moves, same_both, same_with, stops_behind, stops_so}
+use Rattle.js_parsing_laws.proofs.Paths.{Path, ◌⟼◌, ◌⟶◌, ◌⟶✗◌, at_kind, called, fails_at, label_here, last_called, last_token, noded, token}
+use Rattle.js_parsing_laws.proofs.Signs.{none_seen, other_kind, plain_among, plain_sign, stands_not}
+use Rattle.js_parsing_laws.proofs.Verdicts.{grown_then}
+use Rattle.js_parsing_laws.proofs.Verdicts.{after as grown_behind}
 
 -- a name that is no word, and stands in no brackets
 abbrev literals : G

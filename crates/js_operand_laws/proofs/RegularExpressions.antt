@@ -52,29 +52,29 @@ use Rattle.js_cursor.specs.declared.stop.Stop.{Stop}
 use Rattle.js_cursor.specs.declared.stop.Stop.TheVariants.{Fatal, NoMemory}
 use Rattle.js_cursor.proofs.Later.{keeps_follows, passed_follows, read_again_follows, follows_on}
 use Rattle.js_cursor.proofs.Moving.{lexeme_some}
-use Rattle.js_parsing.specs.Answers.{Numbered, Stops, Underived, clean}
-use Rattle.js_parsing.specs.Classes.{IsEarly}
-use Rattle.js_parsing.proofs.Characters.{characters}
-use Rattle.js_parsing.specs.Heads.{NotedHeads}
-use Rattle.js_parsing.specs.Lexemes.{Faultless, IsNew, IsReread, IsRight, KeptFor, KeptLast, Lex, News, NoneToEnd, TriviaKept, Walked, goal_for, is_read, kept_before, nowhere, onward, other_goals, read_again, read_kinds, signs_of, slashes, spot, with_faults}
-use Rattle.js_parsing.specs.Moves.{MadeHere, plain_label}
-use Rattle.js_parsing.specs.States.{At, IsPlain, whole, sign, nothing as none_stands, Same, flags_of}
-use Rattle.js_parsing.proofs.Beginning.{behind_first}
-use Rattle.js_parsing.proofs.Classes.{unexpected_ends}
-use Rattle.js_parsing.proofs.Dead.{live, lives}
-use Rattle.js_parsing.proofs.Giving.{kept_one}
-use Rattle.js_parsing.proofs.Here.{alike, plain_token, sign_here, told_plain}
-use Rattle.js_parsing.proofs.Kept.{kept_for, passing_so}
-use Rattle.js_parsing.proofs.KeptTokens.{again_before, again_last, before_next, trivia_kept}
-use Rattle.js_parsing.proofs.MadeNodes.{leaf_held, one_lies}
-use Rattle.js_parsing.proofs.Moving.{flags_same, heads_kept, nodes_lie, standing_for}
-use Rattle.js_parsing.proofs.Escapes.{read_plain}
-use Rattle.js_parsing.proofs.Paths.{Path, ◌⟼◌, at_kinds, label_here, noded, read_of, walked_to}
-use Rattle.js_parsing.proofs.Slashes.{pattern_goal, sign_there}
-use Rattle.js_parsing.proofs.Signs.{whole_sign}
-use Rattle.js_parsing.proofs.ToEnd.{to_end_none}
-use Rattle.js_parsing.proofs.Unbuilt.{nothing_unbuilt}
-use Rattle.js_parsing.proofs.Verdicts.{grown_then}
+use Rattle.js_parsing_laws.specs.Answers.{Numbered, Stops, Underived, clean}
+use Rattle.js_parsing_laws.specs.Classes.{IsEarly}
+use Rattle.js_parsing_laws.proofs.Characters.{characters}
+use Rattle.js_parsing_laws.specs.Heads.{NotedHeads}
+use Rattle.js_parsing_laws.specs.Lexemes.{Faultless, IsNew, IsReread, IsRight, KeptFor, KeptLast, Lex, News, NoneToEnd, TriviaKept, Walked, goal_for, is_read, kept_before, nowhere, onward, other_goals, read_again, read_kinds, signs_of, slashes, spot, with_faults}
+use Rattle.js_parsing_laws.specs.Moves.{MadeHere, plain_label}
+use Rattle.js_parsing_laws.specs.States.{At, IsPlain, whole, sign, nothing as none_stands, Same, flags_of}
+use Rattle.js_parsing_laws.proofs.Beginning.{behind_first}
+use Rattle.js_parsing_laws.proofs.Classes.{unexpected_ends}
+use Rattle.js_parsing_laws.proofs.Dead.{live, lives}
+use Rattle.js_parsing_laws.proofs.Giving.{kept_one}
+use Rattle.js_parsing_laws.proofs.Here.{alike, plain_token, sign_here, told_plain}
+use Rattle.js_parsing_laws.proofs.Kept.{kept_for, passing_so}
+use Rattle.js_parsing_laws.proofs.KeptTokens.{again_before, again_last, before_next, trivia_kept}
+use Rattle.js_parsing_laws.proofs.MadeNodes.{leaf_held, one_lies}
+use Rattle.js_parsing_laws.proofs.Moving.{flags_same, heads_kept, nodes_lie, standing_for}
+use Rattle.js_parsing_laws.proofs.Escapes.{read_plain}
+use Rattle.js_parsing_laws.proofs.Paths.{Path, ◌⟼◌, at_kinds, label_here, noded, read_of, walked_to}
+use Rattle.js_parsing_laws.proofs.Slashes.{pattern_goal, sign_there}
+use Rattle.js_parsing_laws.proofs.Signs.{whole_sign}
+use Rattle.js_parsing_laws.proofs.ToEnd.{to_end_none}
+use Rattle.js_parsing_laws.proofs.Unbuilt.{nothing_unbuilt}
+use Rattle.js_parsing_laws.proofs.Verdicts.{grown_then}
 use Rattle.js_operand_laws.proofs.FlagFaults.{are_right, none_wrong}
 use Rattle.js_operand_laws.proofs.Operands.{behind_primary, by_path}
 

@@ -33,24 +33,24 @@ use Rattle.js_cursor.specs.Moves.{Keeps as KeepsOne}
 use Rattle.js_cursor.specs.Parsers.{Parser}
 use Rattle.js_cursor.specs.Places.{goal}
 use Rattle.js_cursor.specs.declared.stop.Stop.{Stop}
-use Rattle.js_parsing.specs.Lexemes.{Lex, spot}
-use Rattle.js_parsing.specs.States.{At}
-use Rattle.js_parsing.specs.Answers.{Answer, unclean, Stretch, Underived, Numbered, Outcome, Stops}
-use Rattle.js_parsing.specs.Arguments.{item_of, behind_item, NoItem, ItemTaken, ItemOutcome, PartTaken, spread_at}
-use Rattle.js_parsing.specs.Stands.{StandsHere}
-use Rattle.js_parsing.specs.Moves.{Moved, MadeHere, plain_label}
-use Rattle.js_parsing.proofs.Signs.{none_seen, NoneIs, AllAre}
+use Rattle.js_parsing_laws.specs.Lexemes.{Lex, spot}
+use Rattle.js_parsing_laws.specs.States.{At}
+use Rattle.js_parsing_laws.specs.Answers.{Answer, unclean, Stretch, Underived, Numbered, Outcome, Stops}
+use Rattle.js_parsing_laws.specs.Arguments.{item_of, behind_item, NoItem, ItemTaken, ItemOutcome, PartTaken, spread_at}
+use Rattle.js_parsing_laws.specs.Stands.{StandsHere}
+use Rattle.js_parsing_laws.specs.Moves.{Moved, MadeHere, plain_label}
+use Rattle.js_parsing_laws.proofs.Signs.{none_seen, NoneIs, AllAre}
 use Rattle.js_operand_laws.proofs.ArgumentLists.{is_that}
 use Rattle.js_operand_laws.specs.Spreads.{PartOutcome, spread}
 use Rattle.js_operand_laws.proofs.Wholes.{item_by, part_answers}
-use Rattle.js_parsing.proofs.MadeNodes.{one_held, one_lies}
-use Rattle.js_parsing.proofs.Signs.{stands_not, stands_there}
-use Rattle.js_parsing.proofs.Moving.{same_both, stops_so, stops_behind}
-use Rattle.js_parsing.proofs.Paths.{Path, ◌⟶◌, ◌⟶✗◌, token, last_called, noded_by, label_here, walked_from}
-use Rattle.js_parsing.proofs.Verdicts.{verdict_of, grown_both, grown_on}
-use Rattle.js_parsing.proofs.Giving.{kept_one}
-use Rattle.js_parsing.proofs.Told.{told_same, lexeme_marked}
-use Rattle.js_parsing.specs.Classes.{IsEarly}
+use Rattle.js_parsing_laws.proofs.MadeNodes.{one_held, one_lies}
+use Rattle.js_parsing_laws.proofs.Signs.{stands_not, stands_there}
+use Rattle.js_parsing_laws.proofs.Moving.{same_both, stops_so, stops_behind}
+use Rattle.js_parsing_laws.proofs.Paths.{Path, ◌⟶◌, ◌⟶✗◌, token, last_called, noded_by, label_here, walked_from}
+use Rattle.js_parsing_laws.proofs.Verdicts.{verdict_of, grown_both, grown_on}
+use Rattle.js_parsing_laws.proofs.Giving.{kept_one}
+use Rattle.js_parsing_laws.proofs.Told.{told_same, lexeme_marked}
+use Rattle.js_parsing_laws.specs.Classes.{IsEarly}
 
 abbrev next_kinds : Look
 next_kinds k w e = one_of_kinds (Comma ∷ RParen ∷ RBrack ∷ RCurly ∷ []) k

@@ -9,9 +9,9 @@ use Rattle.js_grammar.specs.Parsing.{always, full, plain}
 use Rattle.js_grammar.specs.Productions.{G, Flags, Name, Symbol, at, New, Member, Primary, IdentifierReference, Object, FuncExpr, ClassExpr, Template}
 use Rattle.js_grammar.specs.Productions.{sym as symbol}
 use Rattle.js_grammar.specs.Table.{rule, rule_of}
-use Rattle.js_parsing.specs.Answers.{Stretch, Underived}
-use Rattle.js_parsing.specs.Lexemes.{Lex}
-use Rattle.js_parsing.proofs.Signs.{NoneIs}
+use Rattle.js_parsing_laws.specs.Answers.{Stretch, Underived}
+use Rattle.js_parsing_laws.specs.Lexemes.{Lex}
+use Rattle.js_parsing_laws.proofs.Signs.{NoneIs}
 use Rattle.js_operand_laws.specs.Members.{NoBareNew, SuperWord, is_super_word, without_arguments}
 use Rattle.js_operand_laws.proofs.Links.{no_super_word}
 

@@ -39,23 +39,23 @@ use Rattle.js_operand_laws.specs.declared.forms.LinkBase.TheVariants as base
 use Rattle.js_operand_laws.proofs.Links.{member_super, no_member_super}
 use Rattle.js_operand_laws.proofs.Members.{Membered, NoneOf, NotSuper, UnlessSuper, at_callee, begun_at, callee_taken, lexeme_there, link_taken, member_form, new_with_arguments, no_bare_new, none_behind_new, none_of_links, not_sign, retake}
 use Rattle.js_operand_laws.proofs.Operands.{primary_fails, primary_kinds}
-use Rattle.js_parsing.specs.Answers.{Stops, Stretch, Underived, Verdict, clean, unclean}
-use Rattle.js_parsing.specs.Classes.{IsEarly}
-use Rattle.js_parsing.specs.Lexemes.{Walked, name_kinds, spot}
-use Rattle.js_parsing.specs.Moves.{MadeHere, Moved, plain_label}
-use Rattle.js_parsing.specs.Stands.{StandsHere}
-use Rattle.js_parsing.specs.States.{At, Same}
-use Rattle.js_parsing.proofs.Edges.{last_edge}
-use Rattle.js_parsing.proofs.Giving.{kept_one}
-use Rattle.js_parsing.proofs.Here.{begins_here, found, uncut}
-use Rattle.js_parsing.proofs.MadeNodes.{leaf_held, made_lies}
-use Rattle.js_parsing.proofs.Moving.{beside_nodes, same_both, same_with, stops_behind}
-use Rattle.js_parsing.proofs.NameKinds.{no_listed_name}
-use Rattle.js_parsing.proofs.Paths.{label_here, noding, passes, walked_one, walked_to}
-use Rattle.js_parsing.proofs.Signs.{none_seen, NoneIs, stands_not, stands_there}
-use Rattle.js_parsing.proofs.Told.{told_at, told_same}
-use Rattle.js_parsing.proofs.Verdicts.{either_way, grown_then, verdict_of}
-use Rattle.js_parsing.proofs.Verdicts.{after as grown_behind}
+use Rattle.js_parsing_laws.specs.Answers.{Stops, Stretch, Underived, Verdict, clean, unclean}
+use Rattle.js_parsing_laws.specs.Classes.{IsEarly}
+use Rattle.js_parsing_laws.specs.Lexemes.{Walked, name_kinds, spot}
+use Rattle.js_parsing_laws.specs.Moves.{MadeHere, Moved, plain_label}
+use Rattle.js_parsing_laws.specs.Stands.{StandsHere}
+use Rattle.js_parsing_laws.specs.States.{At, Same}
+use Rattle.js_parsing_laws.proofs.Edges.{last_edge}
+use Rattle.js_parsing_laws.proofs.Giving.{kept_one}
+use Rattle.js_parsing_laws.proofs.Here.{begins_here, found, uncut}
+use Rattle.js_parsing_laws.proofs.MadeNodes.{leaf_held, made_lies}
+use Rattle.js_parsing_laws.proofs.Moving.{beside_nodes, same_both, same_with, stops_behind}
+use Rattle.js_parsing_laws.proofs.NameKinds.{no_listed_name}
+use Rattle.js_parsing_laws.proofs.Paths.{label_here, noding, passes, walked_one, walked_to}
+use Rattle.js_parsing_laws.proofs.Signs.{none_seen, NoneIs, stands_not, stands_there}
+use Rattle.js_parsing_laws.proofs.Told.{told_at, told_same}
+use Rattle.js_parsing_laws.proofs.Verdicts.{either_way, grown_then, verdict_of}
+use Rattle.js_parsing_laws.proofs.Verdicts.{after as grown_behind}
 
 -- ---- what begins with the word
 

@@ -7,7 +7,7 @@ use Rattle.js_grammar.specs.Productions.{G, Flags, Name, Symbol, pife_flag, Arro
 use Rattle.js_grammar.specs.Table.{rule, rule_of}
 use Rattle.js_grammar.proofs.Looks.{apart}
 use Rattle.js_operand_laws.specs.Marked.{is_function}
-use Rattle.js_parsing.proofs.Dead.{AllRead, dead, none}
+use Rattle.js_parsing_laws.proofs.Dead.{AllRead, dead, none}
 
 abbrev passes_on : Name → Bool
 passes_on Expression = true

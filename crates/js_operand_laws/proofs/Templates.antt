@@ -54,34 +54,34 @@ use Rattle.js_cursor.specs.declared.stop.Stop.{Stop}
 use Rattle.js_cursor.specs.declared.stop.Stop.TheVariants.{Fatal, NoMemory}
 use Rattle.js_cursor.proofs.Later.{keeps_follows, passed_follows, read_again_follows, follows_on}
 use Rattle.js_cursor.proofs.Moving.{lexeme_some}
-use Rattle.js_parsing.specs.Answers.{Answer, Grown, Numbered, Stops, Underived, clean, unclean}
-use Rattle.js_parsing.specs.Answers.{Outcome as Answered}
-use Rattle.js_parsing.specs.Arguments.{Partway}
-use Rattle.js_parsing.specs.Classes.{IsEarly}
-use Rattle.js_parsing.specs.Heads.{NotedHeads}
-use Rattle.js_parsing.specs.Lexemes.{Lex, KeptFor, Braceless, IsNew, IsReread, News, NoneToEnd, Spot, TriviaKept, Walked, goal_for, is_read, nowhere, one_more, onward, other_goals, read_again, read_kinds, spot, template_tails, with_faults, read_word}
-use Rattle.js_parsing.specs.Moves.{MadeHere, unpassable, plain_label}
-use Rattle.js_parsing.specs.Nesting.{room}
-use Rattle.js_parsing.specs.States.{At, IsPlain, whole, sign, nothing as none_stands, Same, flags_of}
-use Rattle.js_parsing.specs.Told.{unrelated_at}
-use Rattle.js_parsing.proofs.Classes.{unexpected_ends}
-use Rattle.js_parsing.proofs.Giving.{kept_one}
-use Rattle.js_parsing.proofs.Here.{alike, begins_here, found, kind_here, plain_token, told_plain, uncut, unsettled}
-use Rattle.js_parsing.proofs.Slashes.{tail_goal}
-use Rattle.js_parsing.proofs.Escapes.{no_word_among, read_listed, read_plain}
-use Rattle.js_parsing.proofs.Parts.{part_called, part_path, part_path_fails}
-use Rattle.js_parsing.proofs.Parts.{parts as parts_joined}
+use Rattle.js_parsing_laws.specs.Answers.{Answer, Grown, Numbered, Stops, Underived, clean, unclean}
+use Rattle.js_parsing_laws.specs.Answers.{Outcome as Answered}
+use Rattle.js_parsing_laws.specs.Arguments.{Partway}
+use Rattle.js_parsing_laws.specs.Classes.{IsEarly}
+use Rattle.js_parsing_laws.specs.Heads.{NotedHeads}
+use Rattle.js_parsing_laws.specs.Lexemes.{Lex, KeptFor, Braceless, IsNew, IsReread, News, NoneToEnd, Spot, TriviaKept, Walked, goal_for, is_read, nowhere, one_more, onward, other_goals, read_again, read_kinds, spot, template_tails, with_faults, read_word}
+use Rattle.js_parsing_laws.specs.Moves.{MadeHere, unpassable, plain_label}
+use Rattle.js_parsing_laws.specs.Nesting.{room}
+use Rattle.js_parsing_laws.specs.States.{At, IsPlain, whole, sign, nothing as none_stands, Same, flags_of}
+use Rattle.js_parsing_laws.specs.Told.{unrelated_at}
+use Rattle.js_parsing_laws.proofs.Classes.{unexpected_ends}
+use Rattle.js_parsing_laws.proofs.Giving.{kept_one}
+use Rattle.js_parsing_laws.proofs.Here.{alike, begins_here, found, kind_here, plain_token, told_plain, uncut, unsettled}
+use Rattle.js_parsing_laws.proofs.Slashes.{tail_goal}
+use Rattle.js_parsing_laws.proofs.Escapes.{no_word_among, read_listed, read_plain}
+use Rattle.js_parsing_laws.proofs.Parts.{part_called, part_path, part_path_fails}
+use Rattle.js_parsing_laws.proofs.Parts.{parts as parts_joined}
 use Rattle.js_operand_laws.proofs.Operands.{behind_primary, by_path}
-use Rattle.js_parsing.proofs.Kept.{kept_for, no_flags, passing_so}
-use Rattle.js_parsing.proofs.KeptTokens.{again_before, again_last, before_next, next_kept_last, trivia_kept}
-use Rattle.js_parsing.proofs.MadeNodes.{leaf_held, made_lies, node_held, one_lies}
-use Rattle.js_parsing.proofs.Moving.{beside_nodes, flags_same, heads_kept, nodes_lie, plain_given, same_both, same_with, stops_behind, stops_so}
-use Rattle.js_parsing.proofs.Paths.{at_kind, at_kinds, fails_at, label_here, noded, read_of, walked_both, walked_to}
-use Rattle.js_parsing.proofs.Signs.{closing_there, plain_of, span_is}
-use Rattle.js_parsing.proofs.Told.{told_at, told_same}
-use Rattle.js_parsing.proofs.ToEnd.{to_end_none, to_end_passed, to_end_stays}
-use Rattle.js_parsing.proofs.Verdicts.{either_way, grown_then, verdict_of}
-use Rattle.js_parsing.proofs.Verdicts.{after as grown_behind}
+use Rattle.js_parsing_laws.proofs.Kept.{kept_for, no_flags, passing_so}
+use Rattle.js_parsing_laws.proofs.KeptTokens.{again_before, again_last, before_next, next_kept_last, trivia_kept}
+use Rattle.js_parsing_laws.proofs.MadeNodes.{leaf_held, made_lies, node_held, one_lies}
+use Rattle.js_parsing_laws.proofs.Moving.{beside_nodes, flags_same, heads_kept, nodes_lie, plain_given, same_both, same_with, stops_behind, stops_so}
+use Rattle.js_parsing_laws.proofs.Paths.{at_kind, at_kinds, fails_at, label_here, noded, read_of, walked_both, walked_to}
+use Rattle.js_parsing_laws.proofs.Signs.{closing_there, plain_of, span_is}
+use Rattle.js_parsing_laws.proofs.Told.{told_at, told_same}
+use Rattle.js_parsing_laws.proofs.ToEnd.{to_end_none, to_end_passed, to_end_stays}
+use Rattle.js_parsing_laws.proofs.Verdicts.{either_way, grown_then, verdict_of}
+use Rattle.js_parsing_laws.proofs.Verdicts.{after as grown_behind}
 use Rattle.js_operand_laws.specs.Members.{LinkForm, NoLink, Taken, by_call, by_index, by_name}
 use Rattle.js_operand_laws.specs.Templates.{BeginsPart, NoTail, PartAt, PartBegun, PartTaken, Tagged, TakesPart, TellsTemplate, TemplateOutcome, TemplateTaken, Templated, element_label, heads, inside_end, left_of, literal, parts, tagged_label, tail_of, LastIs, last_parts}
 use Rattle.js_operand_laws.specs.declared.forms.PassedPart.{PassedPart}

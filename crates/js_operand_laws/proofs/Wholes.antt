@@ -16,15 +16,15 @@ use Rattle.js_tree.proofs.HoldingLemmas.{HoldsAll-hole, HoldsAll-next}
 use Rattle.js_cursor.specs.Parsers.{Parser}
 use Rattle.js_cursor.specs.declared.stop.Stop.{Stop}
 use Rattle.js_operand_laws.specs.Spreads.{PartOutcome}
-use Rattle.js_parsing.specs.Answers.{Numbered}
-use Rattle.js_parsing.specs.Arguments.{ItemOutcome, PartTaken, Partway, behind_item}
-use Rattle.js_parsing.specs.Lexemes.{Lex}
-use Rattle.js_parsing.specs.Methods.{WholeTaken}
-use Rattle.js_parsing.specs.States.{Same, NodesLie}
-use Rattle.js_parsing.proofs.MadeNodes.{LabelLies, from_start}
-use Rattle.js_parsing.proofs.Moving.{beside_nodes, same_with, stops_so}
-use Rattle.js_parsing.proofs.Paths.{Path, last_called}
-use Rattle.js_parsing.proofs.Verdicts.{verdict_of}
+use Rattle.js_parsing_laws.specs.Answers.{Numbered}
+use Rattle.js_parsing_laws.specs.Arguments.{ItemOutcome, PartTaken, Partway, behind_item}
+use Rattle.js_parsing_laws.specs.Lexemes.{Lex}
+use Rattle.js_parsing_laws.specs.Methods.{WholeTaken}
+use Rattle.js_parsing_laws.specs.States.{Same, NodesLie}
+use Rattle.js_parsing_laws.proofs.MadeNodes.{LabelLies, from_start}
+use Rattle.js_parsing_laws.proofs.Moving.{beside_nodes, same_with, stops_so}
+use Rattle.js_parsing_laws.proofs.Paths.{Path, last_called}
+use Rattle.js_parsing_laws.proofs.Verdicts.{verdict_of}
 
 module _ {text : List ℕ} {f : Flags} {g : G} {p q : Parser} {id : NodeId} (x : WholeTaken text f g p q id) where
   -- it is the next child

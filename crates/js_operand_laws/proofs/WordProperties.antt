@@ -30,28 +30,28 @@ use Rattle.js_tree.proofs.HoldingLemmas.{HoldsAll-one, HoldsAll-next, Keeps-refl
 use Rattle.js_cursor.specs.Parsers.{Parser}
 use Rattle.js_cursor.specs.declared.stop.Stop.{Stop}
 use Rattle.js_tree.specs.declared.op.PropertyKind.TheVariants as property
-use Rattle.js_parsing.specs.Nesting.{room}
+use Rattle.js_parsing_laws.specs.Nesting.{room}
 use Rattle.js_operand_laws.specs.Objects.{Begins, NoAsyncMethod, async_line, begins_async, ends_name_kinds, form_of, getter_of, method_left, property_label, setter_of, shorthand, value_left, with_method, with_value}
 use Rattle.js_operand_laws.specs.PropertyNames.{NoName}
-use Rattle.js_parsing.specs.declared.nested.MethodForm.{MethodForm}
-use Rattle.js_parsing.specs.declared.nested.MethodForm.TheVariants.{Method, Getter, Setter}
+use Rattle.js_parsing_laws.specs.declared.nested.MethodForm.{MethodForm}
+use Rattle.js_parsing_laws.specs.declared.nested.MethodForm.TheVariants.{Method, Getter, Setter}
 use Rattle.js_base.specs.declared.diagnostic.Diagnostic.{Diagnostic}
-use Rattle.js_parsing.specs.Answers.{Answer, Grown, Numbered, Stops, Underived}
-use Rattle.js_parsing.specs.Arguments.{PartTaken, behind_item}
-use Rattle.js_parsing.specs.Lexemes.{Lex, is_read, may_name, name_kinds, read_kinds, read_word, keyword_kind}
-use Rattle.js_parsing.proofs.NameKinds.{listed_name}
-use Rattle.js_parsing.specs.Moves.{Moved, MadeHere, plain_label}
-use Rattle.js_parsing.specs.States.{At, Same, NodesLie}
-use Rattle.js_parsing.proofs.Here.{begins_here, kind_here}
-use Rattle.js_parsing.proofs.MadeNodes.{from_start, leaf_held, node_held, one_lies, one_lies_in}
-use Rattle.js_parsing.proofs.Moving.{beside_nodes, same_both, same_with, stops_behind}
-use Rattle.js_parsing.proofs.Paths.{Path, ◌⟼◌, ◌⟶◌, ◌⟶✗◌, by_symbol_as, fails_at, flagged_by, flagged_here, label_here, last_called, noded, one_read, passes_test, token}
-use Rattle.js_parsing.proofs.Escapes.{read_as, keyword_plain}
-use Rattle.js_parsing.proofs.Giving.{fails_unescaped}
-use Rattle.js_parsing.proofs.Signs.{other_kind, plain_sign}
-use Rattle.js_parsing.proofs.Verdicts.{grown_then, verdict_of}
+use Rattle.js_parsing_laws.specs.Answers.{Answer, Grown, Numbered, Stops, Underived}
+use Rattle.js_parsing_laws.specs.Arguments.{PartTaken, behind_item}
+use Rattle.js_parsing_laws.specs.Lexemes.{Lex, is_read, may_name, name_kinds, read_kinds, read_word, keyword_kind}
+use Rattle.js_parsing_laws.proofs.NameKinds.{listed_name}
+use Rattle.js_parsing_laws.specs.Moves.{Moved, MadeHere, plain_label}
+use Rattle.js_parsing_laws.specs.States.{At, Same, NodesLie}
+use Rattle.js_parsing_laws.proofs.Here.{begins_here, kind_here}
+use Rattle.js_parsing_laws.proofs.MadeNodes.{from_start, leaf_held, node_held, one_lies, one_lies_in}
+use Rattle.js_parsing_laws.proofs.Moving.{beside_nodes, same_both, same_with, stops_behind}
+use Rattle.js_parsing_laws.proofs.Paths.{Path, ◌⟼◌, ◌⟶◌, ◌⟶✗◌, by_symbol_as, fails_at, flagged_by, flagged_here, label_here, last_called, noded, one_read, passes_test, token}
+use Rattle.js_parsing_laws.proofs.Escapes.{read_as, keyword_plain}
+use Rattle.js_parsing_laws.proofs.Giving.{fails_unescaped}
+use Rattle.js_parsing_laws.proofs.Signs.{other_kind, plain_sign}
+use Rattle.js_parsing_laws.proofs.Verdicts.{grown_then, verdict_of}
 use Rattle.js_operand_laws.proofs.Members.{name_of, word_signless, word_signless}
-use Rattle.js_parsing.proofs.Parts.{part_path_fails, part_sign}
+use Rattle.js_parsing_laws.proofs.Parts.{part_path_fails, part_sign}
 use Rattle.js_operand_laws.proofs.AsyncWords.{no_same_line, part_within, same_line}
 use Rattle.js_operand_laws.proofs.Methods.{no_first}
 use Rattle.js_operand_laws.proofs.Operands.{name_leaf}

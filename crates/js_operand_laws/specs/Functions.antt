@@ -16,13 +16,13 @@ use Rattle.js_cursor.specs.Moves.{GivesUp, IsUnexpected, Keeps}
 use Rattle.js_cursor.specs.Parsers.{Parser}
 use Rattle.js_cursor.specs.declared.stop.Stop.{Stop}
 use Rattle.js_cursor.specs.declared.stop.Stop.TheVariants.{Fatal, NoMemory}
-use Rattle.js_parsing.specs.Answers.{Stops}
-use Rattle.js_parsing.specs.Arguments.{Partway}
-use Rattle.js_parsing.specs.Lexemes.{Lex, Walked, spot}
-use Rattle.js_parsing.specs.Moves.{TakesLeaf}
-use Rattle.js_parsing.specs.Stands.{NameHere, NameUnder, StandsHere}
-use Rattle.js_parsing.specs.States.{At, Same}
-use Rattle.js_parsing.specs.Told.{unrelated_at}
+use Rattle.js_parsing_laws.specs.Answers.{Stops}
+use Rattle.js_parsing_laws.specs.Arguments.{Partway}
+use Rattle.js_parsing_laws.specs.Lexemes.{Lex, Walked, spot}
+use Rattle.js_parsing_laws.specs.Moves.{TakesLeaf}
+use Rattle.js_parsing_laws.specs.Stands.{NameHere, NameUnder, StandsHere}
+use Rattle.js_parsing_laws.specs.States.{At, Same}
+use Rattle.js_parsing_laws.specs.Told.{unrelated_at}
 use Rattle.js_operand_laws.specs.declared.forms.FunctionForm.{FunctionForm}
 use Rattle.js_operand_laws.specs.declared.forms.FunctionForm.TheVariants.{Declaration, Expression}
 use Rattle.js_operand_laws.specs.declared.forms.FunctionParts.{FunctionParts}

@@ -6,7 +6,7 @@ use Rattle.js_tree.specs.declared.id.NodeId.{NodeId}
 use Rattle.js_tree.specs.Nodes.{Node}
 use Rattle.js_tree.specs.Holding.{Holds, Keeps}
 use Rattle.js_cursor.specs.Parsers.{Parser}
-use Rattle.js_parsing.specs.States.{NodesLie}
+use Rattle.js_parsing_laws.specs.States.{NodesLie}
 
 abbrev pub is_function : NodeKind → Bool
 is_function function_expression = true

@@ -1,5 +1,5 @@
 -- What the parse functions of members, `new` and optional chains answer (ECMA-262, 13.3): how much was taken, and which nonterminals that is.
-use Rattle.js_parsing.specs.Stands.{StandsHere}
+use Rattle.js_parsing_laws.specs.Stands.{StandsHere}
 use Rattle.std.specs.Prelude.{ℕ, ◌≡◌, ◌<◌, ◌≤◌, ◌⊎◌, Bool, true, false, cond, List, [], ◌∷◌, Option, Some, None, not, length, Result, Ok, Err}
 use Rattle.js_base.specs.declared.diagnostic.Diagnostic.{Diagnostic}
 use Rattle.js_base.specs.declared.diagnostic.DiagnosticKind.TheVariants.{InvalidNewOptionalChain, IdentifierExpectedAfterQuestionDot}
@@ -23,16 +23,16 @@ use Rattle.js_tree.specs.declared.id.NodeId.{NodeId}
 use Rattle.js_tree.specs.Holding.{Holds, Keeps}
 use Rattle.js_cursor.specs.Parsers.{Parser}
 use Rattle.js_cursor.specs.declared.stop.Stop.{Stop}
-use Rattle.js_parsing.specs.Lexemes.{Lex, Walked, spot}
-use Rattle.js_parsing.specs.States.{At, Same}
-use Rattle.js_parsing.specs.Moves.{MadeHere}
-use Rattle.js_parsing.specs.Arguments.{Partway, Arguments, NoArguments}
+use Rattle.js_parsing_laws.specs.Lexemes.{Lex, Walked, spot}
+use Rattle.js_parsing_laws.specs.States.{At, Same}
+use Rattle.js_parsing_laws.specs.Moves.{MadeHere}
+use Rattle.js_parsing_laws.specs.Arguments.{Partway, Arguments, NoArguments}
 use Rattle.js_tree.specs.declared.kind.NodeKind.{NodeKind}
 use Rattle.js_tree.specs.declared.kind.NodeKind.TheVariants.{V8IntrinsicExpression}
 use Rattle.js_tree.specs.Labels.{kind_of}
 use Rattle.js_operand_laws.specs.declared.forms.LinkBase.{LinkBase}
 use Rattle.js_operand_laws.specs.declared.forms.LinkBase.TheVariants.{Member as OfMember, Call as OfCall, Chain as OfChain}
-use Rattle.js_parsing.specs.Answers.{Verdict, Stretch, Underived, Outcome, Stops}
+use Rattle.js_parsing_laws.specs.Answers.{Verdict, Stretch, Underived, Outcome, Stops}
 
 -- what is told of a `?.` behind what `new` stands before
 abbrev pub TellsChain : Span → Diagnostic → Type 0

@@ -15,11 +15,11 @@ use Rattle.js_cursor.specs.Moves.{Keeps}
 use Rattle.js_cursor.specs.Parsers.{Parser}
 use Rattle.js_cursor.specs.declared.stop.Stop.{Stop}
 use Rattle.js_operand_laws.specs.Members.{MemberSoFar, NoMember, Taken}
-use Rattle.js_parsing.specs.Answers.{Stops}
-use Rattle.js_parsing.specs.Moves.{Moved}
-use Rattle.js_parsing.specs.Stands.{StandsHere}
-use Rattle.js_parsing.specs.States.{At}
-use Rattle.js_parsing.specs.Told.{unrelated_at}
+use Rattle.js_parsing_laws.specs.Answers.{Stops}
+use Rattle.js_parsing_laws.specs.Moves.{Moved}
+use Rattle.js_parsing_laws.specs.Stands.{StandsHere}
+use Rattle.js_parsing_laws.specs.States.{At}
+use Rattle.js_parsing_laws.specs.Told.{unrelated_at}
 
 -- its lexemes
 abbrev pub target_slots : G

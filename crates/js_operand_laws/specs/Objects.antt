@@ -19,14 +19,14 @@ use Rattle.js_cursor.specs.declared.stop.Stop.{Stop}
 use Rattle.js_operand_laws.specs.declared.forms.PropertyName.{PropertyName}
 use Rattle.js_operand_laws.specs.PropertyNames.{NameRead}
 use Rattle.js_operand_laws.specs.Spreads.{PartOutcome}
-use Rattle.js_parsing.specs.declared.nested.MethodForm.{MethodForm}
-use Rattle.js_parsing.specs.declared.nested.MethodForm.TheVariants.{Method, Getter, Setter}
-use Rattle.js_parsing.specs.Answers.{Stops}
-use Rattle.js_parsing.specs.Arguments.{Partway}
-use Rattle.js_parsing.specs.Lexemes.{Lex, may_name}
-use Rattle.js_parsing.specs.Methods.{parameters_of}
-use Rattle.js_parsing.specs.Moves.{Moved}
-use Rattle.js_parsing.specs.States.{At}
+use Rattle.js_parsing_laws.specs.declared.nested.MethodForm.{MethodForm}
+use Rattle.js_parsing_laws.specs.declared.nested.MethodForm.TheVariants.{Method, Getter, Setter}
+use Rattle.js_parsing_laws.specs.Answers.{Stops}
+use Rattle.js_parsing_laws.specs.Arguments.{Partway}
+use Rattle.js_parsing_laws.specs.Lexemes.{Lex, may_name}
+use Rattle.js_parsing_laws.specs.Methods.{parameters_of}
+use Rattle.js_parsing_laws.specs.Moves.{Moved}
+use Rattle.js_parsing_laws.specs.States.{At}
 
 -- ---- the forms of a property
 

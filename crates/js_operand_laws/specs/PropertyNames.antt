@@ -10,9 +10,9 @@ use Rattle.js_tree.specs.Holding.{Holds, Keeps}
 use Rattle.js_cursor.specs.Parsers.{Parser}
 use Rattle.js_cursor.specs.declared.stop.Stop.{Stop}
 use Rattle.js_operand_laws.specs.declared.forms.PropertyName.{PropertyName}
-use Rattle.js_parsing.specs.Answers.{Stretch, Stops, Verdict}
-use Rattle.js_parsing.specs.Lexemes.{Lex, Walked, spot}
-use Rattle.js_parsing.specs.States.{At, Same}
+use Rattle.js_parsing_laws.specs.Answers.{Stretch, Stops, Verdict}
+use Rattle.js_parsing_laws.specs.Lexemes.{Lex, Walked, spot}
+use Rattle.js_parsing_laws.specs.States.{At, Same}
 
 -- no name of this form, in brackets or not, is derived from the place
 abbrev pub NoName : List ℕ → Bool → Flags → ℕ → Type 0

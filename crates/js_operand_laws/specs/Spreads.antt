@@ -10,10 +10,10 @@ use Rattle.js_grammar.specs.Table.{rule}
 use Rattle.js_tree.specs.declared.id.NodeId.{NodeId}
 use Rattle.js_cursor.specs.Parsers.{Parser}
 use Rattle.js_cursor.specs.declared.stop.Stop.{Stop}
-use Rattle.js_parsing.specs.Answers.{Stops}
-use Rattle.js_parsing.specs.Arguments.{PartTaken, behind_item}
-use Rattle.js_parsing.specs.Lexemes.{Lex}
-use Rattle.js_parsing.specs.States.{At}
+use Rattle.js_parsing_laws.specs.Answers.{Stops}
+use Rattle.js_parsing_laws.specs.Arguments.{PartTaken, behind_item}
+use Rattle.js_parsing_laws.specs.Lexemes.{Lex}
+use Rattle.js_parsing_laws.specs.States.{At}
 
 abbrev pub spread : Flags → G
 spread f = mk spread_element (tok Dot3 ▸ symbol Assignment (plus_in f))

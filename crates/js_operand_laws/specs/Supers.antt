@@ -11,10 +11,10 @@ use Rattle.js_cursor.specs.Parsers.{Parser}
 use Rattle.js_cursor.specs.declared.stop.Stop.{Stop}
 use Rattle.js_operand_laws.specs.Members.{LinkHere, MemberSoFar, NoMember, SuperWord, Taken}
 use Rattle.js_operand_laws.specs.declared.forms.LinkBase.TheVariants as base
-use Rattle.js_parsing.specs.Answers.{Stops}
-use Rattle.js_parsing.specs.Stands.{StandsHere}
-use Rattle.js_parsing.specs.States.{At}
-use Rattle.js_parsing.specs.Told.{unrelated_at}
+use Rattle.js_parsing_laws.specs.Answers.{Stops}
+use Rattle.js_parsing_laws.specs.Stands.{StandsHere}
+use Rattle.js_parsing_laws.specs.States.{At}
+use Rattle.js_parsing_laws.specs.Told.{unrelated_at}
 
 -- what is told of `super` before none of `.`, `[` and `(`, and of `super` and its arguments behind `new`
 abbrev pub alone_at : Span → Diagnostic

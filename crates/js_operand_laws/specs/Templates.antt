@@ -20,12 +20,12 @@ use Rattle.js_tree.specs.Holding.{Holds, Keeps}
 use Rattle.js_cursor.specs.Parsers.{Parser}
 use Rattle.js_cursor.specs.Places.{IsAt, goal}
 use Rattle.js_cursor.specs.declared.stop.Stop.{Stop}
-use Rattle.js_parsing.specs.Answers.{Grown, Numbered, Stops, Underived}
-use Rattle.js_parsing.specs.Heads.{NotedHeads, widened}
-use Rattle.js_parsing.specs.Lexemes.{Lex, IsNew, IsReread, KeptLast, News, NoneToEnd, Walked, onward, spot, template_tails, with_faults}
-use Rattle.js_parsing.specs.Moves.{MadeHere}
-use Rattle.js_parsing.specs.States.{At, Same, flags_of}
-use Rattle.js_parsing.specs.Told.{unrelated_at}
+use Rattle.js_parsing_laws.specs.Answers.{Grown, Numbered, Stops, Underived}
+use Rattle.js_parsing_laws.specs.Heads.{NotedHeads, widened}
+use Rattle.js_parsing_laws.specs.Lexemes.{Lex, IsNew, IsReread, KeptLast, News, NoneToEnd, Walked, onward, spot, template_tails, with_faults}
+use Rattle.js_parsing_laws.specs.Moves.{MadeHere}
+use Rattle.js_parsing_laws.specs.States.{At, Same, flags_of}
+use Rattle.js_parsing_laws.specs.Told.{unrelated_at}
 use Rattle.js_operand_laws.specs.declared.forms.LinkBase.{LinkBase}
 use Rattle.js_operand_laws.specs.declared.forms.PassedPart.{PassedPart}
 use Rattle.js_operand_laws.specs.Members.{LinkForm, LinkHere, Linked, NoLink}

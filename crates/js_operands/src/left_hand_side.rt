@@ -5,18 +5,18 @@ ghost use Rattle.js_base.specs.declared.kind.Kind.TheVariants.{Dot, LBrack, LPar
 ghost use Rattle.js_cursor.specs.Moves.{GivesUp};
 ghost use Rattle.js_grammar.specs.Productions.{at, optional_flag, IdentifierName, LeftHandSide};
 ghost use Rattle.js_tree.specs.Labels.{number_of};
-ghost use Rattle.js_parsing.specs.Answers.{Answers};
+ghost use Rattle.js_parsing_laws.specs.Answers.{Answers};
 ghost use Rattle.js_grammar.specs.Marks.{Mark};
 ghost use Rattle.js_cursor.specs.Places.{goal};
-ghost use Rattle.js_parsing.specs.Lexemes.{read_word};
+ghost use Rattle.js_parsing_laws.specs.Lexemes.{read_word};
 ghost use Rattle.js_operand_laws.specs.Members.{CallsMember, ChainsCallee, GoesOnMember, Heads, LinkHere, MakesWithArguments, MakesWithIndex, ReadsLink, TellsChain, flagged_label, no_link_behind};
 ghost use Rattle.js_operand_laws.specs.Templates.{GoesOn, ReadsChainLink};
-ghost use Rattle.js_parsing.specs.Stands.{StandsHere};
+ghost use Rattle.js_parsing_laws.specs.Stands.{StandsHere};
 ghost use Rattle.js_operand_laws.specs.Members as members;
-ghost use Rattle.js_parsing.specs.Moves.{MadeHere};
-ghost use Rattle.js_parsing.specs.Nesting.{CanNest, room};
-ghost use Rattle.js_parsing.specs.NodeTexts.{is_textual};
-ghost use Rattle.js_parsing.specs.States.{Standing};
+ghost use Rattle.js_parsing_laws.specs.Moves.{MadeHere};
+ghost use Rattle.js_parsing_laws.specs.Nesting.{CanNest, room};
+ghost use Rattle.js_parsing_laws.specs.NodeTexts.{is_textual};
+ghost use Rattle.js_parsing_laws.specs.States.{Standing};
 ghost use Rattle.js_operand_laws.specs.declared.forms.LinkBase.TheVariants as base;
 
 use crate::new_target::parse_new_target;
@@ -32,8 +32,8 @@ use js_operand_laws::forms::LinkBase;
 use js_parsing::context::expression_with_in;
 use js_parsing::diagnostics::diagnostic_at;
 use js_parsing::lexemes::{advance, is_read_word, stands};
-use js_parsing::nested::Nested;
 use js_parsing::nodes::make_one;
+use js_parsing_laws::nested::Nested;
 use js_tree::{NodeFlags, NodeId, NodeKind, Op};
 
 /// A LeftHandSideExpression (ECMA-262, section 13.3).

@@ -6,9 +6,9 @@ ghost use Rattle.js_cursor.specs.Moves.{GivesUp};
 ghost use Rattle.js_cursor.specs.Places.{IsAt, goal};
 ghost use Rattle.js_grammar.specs.Marks.{Mark};
 ghost use Rattle.js_operand_laws.specs.NewTargets.{BehindDot, BehindNew, ChecksTarget, TakesTarget, outside_at};
-ghost use Rattle.js_parsing.specs.Classes.{EndsParse};
-ghost use Rattle.js_parsing.specs.Stands.{StandsHere};
-ghost use Rattle.js_parsing.specs.States.{Standing};
+ghost use Rattle.js_parsing_laws.specs.Classes.{EndsParse};
+ghost use Rattle.js_parsing_laws.specs.Stands.{StandsHere};
+ghost use Rattle.js_parsing_laws.specs.States.{Standing};
 
 use js_base::{DiagnosticKind, Kind, NoMemory, Span};
 use js_cursor::{ParserImpl, Stop};

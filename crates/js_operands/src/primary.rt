@@ -6,20 +6,20 @@ ghost use Rattle.js_base.specs.Kinds.{one_of_kinds};
 ghost use Rattle.js_base.specs.declared.kind.Kind.TheVariants.{LParen, Percent, RParen, Str};
 ghost use Rattle.js_grammar.specs.Productions.{at, Primary};
 ghost use Rattle.js_cursor.specs.Moves.{OnlyMemory, Opened};
-ghost use Rattle.js_parsing.specs.Answers.{Answers};
+ghost use Rattle.js_parsing_laws.specs.Answers.{Answers};
 ghost use Rattle.js_tree.specs.Labels.{kind_of};
 ghost use Rattle.js_tree.specs.declared.kind.NodeKind.TheVariants as node;
 ghost use Rattle.js_tree.specs.declared.op.Op.TheVariants as op;
 ghost use Rattle.js_operand_laws.specs.Marked.{Marks, MarksNode};
 ghost use Rattle.js_operand_laws.specs.Marked as marked;
-ghost use Rattle.js_parsing.specs.Moves.{IsWholeHere, TakesLeaf};
-ghost use Rattle.js_parsing.specs.Lexemes.{read_word, slashes};
-ghost use Rattle.js_parsing.specs.Nesting.{CanNest, room};
-ghost use Rattle.js_parsing.specs.NodeTexts.{is_name_node, is_textual};
+ghost use Rattle.js_parsing_laws.specs.Moves.{IsWholeHere, TakesLeaf};
+ghost use Rattle.js_parsing_laws.specs.Lexemes.{read_word, slashes};
+ghost use Rattle.js_parsing_laws.specs.Nesting.{CanNest, room};
+ghost use Rattle.js_parsing_laws.specs.NodeTexts.{is_name_node, is_textual};
 ghost use Rattle.js_operand_laws.specs.Numbers.{node_of_number, op_of_number};
-ghost use Rattle.js_parsing.specs.Moves.{Passes};
-ghost use Rattle.js_parsing.specs.Stands.{NameHere};
-ghost use Rattle.js_parsing.specs.States.{Standing};
+ghost use Rattle.js_parsing_laws.specs.Moves.{Passes};
+ghost use Rattle.js_parsing_laws.specs.Stands.{NameHere};
+ghost use Rattle.js_parsing_laws.specs.States.{Standing};
 
 use crate::left_hand_side::parse_with_arguments;
 use js_base::{Kind, Span};
@@ -32,8 +32,8 @@ use js_literals::object::parse_object_expression;
 use js_literals::template::parse_template;
 use js_parsing::context::expression_with_in;
 use js_parsing::lexemes::{advance, escaped_word_stands, name_stands, stands};
-use js_parsing::nested::Nested;
 use js_parsing::nodes::{make_leaf, make_name, make_one, make_string};
+use js_parsing_laws::nested::Nested;
 use js_tree::{BigintBase, NodeFlags, NodeId, NodeKind, NumberBase, Op, ParserAstBuilder};
 
 /// A PrimaryExpression (ECMA-262, section 13.2): a name, a literal, a regular expression, an array, an object literal, a function, parentheses or a

@@ -8,9 +8,9 @@ ghost use Rattle.js_tree.specs.Labels.{kind_of};
 ghost use Rattle.js_tree.specs.Nodes.{node_at};
 ghost use Rattle.js_operand_laws.specs.Members.{Heads, is_super_word};
 ghost use Rattle.js_operand_laws.specs.Supers.{ChecksCallee, ChecksSuper, GoesOnSuper, TakesSuper, alone_at, callee_from};
-ghost use Rattle.js_parsing.specs.Nesting.{CanNest, room};
-ghost use Rattle.js_parsing.specs.Stands.{StandsHere};
-ghost use Rattle.js_parsing.specs.States.{Standing};
+ghost use Rattle.js_parsing_laws.specs.Nesting.{CanNest, room};
+ghost use Rattle.js_parsing_laws.specs.Stands.{StandsHere};
+ghost use Rattle.js_parsing_laws.specs.States.{Standing};
 
 use crate::left_hand_side::{link_here, parse_link, parse_member_expression_rest};
 use js_base::{DiagnosticKind, Kind, NoMemory, Span};
@@ -19,8 +19,8 @@ use js_lex::ParserConfig;
 use js_operand_laws::forms::LinkBase;
 use js_parsing::diagnostics::diagnostic_at;
 use js_parsing::lexemes::{advance, stands};
-use js_parsing::nested::Nested;
 use js_parsing::nodes::make_leaf;
+use js_parsing_laws::nested::Nested;
 use js_tree::{NodeId, NodeKind, Op};
 
 /// What begins with `super`: a MemberExpression, or this word alone before arguments.

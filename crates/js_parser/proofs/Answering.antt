@@ -36,7 +36,7 @@ use Rattle.js_parser.proofs.Leftovers.{all_early, covered, early_marked, in_prog
 use Rattle.js_grammar.specs.CoverInitialisers.{initialised_in}
 use Rattle.js_grammar.proofs.CoverInitialisers.{Marked}
 use Rattle.js_tree.specs.Covering.{placed}
-use Rattle.js_parsing.specs.States.{NodesLie}
+use Rattle.js_parsing_laws.specs.States.{NodesLie}
 use Rattle.js_grammar.specs.Options.{Options}
 use Rattle.js_grammar.specs.Settings.{Goal}
 use Rattle.js_parser.specs.Kept.{TellsRead, KeepsRight}
@@ -45,9 +45,9 @@ use Rattle.js_parser.proofs.NodeSpans.{slots_lie, program_lie}
 use Rattle.js_parser.specs.Taken.{IsOf, ReadOrNot, ProgramTaken, ProgramRefused, ProgramStops}
 use Rattle.js_cursor.specs.declared.stop.Stop.{Stop}
 use Rattle.js_cursor.specs.declared.stop.Stop.TheVariants.{Fatal}
-use Rattle.js_parsing.specs.Classes.{IsEarly}
-use Rattle.js_parsing.proofs.Classes.{lexical_by}
-use Rattle.js_parsing.specs.States.{NodesLie}
+use Rattle.js_parsing_laws.specs.Classes.{IsEarly}
+use Rattle.js_parsing_laws.proofs.Classes.{lexical_by}
+use Rattle.js_parsing_laws.specs.States.{NodesLie}
 
 none_of_two : {K : Type 0} (a b : List K) → a ≡ [] → b ≡ [] → a ++ b ≡ []
 none_of_two a b e f = λ i. e i ++ f i

@@ -27,8 +27,8 @@ use Rattle.js_grammar.proofs.NoEnd.{ends_once_by, ends_behind}
 use Rattle.js_lex.specs.declared.output.LexerOutput.{LexerOutput}
 use Rattle.js_lex.specs.Reading.{LexemeBehind}
 use Rattle.js_lex.specs.States.{goal_of}
-use Rattle.js_parsing.specs.Lexemes.{Faultless, is_read, read_kinds}
-use Rattle.js_parsing.proofs.Paths.{read_of}
+use Rattle.js_parsing_laws.specs.Lexemes.{Faultless, is_read, read_kinds}
+use Rattle.js_parsing_laws.proofs.Paths.{read_of}
 use Rattle.js_tree.specs.Nodes.{Node}
 use Rattle.js_parser.specs.Parsed.{options_of, IsAnswer}
 use Rattle.js_parser.specs.Readings.{parameters, read_at, Reading, ReadingBy, IsOnlyReading, HasNoReading, AreRead, from_text_start, behind_a_hashbang}

@@ -23,7 +23,7 @@ use Rattle.js_tree.specs.Covering.{placed}
 use Rattle.js_parser.specs.Broken.{past, within as inner, broken_rule, told_rule, told_in}
 use Rattle.js_parser.specs.FlagScans.{has_both}
 use Rattle.js_parser.specs.NodeSpans.{SlotsLie}
-use Rattle.js_parsing.specs.Told.{unrelated_at}
+use Rattle.js_parsing_laws.specs.Told.{unrelated_at}
 use Rattle.js_parser.specs.declared.early.Position.{Position}
 use Rattle.js_parser.specs.declared.early.Position.TheVariants.{Anywhere, InTemplate}
 

@@ -21,10 +21,10 @@ use Rattle.js_lex.specs.Reading.{LexemeBehind}
 use Rattle.js_lex.specs.Scans.{NoLexeme}
 use Rattle.js_lex.proofs.KindsOfLexemes.{hashbang_is}
 use Rattle.js_lex.proofs.TriviaLemmas.{some_width}
-use Rattle.js_parsing.specs.Lexemes.{Faultless, read_kinds}
+use Rattle.js_parsing_laws.specs.Lexemes.{Faultless, read_kinds}
 use Rattle.js_statement_laws.specs.StatementLists.{with_directives}
 use Rattle.js_statement_laws.specs.declared.forms.StatementList.TheVariants.{Text}
-use Rattle.js_parsing.proofs.Kept.{faults_aside}
+use Rattle.js_parsing_laws.proofs.Kept.{faults_aside}
 use Rattle.js_parser.specs.Kept.{each_of, each_read, comments_before, blanks_before, TellsEach, TellsRead}
 use Rattle.js_parser.specs.Readings.{AreRead, from_text_start, behind_a_hashbang}
 use Rattle.js_parser.proofs.Hashbangs.{program_label, behind_comment, behind_hashbang, without_hashbang, from_hashbang, from_start, alone}

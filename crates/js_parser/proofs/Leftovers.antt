@@ -26,10 +26,10 @@ use Rattle.js_tree.specs.Covering.{placed as made}
 use Rattle.js_tree.specs.Holding.{program_tree}
 use Rattle.js_lex.specs.declared.output.LexerOutput.{LexerOutput}
 use Rattle.js_cursor.proofs.Moving.{reached_next}
-use Rattle.js_parsing.specs.Classes.{IsEarly}
-use Rattle.js_parsing.specs.Lexemes.{Faultless}
-use Rattle.js_parsing.specs.Told.{unrelated_at}
-use Rattle.js_parsing.proofs.Kept.{faults_aside}
+use Rattle.js_parsing_laws.specs.Classes.{IsEarly}
+use Rattle.js_parsing_laws.specs.Lexemes.{Faultless}
+use Rattle.js_parsing_laws.specs.Told.{unrelated_at}
+use Rattle.js_parsing_laws.proofs.Kept.{faults_aside}
 use Rattle.js_parser.specs.Kept.{IsKeptOf}
 use Rattle.js_parser.specs.Broken.{past, within, broken_rule, told_rule, told_in}
 use Rattle.js_parser.specs.FlagScans.{has_both}

@@ -30,20 +30,20 @@ use Rattle.js_cursor.specs.Starts.{Starts}
 use Rattle.js_cursor.specs.Tokens.{IsToken, whole as whole_token, sign as sign_token, nothing as no_token}
 use Rattle.js_cursor.specs.declared.stop.Stop.{Stop}
 use Rattle.js_cursor.specs.declared.stop.Stop.TheVariants.{Fatal, NoMemory}
-use Rattle.js_parsing.specs.Answers.{Stretch, Verdict, clean, unclean, wider}
-use Rattle.js_parsing.specs.Lexemes.{IsRight, Lex, goal_for, is_read, other_goals, signs}
-use Rattle.js_parsing.specs.NodeTexts.{NodeFits}
-use Rattle.js_parsing.specs.States.{At, IsPlain, whole, sign, nothing as no_lexeme, flags_of, Standing, NodesLie, SpansLie}
+use Rattle.js_parsing_laws.specs.Answers.{Stretch, Verdict, clean, unclean, wider}
+use Rattle.js_parsing_laws.specs.Lexemes.{IsRight, Lex, goal_for, is_read, other_goals, signs}
+use Rattle.js_parsing_laws.specs.NodeTexts.{NodeFits}
+use Rattle.js_parsing_laws.specs.States.{At, IsPlain, whole, sign, nothing as no_lexeme, flags_of, Standing, NodesLie, SpansLie}
 use Rattle.js_statement_laws.specs.StatementLists.{at_end, with_directives, statements, NoList, Taken, AllTaken, AllRefused}
 use Rattle.js_statement_laws.specs.declared.forms.StatementList.TheVariants.{Text}
-use Rattle.js_parsing.proofs.Beginning.{begins, begins_with_hashbang, behind_first, none_noted}
-use Rattle.js_parsing.proofs.Escapes.{read_plain}
-use Rattle.js_parsing.proofs.Giving.{fails_none}
-use Rattle.js_parsing.proofs.Here.{alike, told, plain_there, kind_here}
-use Rattle.js_parsing.proofs.Paths.{at_kind, read_of}
-use Rattle.js_parsing.proofs.Unbuilt.{nothing_unbuilt}
+use Rattle.js_parsing_laws.proofs.Beginning.{begins, begins_with_hashbang, behind_first, none_noted}
+use Rattle.js_parsing_laws.proofs.Escapes.{read_plain}
+use Rattle.js_parsing_laws.proofs.Giving.{fails_none}
+use Rattle.js_parsing_laws.proofs.Here.{alike, told, plain_there, kind_here}
+use Rattle.js_parsing_laws.proofs.Paths.{at_kind, read_of}
+use Rattle.js_parsing_laws.proofs.Unbuilt.{nothing_unbuilt}
 use Rattle.js_statement_laws.proofs.StatementLists.{none_left, text_ends}
-use Rattle.js_parsing.proofs.Verdicts.{grown_some}
+use Rattle.js_parsing_laws.proofs.Verdicts.{grown_some}
 use Rattle.js_cursor.specs.Starts.{is_module, is_commonjs}
 use Rattle.js_tree.specs.Nodes.{Node, empty_program}
 use Rattle.js_tree.proofs.HoldingLemmas.{HoldsAll-wider, HoldsAll-append, HoldsAll-one, Holds-kept, Holds-wider, Keeps-refl}
@@ -51,7 +51,7 @@ use Rattle.std.specs.Prelude.{Result, Ok, Err, MatchResult}
 use Rattle.std.specs.Prelude.{Some}
 use Rattle.js_base.specs.Contexts.{has_flag, reads_await, in_flag, yield_flag, await_flag, return_flag, new_target_flag}
 use Rattle.js_cursor.specs.Moves.{Passed}
-use Rattle.js_parsing.specs.Moves.{MadeHere, plain_label}
+use Rattle.js_parsing_laws.specs.Moves.{MadeHere, plain_label}
 use Rattle.js_tree.specs.declared.kind.NodeKind.TheVariants.{Hashbang}
 use Rattle.js_tree.specs.declared.op.Op.TheVariants as op
 use Rattle.js_base.specs.declared.span.Span.{Span}
@@ -60,8 +60,8 @@ use Rattle.js_lex.specs.Scans.{NoLexeme}
 use Rattle.js_lex.specs.States.{State}
 use Rattle.js_parser.proofs.Hashbangs.{hashbang_label, program_label, behind_comment, alone}
 use Rattle.js_parser.proofs.Fronts.{Front, Parts, kind_of_hashbang, none_begins, at_the_start, behind_a_comment}
-use Rattle.js_parsing.proofs.MadeNodes.{leaf_held, one_lies_in}
-use Rattle.js_parsing.proofs.Moving.{standing, beside_nodes}
+use Rattle.js_parsing_laws.proofs.MadeNodes.{leaf_held, one_lies_in}
+use Rattle.js_parsing_laws.proofs.Moving.{standing, beside_nodes}
 use Rattle.js_parser.specs.Parsed.{options_of, IsAnswer}
 use Rattle.js_parser.specs.Readings.{parameters, ReadingBy, IsOnlyReadingBy, HasNoReadingBy}
 use Rattle.js_parser.specs.Taken.{FoundNothing, ReadOrNot, ProgramTaken, ProgramStops}
@@ -74,16 +74,16 @@ use Rattle.js_grammar.specs.Options.{Options, is_module as in_module, is_commonj
 use Rattle.js_grammar.specs.Settings.{Goal, script, module_goal, commonjs, unambiguous}
 use Rattle.js_lex.specs.Comments.{each_at, comment_at, irregular_at, html_fault_at}
 use Rattle.js_lex.specs.Reading.{in_a_module, is_kept, kept_token, LexemeBehind, GivesFirst, GivesNext}
-use Rattle.js_parsing.specs.Lexemes.{Faultless, KeptFor, TriviaKept, kept_before, Spot, spot, Walked, nowhere, one_more, read_again, more_faults}
-use Rattle.js_parsing.proofs.KeptTokens.{before_next, trivia_kept}
+use Rattle.js_parsing_laws.specs.Lexemes.{Faultless, KeptFor, TriviaKept, kept_before, Spot, spot, Walked, nowhere, one_more, read_again, more_faults}
+use Rattle.js_parsing_laws.proofs.KeptTokens.{before_next, trivia_kept}
 use Rattle.js_parser.specs.Kept.{KeepsRight, each_of, comments_before, blanks_before, TellsEach, IsKeptOf}
-use Rattle.js_parsing.proofs.Paths.{behind_walk}
+use Rattle.js_parsing_laws.proofs.Paths.{behind_walk}
 use Rattle.js_parser.proofs.Walks.{first_comments, first_blanks, all_kept, walk_tells, walk_unasked, keeps_still, kept_none}
 use Rattle.js_base.specs.declared.token.Token.{Token}
-use Rattle.js_parsing.proofs.Kept.{kept_for, faults_aside}
-use Rattle.js_parsing.proofs.Paths.{walked_from}
+use Rattle.js_parsing_laws.proofs.Kept.{kept_for, faults_aside}
+use Rattle.js_parsing_laws.proofs.Paths.{walked_from}
 use Rattle.std.proofs.lemmas.List.Elements.{All-same, All-nil, All-cons}
-use Rattle.js_parsing.specs.Classes.{IsEarly}
+use Rattle.js_parsing_laws.specs.Classes.{IsEarly}
 use Rattle.std.proofs.lemmas.Str.{IsCharBoundary-start}
 use Rattle.js_base.specs.Spans.{LiesIn}
 

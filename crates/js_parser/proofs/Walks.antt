@@ -8,8 +8,8 @@ use Rattle.js_grammar.specs.Settings.{Goal}
 use Rattle.js_lex.specs.Reading.{is_kept, kept_token}
 use Rattle.js_lex.specs.declared.comment.Comment.{Comment}
 use Rattle.js_base.specs.declared.diagnostic.Diagnostic.{Diagnostic}
-use Rattle.js_parsing.specs.Lexemes.{Faultless, TriviaKept, Spot, News, onward, with_faults, IsNew, Walked, nowhere, one_more, read_again, more_faults}
-use Rattle.js_parsing.proofs.Paths.{behind_walk}
+use Rattle.js_parsing_laws.specs.Lexemes.{Faultless, TriviaKept, Spot, News, onward, with_faults, IsNew, Walked, nowhere, one_more, read_again, more_faults}
+use Rattle.js_parsing_laws.proofs.Paths.{behind_walk}
 use Rattle.js_parser.specs.Kept.{each_of, comments_before, blanks_before, TellsEach}
 
 -- a lexeme that stands without faults stands whichever pass

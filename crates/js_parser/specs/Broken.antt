@@ -13,7 +13,7 @@ use Rattle.js_tree.specs.Labels.{kind_of}
 use Rattle.js_tree.specs.Nodes.{Node, node_at}
 use Rattle.js_tree.specs.Sources.{text_of}
 use Rattle.js_parser.specs.FlagScans.{has_both}
-use Rattle.js_parsing.specs.Told.{unrelated_at}
+use Rattle.js_parsing_laws.specs.Told.{unrelated_at}
 use Rattle.js_parser.specs.declared.early.Pending.{Pending}
 use Rattle.js_parser.specs.declared.early.Position.{Position}
 use Rattle.js_parser.specs.declared.early.Position.TheVariants.{Anywhere, Tag, Tagged, InTemplate}

@@ -11,7 +11,7 @@ use Rattle.js_lex.specs.Comments.{each_at, comment_at, irregular_at}
 use Rattle.js_lex.specs.Reading.{Tells}
 use Rattle.js_lex.specs.declared.comment.Comment.{Comment}
 use Rattle.js_lex.specs.declared.output.LexerOutput.{LexerOutput}
-use Rattle.js_parsing.specs.Lexemes.{Faultless}
+use Rattle.js_parsing_laws.specs.Lexemes.{Faultless}
 use Rattle.js_parser.specs.Readings.{AreRead, from_text_start, behind_a_hashbang, ReadingBy, Reading}
 
 -- what the trivia before each lexeme gives, one behind the other

@@ -16,8 +16,8 @@ use Rattle.js_tree.specs.Holding.{IsTree, program_tree}
 use Rattle.js_parser.specs.NodeSpans.{NodeLies, SlotsLie}
 use Rattle.js_parser.specs.Readings.{read_at, HasNoReading, IsOnlyReading, AreOf}
 use Rattle.std.specs.List.{All}
-use Rattle.js_parsing.specs.Classes.{IsEarly, EndedByLast}
-use Rattle.js_parsing.specs.States.{NodesLie}
+use Rattle.js_parsing_laws.specs.Classes.{IsEarly, EndedByLast}
+use Rattle.js_parsing_laws.specs.States.{NodesLie}
 
 -- options as the grammar speaks of them
 abbrev pub options_of : ParseOptions → Options

@@ -18,7 +18,7 @@ use Rattle.js_grammar.specs.Settings.{Goal, script, unambiguous}
 use Rattle.js_grammar.specs.Table.{rule}
 use Rattle.js_lex.specs.Reading.{LexemeBehind}
 use Rattle.js_cursor.specs.Places.{IsFault}
-use Rattle.js_parsing.specs.Lexemes.{Faultless}
+use Rattle.js_parsing_laws.specs.Lexemes.{Faultless}
 use Rattle.js_parser.specs.EarlyErrors.{MeetsEarlyRules}
 
 -- The goal at which a text is read: an unambiguous one as a script, since what shows a module isn't read yet.

@@ -14,8 +14,8 @@ use Rattle.js_parser.specs.Kept.{IsKeptOf}
 use Rattle.js_parser.specs.Readings.{ReadingBy, HasNoReadingBy, IsOnlyReadingBy}
 use Rattle.js_parser.specs.Parsed.{options_of}
 use Rattle.std.specs.List.{All}
-use Rattle.js_parsing.specs.Classes.{IsEarly, EndedByLast}
-use Rattle.js_parsing.specs.States.{NodesLie}
+use Rattle.js_parsing_laws.specs.Classes.{IsEarly, EndedByLast}
+use Rattle.js_parsing_laws.specs.States.{NodesLie}
 
 -- it stands in a text of this source type
 pub record IsOf (text : List ℕ) (s : SourceType) (p : Parser) : Type 0 where

@@ -5,7 +5,7 @@ ghost use Rattle.js_base.specs.declared.options.ParseOptions.{ParseOptions};
 ghost use Rattle.js_base.specs.declared.source_type.SourceType.{SourceType};
 ghost use Rattle.js_cursor.specs.Places.{IsAt};
 ghost use Rattle.js_lex.specs.States.{goal_of};
-ghost use Rattle.js_parsing.specs.States.{NodesLie};
+ghost use Rattle.js_parsing_laws.specs.States.{NodesLie};
 ghost use Rattle.js_parser.specs.Kept.{KeepsRight};
 ghost use Rattle.js_parser.specs.Leftover.{told_at, with_leftover};
 ghost use Rattle.js_parser.specs.Parsed.{options_of, IsAnswer, IsOverlong};

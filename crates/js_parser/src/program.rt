@@ -6,7 +6,7 @@ ghost use Rattle.js_tree.specs.Labels.{number_of};
 ghost use Rattle.js_tree.specs.declared.kind.NodeKind.TheVariants.{Hashbang};
 ghost use Rattle.js_tree.specs.declared.op.Op.TheVariants as op;
 ghost use Rattle.js_cursor.specs.Starts.{Starts};
-ghost use Rattle.js_parsing.specs.Moves.{MadeHere, plain_label};
+ghost use Rattle.js_parsing_laws.specs.Moves.{MadeHere, plain_label};
 ghost use Rattle.js_parser.specs.Taken.{ProgramTaken, ProgramStops};
 
 use js_base::{Kind, NoMemory, Span};

@@ -2,11 +2,11 @@
 
 ghost use Rattle.std.specs.Prelude.{◌≡◌, ◌+◌};
 ghost use Rattle.js_grammar.specs.Productions.{at, body_of, params_of, plus_in, Assignment, Body, Expression, Params};
-ghost use Rattle.js_parsing.specs.Answers.{Answers};
-ghost use Rattle.js_parsing.specs.Contexts.{EntersAsyncHead, EntersMethod, SetsAwait, arrow_body, braced_body};
-ghost use Rattle.js_parsing.specs.Methods.{ReadsWhole, parameters_of};
-ghost use Rattle.js_parsing.specs.Nesting.{CanNest, room};
-ghost use Rattle.js_parsing.specs.States.{Standing};
+ghost use Rattle.js_parsing_laws.specs.Answers.{Answers};
+ghost use Rattle.js_parsing_laws.specs.Contexts.{EntersAsyncHead, EntersMethod, SetsAwait, arrow_body, braced_body};
+ghost use Rattle.js_parsing_laws.specs.Methods.{ReadsWhole, parameters_of};
+ghost use Rattle.js_parsing_laws.specs.Nesting.{CanNest, room};
+ghost use Rattle.js_parsing_laws.specs.States.{Standing};
 
 use crate::nested::{MethodForm, Nested};
 use js_base::Context;

@@ -1,7 +1,7 @@
 //! Diagnostics as parse functions tell them.
 
 ghost use Rattle.std.specs.Prelude.{◌≡◌, length};
-ghost use Rattle.js_parsing.specs.Told.{unrelated_at};
+ghost use Rattle.js_parsing_laws.specs.Told.{unrelated_at};
 
 use js_base::{Diagnostic, DiagnosticKind, Span};
 use js_cursor::ParserImpl;

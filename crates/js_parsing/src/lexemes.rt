@@ -3,14 +3,14 @@
 ghost use Rattle.std.specs.Prelude.{◌≡◌, ◌↔◌, IsTrue, MatchResult};
 ghost use Rattle.js_cursor.specs.Moves.{OnlyMemory};
 ghost use Rattle.js_cursor.specs.Places.{IsAt};
-ghost use Rattle.js_parsing.specs.Answers.{StopsUnbuilt};
-ghost use Rattle.js_parsing.specs.States.{Standing};
+ghost use Rattle.js_parsing_laws.specs.Answers.{StopsUnbuilt};
+ghost use Rattle.js_parsing_laws.specs.States.{Standing};
 ghost use Rattle.js_base.specs.Contexts.{has_flag, in_flag, yield_flag, await_flag};
 ghost use Rattle.js_base.specs.Kinds.{one_of_kinds};
-ghost use Rattle.js_parsing.specs.Lexemes.{escaped_word, keyword_kind, may_name, name_kinds, read_kinds, read_mark, read_operator, read_reserved, read_word, unbuilt_kinds};
-ghost use Rattle.js_parsing.specs.Stands.{EndsOperand, NameHere, NameUnder, ReadsHere, StandsHere};
-ghost use Rattle.js_parsing.specs.Operators.{power_of};
-ghost use Rattle.js_parsing.specs.Moves.{IsCompleted, IsWholeHere, Moves, OperatorHere};
+ghost use Rattle.js_parsing_laws.specs.Lexemes.{escaped_word, keyword_kind, may_name, name_kinds, read_kinds, read_mark, read_operator, read_reserved, read_word, unbuilt_kinds};
+ghost use Rattle.js_parsing_laws.specs.Stands.{EndsOperand, NameHere, NameUnder, ReadsHere, StandsHere};
+ghost use Rattle.js_parsing_laws.specs.Operators.{power_of};
+ghost use Rattle.js_parsing_laws.specs.Moves.{IsCompleted, IsWholeHere, Moves, OperatorHere};
 
 use crate::diagnostics::kept_so_far;
 use js_base::{Kind, Span, Token};

@@ -7,8 +7,8 @@ ghost use Rattle.js_grammar.specs.Strings.{string_kind};
 ghost use Rattle.js_tree.specs.Labels.{number_of};
 ghost use Rattle.js_tree.specs.declared.kind.NodeKind.TheVariants as node;
 ghost use Rattle.js_tree.specs.declared.op.Op.TheVariants as op;
-ghost use Rattle.js_parsing.specs.Moves.{MadeHere, plain_label};
-ghost use Rattle.js_parsing.specs.NodeTexts.{IsKept, SpellsName, is_name_node, is_textual, spelled_at};
+ghost use Rattle.js_parsing_laws.specs.Moves.{MadeHere, plain_label};
+ghost use Rattle.js_parsing_laws.specs.NodeTexts.{IsKept, SpellsName, is_name_node, is_textual, spelled_at};
 
 use js_base::{NoMemory, Span, Text, Token, decode_name};
 use js_cursor::ParserImpl;

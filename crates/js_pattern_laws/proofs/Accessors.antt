@@ -36,20 +36,20 @@ use Rattle.js_cursor.specs.Moves.{Keeps as KeepsOne, Peeks}
 use Rattle.js_cursor.specs.Parsers.{Parser}
 use Rattle.js_cursor.specs.Places.{goal}
 use Rattle.js_cursor.specs.declared.stop.Stop.{Stop}
-use Rattle.js_parsing.specs.Answers.{Numbered, unclean}
-use Rattle.js_parsing.specs.Classes.{IsEarly}
-use Rattle.js_parsing.specs.Lexemes.{Lex, other_goals, signs, spot}
-use Rattle.js_parsing.specs.Methods.{ReadsWhole, WholeOutcome, WholeTaken, parameters_of}
-use Rattle.js_parsing.specs.States.{At, Same}
-use Rattle.js_parsing.specs.Told.{unrelated_at}
-use Rattle.js_parsing.specs.declared.nested.MethodForm.TheVariants.{Getter, Setter}
-use Rattle.js_parsing.proofs.Edges.{last_edge}
-use Rattle.js_parsing.proofs.Giving.{kept_one}
-use Rattle.js_parsing.proofs.Here.{told, uncut, unsettled}
-use Rattle.js_parsing.proofs.Moving.{same_both, stops_so}
-use Rattle.js_parsing.proofs.Paths.{walked_to}
-use Rattle.js_parsing.proofs.Told.{told_at, told_same}
-use Rattle.js_parsing.proofs.Verdicts.{after as grown_behind}
+use Rattle.js_parsing_laws.specs.Answers.{Numbered, unclean}
+use Rattle.js_parsing_laws.specs.Classes.{IsEarly}
+use Rattle.js_parsing_laws.specs.Lexemes.{Lex, other_goals, signs, spot}
+use Rattle.js_parsing_laws.specs.Methods.{ReadsWhole, WholeOutcome, WholeTaken, parameters_of}
+use Rattle.js_parsing_laws.specs.States.{At, Same}
+use Rattle.js_parsing_laws.specs.Told.{unrelated_at}
+use Rattle.js_parsing_laws.specs.declared.nested.MethodForm.TheVariants.{Getter, Setter}
+use Rattle.js_parsing_laws.proofs.Edges.{last_edge}
+use Rattle.js_parsing_laws.proofs.Giving.{kept_one}
+use Rattle.js_parsing_laws.proofs.Here.{told, uncut, unsettled}
+use Rattle.js_parsing_laws.proofs.Moving.{same_both, stops_so}
+use Rattle.js_parsing_laws.proofs.Paths.{walked_to}
+use Rattle.js_parsing_laws.proofs.Told.{told_at, told_same}
+use Rattle.js_parsing_laws.proofs.Verdicts.{after as grown_behind}
 use Rattle.js_pattern_laws.specs.Accessors.{IsTold, KindBehind, TellsParameters, ToldOutcome, ToldParameters, beside_parameters}
 use Rattle.js_pattern_laws.specs.Bindings.{RestBegins}
 use Rattle.js_pattern_laws.proofs.Peeks.{peeked_kind, peeked_whole}

@@ -37,24 +37,24 @@ use Rattle.js_cursor.specs.Moves.{Keeps as KeepsOne, GivesUp, is_last}
 use Rattle.js_cursor.specs.Parsers.{Parser}
 use Rattle.js_cursor.specs.Places.{goal}
 use Rattle.js_cursor.specs.declared.stop.Stop.{Stop}
-use Rattle.js_parsing.specs.Answers.{Grown, Stops, Stretch, Verdict, unclean, wider}
+use Rattle.js_parsing_laws.specs.Answers.{Grown, Stops, Stretch, Verdict, unclean, wider}
 use Rattle.js_pattern_laws.specs.Bindings.{closers, rest_comma}
-use Rattle.js_parsing.specs.Told.{unrelated_at}
-use Rattle.js_parsing.specs.Lexemes.{Lex, spot}
-use Rattle.js_parsing.specs.Lists.{NoneLeft, OneMore}
-use Rattle.js_parsing.specs.Moves.{Moved}
-use Rattle.js_parsing.specs.States.{At, Same}
-use Rattle.js_parsing.proofs.Signs.{other_kind, plain_sign}
-use Rattle.js_parsing.proofs.Giving.{gives_up, kept_one}
-use Rattle.js_parsing.proofs.Here.{found, kind_here, uncut}
-use Rattle.js_parsing.proofs.Moving.{same_both, stops_behind}
-use Rattle.js_parsing.proofs.Paths.{fails_at, passes, walked_one, walked_to}
+use Rattle.js_parsing_laws.specs.Told.{unrelated_at}
+use Rattle.js_parsing_laws.specs.Lexemes.{Lex, spot}
+use Rattle.js_parsing_laws.specs.Lists.{NoneLeft, OneMore}
+use Rattle.js_parsing_laws.specs.Moves.{Moved}
+use Rattle.js_parsing_laws.specs.States.{At, Same}
+use Rattle.js_parsing_laws.proofs.Signs.{other_kind, plain_sign}
+use Rattle.js_parsing_laws.proofs.Giving.{gives_up, kept_one}
+use Rattle.js_parsing_laws.proofs.Here.{found, kind_here, uncut}
+use Rattle.js_parsing_laws.proofs.Moving.{same_both, stops_behind}
+use Rattle.js_parsing_laws.proofs.Paths.{fails_at, passes, walked_one, walked_to}
 use Rattle.js_pattern_laws.proofs.Lists.{more_from, none_yet}
-use Rattle.js_parsing.proofs.Told.{told_at, told_same, lexeme_marked}
-use Rattle.js_parsing.proofs.Verdicts.{grown_then}
+use Rattle.js_parsing_laws.proofs.Told.{told_at, told_same, lexeme_marked}
+use Rattle.js_parsing_laws.proofs.Verdicts.{grown_then}
 use Rattle.js_grammar.proofs.Frame.{append_end}
 use Rattle.js_grammar.specs.Trees.{Slots, end}
-use Rattle.js_parsing.specs.Classes.{IsEarly, EndsParse}
+use Rattle.js_parsing_laws.specs.Classes.{IsEarly, EndsParse}
 
 dots_plain : (is_word Dot3 || same_kind PrivateIdentifier Dot3) ≡ false
 unfolding words

@@ -28,27 +28,27 @@ use Rattle.js_cursor.specs.Parsers.{Parser}
 use Rattle.js_cursor.specs.Moves.{GivesUp, MovesOn, OnlyMemory, IsHere}
 use Rattle.js_cursor.specs.declared.stop.Stop.{Stop}
 use Rattle.js_cursor.specs.declared.stop.Stop.TheVariants.{Fatal, NoMemory}
-use Rattle.js_parsing.specs.Answers.{Underived, Answer, Numbered, Outcome, Stops}
-use Rattle.js_parsing.specs.Arguments.{Partway, behind_item, ItemOutcome, ItemTaken, NoItem, PartTaken}
+use Rattle.js_parsing_laws.specs.Answers.{Underived, Answer, Numbered, Outcome, Stops}
+use Rattle.js_parsing_laws.specs.Arguments.{Partway, behind_item, ItemOutcome, ItemTaken, NoItem, PartTaken}
 use Rattle.js_pattern_laws.specs.Bindings.{elements_left, rest_initialiser, PartOutcome, RestBound}
-use Rattle.js_parsing.specs.Lexemes.{Lex, escaped_word, may_name, name_kinds}
-use Rattle.js_parsing.specs.Stands.{NameHere, StandsHere}
-use Rattle.js_parsing.specs.Moves.{Moved, MadeHere, LeafTaken, TakesLeaf, plain_label, unpassable}
-use Rattle.js_parsing.specs.States.{At, Same, NodesLie}
-use Rattle.js_parsing.proofs.Signs.{other_kind, plain_sign, whole_sign}
-use Rattle.js_parsing.proofs.Escapes.{escaped_unnamed}
-use Rattle.js_parsing.proofs.Giving.{gives_up}
-use Rattle.js_parsing.proofs.Here.{kind_here}
-use Rattle.js_parsing.proofs.MadeNodes.{leaf_held, node_held, one_held, two_held, one_lies, made_lies}
-use Rattle.js_parsing.proofs.Moving.{beside_nodes, moves, same_both, same_with, stops_behind, stops_so}
+use Rattle.js_parsing_laws.specs.Lexemes.{Lex, escaped_word, may_name, name_kinds}
+use Rattle.js_parsing_laws.specs.Stands.{NameHere, StandsHere}
+use Rattle.js_parsing_laws.specs.Moves.{Moved, MadeHere, LeafTaken, TakesLeaf, plain_label, unpassable}
+use Rattle.js_parsing_laws.specs.States.{At, Same, NodesLie}
+use Rattle.js_parsing_laws.proofs.Signs.{other_kind, plain_sign, whole_sign}
+use Rattle.js_parsing_laws.proofs.Escapes.{escaped_unnamed}
+use Rattle.js_parsing_laws.proofs.Giving.{gives_up}
+use Rattle.js_parsing_laws.proofs.Here.{kind_here}
+use Rattle.js_parsing_laws.proofs.MadeNodes.{leaf_held, node_held, one_held, two_held, one_lies, made_lies}
+use Rattle.js_parsing_laws.proofs.Moving.{beside_nodes, moves, same_both, same_with, stops_behind, stops_so}
 use Rattle.js_operand_laws.proofs.Operands.{by_path, name_leaf}
-use Rattle.js_parsing.proofs.NameKinds.{listed_name, name_apart, name_at, or_kind}
-use Rattle.js_parsing.proofs.NamedFirsts.{fails_unnamed, fails_escaped}
-use Rattle.js_parsing.proofs.Parts.{part_path, part_path_fails, part_sign, part_last, parts}
-use Rattle.js_parsing.proofs.Paths.{Path, ◌⟼◌, ◌⟶◌, ◌⟶✗◌, at_kind, fails_at, token, last_called, noded, noded_by, by_symbol_as, label_here}
-use Rattle.js_parsing.proofs.Verdicts.{verdict_of, grown_then}
-use Rattle.js_parsing.proofs.Verdicts.{after as grown_behind}
-use Rattle.js_parsing.proofs.Classes.{here_ends}
+use Rattle.js_parsing_laws.proofs.NameKinds.{listed_name, name_apart, name_at, or_kind}
+use Rattle.js_parsing_laws.proofs.NamedFirsts.{fails_unnamed, fails_escaped}
+use Rattle.js_parsing_laws.proofs.Parts.{part_path, part_path_fails, part_sign, part_last, parts}
+use Rattle.js_parsing_laws.proofs.Paths.{Path, ◌⟼◌, ◌⟶◌, ◌⟶✗◌, at_kind, fails_at, token, last_called, noded, noded_by, by_symbol_as, label_here}
+use Rattle.js_parsing_laws.proofs.Verdicts.{verdict_of, grown_then}
+use Rattle.js_parsing_laws.proofs.Verdicts.{after as grown_behind}
+use Rattle.js_parsing_laws.proofs.Classes.{here_ends}
 use Rattle.js_base.specs.declared.diagnostic.DiagnosticKind.TheVariants.{ExpectClosing}
 
 bracket_plain : (is_word LBrack || same_kind PrivateIdentifier LBrack) ≡ false

@@ -28,25 +28,25 @@ use Rattle.js_cursor.specs.Parsers.{Parser}
 use Rattle.js_cursor.specs.Places.{goal}
 use Rattle.js_cursor.specs.declared.stop.Stop.{Stop}
 use Rattle.js_operand_laws.proofs.Wholes.{whole_answers}
-use Rattle.js_parsing.specs.declared.nested.MethodForm.TheVariants.{Setter}
-use Rattle.js_parsing.specs.Answers.{Grown, Stops, unclean}
-use Rattle.js_parsing.specs.Arguments.{Partway}
-use Rattle.js_parsing.specs.Classes.{IsEarly}
-use Rattle.js_parsing.specs.Lexemes.{Lex, spot}
-use Rattle.js_parsing.specs.Lists.{NoneLeft, OneMore}
-use Rattle.js_parsing.specs.Methods.{WholeTaken, parameters_of}
-use Rattle.js_parsing.specs.Moves.{MadeHere, Moved, plain_label}
-use Rattle.js_parsing.specs.States.{At, Same}
-use Rattle.js_parsing.specs.Told.{unrelated_at}
-use Rattle.js_parsing.proofs.Edges.{last_edge}
-use Rattle.js_parsing.proofs.Giving.{kept_one}
-use Rattle.js_parsing.proofs.MadeNodes.{node_held, one_lies}
-use Rattle.js_parsing.proofs.Moving.{same_both, stops_behind}
-use Rattle.js_parsing.proofs.Parts.{part_path_fails}
-use Rattle.js_parsing.proofs.Paths.{Path, fails_at, label_here, walked_both, walked_one, walked_to}
-use Rattle.js_parsing.proofs.Told.{told_at, told_same}
-use Rattle.js_parsing.proofs.Verdicts.{grown_then}
-use Rattle.js_parsing.proofs.Verdicts.{after as grown_behind}
+use Rattle.js_parsing_laws.specs.declared.nested.MethodForm.TheVariants.{Setter}
+use Rattle.js_parsing_laws.specs.Answers.{Grown, Stops, unclean}
+use Rattle.js_parsing_laws.specs.Arguments.{Partway}
+use Rattle.js_parsing_laws.specs.Classes.{IsEarly}
+use Rattle.js_parsing_laws.specs.Lexemes.{Lex, spot}
+use Rattle.js_parsing_laws.specs.Lists.{NoneLeft, OneMore}
+use Rattle.js_parsing_laws.specs.Methods.{WholeTaken, parameters_of}
+use Rattle.js_parsing_laws.specs.Moves.{MadeHere, Moved, plain_label}
+use Rattle.js_parsing_laws.specs.States.{At, Same}
+use Rattle.js_parsing_laws.specs.Told.{unrelated_at}
+use Rattle.js_parsing_laws.proofs.Edges.{last_edge}
+use Rattle.js_parsing_laws.proofs.Giving.{kept_one}
+use Rattle.js_parsing_laws.proofs.MadeNodes.{node_held, one_lies}
+use Rattle.js_parsing_laws.proofs.Moving.{same_both, stops_behind}
+use Rattle.js_parsing_laws.proofs.Parts.{part_path_fails}
+use Rattle.js_parsing_laws.proofs.Paths.{Path, fails_at, label_here, walked_both, walked_one, walked_to}
+use Rattle.js_parsing_laws.proofs.Told.{told_at, told_same}
+use Rattle.js_parsing_laws.proofs.Verdicts.{grown_then}
+use Rattle.js_parsing_laws.proofs.Verdicts.{after as grown_behind}
 use Rattle.js_pattern_laws.specs.Accessors.{one_parameter}
 use Rattle.js_pattern_laws.specs.Bindings.{RestBegins}
 use Rattle.js_pattern_laws.specs.Parameters.{parameters_left}

@@ -27,23 +27,23 @@ use Rattle.js_tree.specs.Holding.{HoldsAll, Keeps}
 use Rattle.js_tree.proofs.HoldingLemmas.{HoldsAll-hole, HoldsAll-next, Keeps-refl, Keeps-trans}
 use Rattle.js_cursor.specs.Parsers.{Parser}
 use Rattle.js_cursor.specs.declared.stop.Stop.{Stop}
-use Rattle.js_parsing.specs.Answers.{Underived, Numbered, Stops, clean}
-use Rattle.js_parsing.specs.Arguments.{Partway, PartTaken, behind_item}
-use Rattle.js_parsing.specs.Lexemes.{Lex, nowhere}
-use Rattle.js_parsing.specs.Lists.{NoneLeft, OneMore, ReadsOneMore, ListStops}
-use Rattle.js_parsing.specs.Moves.{Moved}
-use Rattle.js_parsing.specs.Nesting.{room}
-use Rattle.js_parsing.specs.States.{At, Standing}
+use Rattle.js_parsing_laws.specs.Answers.{Underived, Numbered, Stops, clean}
+use Rattle.js_parsing_laws.specs.Arguments.{Partway, PartTaken, behind_item}
+use Rattle.js_parsing_laws.specs.Lexemes.{Lex, nowhere}
+use Rattle.js_parsing_laws.specs.Lists.{NoneLeft, OneMore, ReadsOneMore, ListStops}
+use Rattle.js_parsing_laws.specs.Moves.{Moved}
+use Rattle.js_parsing_laws.specs.Nesting.{room}
+use Rattle.js_parsing_laws.specs.States.{At, Standing}
 use Rattle.js_pattern_laws.specs.Bindings.{closers, rest_comma}
 use Rattle.js_operand_laws.proofs.Arrays.{listed, behind_one, by_first_item, unrolled, rolled}
-use Rattle.js_parsing.proofs.Signs.{plain_sign}
-use Rattle.js_parsing.proofs.Signs.{NoneIs, none_seen}
-use Rattle.js_parsing.proofs.Moving.{same_both, same_itself, standing, stops_behind}
-use Rattle.js_parsing.proofs.Nesting.{later_room}
-use Rattle.js_parsing.proofs.Paths.{passes, skips, walked_both, walked_one}
-use Rattle.js_parsing.proofs.Stretches.{stretches}
-use Rattle.js_parsing.proofs.Verdicts.{verdict_of, either_way, and_then}
-use Rattle.js_parsing.proofs.Verdicts.{after as grown_behind}
+use Rattle.js_parsing_laws.proofs.Signs.{plain_sign}
+use Rattle.js_parsing_laws.proofs.Signs.{NoneIs, none_seen}
+use Rattle.js_parsing_laws.proofs.Moving.{same_both, same_itself, standing, stops_behind}
+use Rattle.js_parsing_laws.proofs.Nesting.{later_room}
+use Rattle.js_parsing_laws.proofs.Paths.{passes, skips, walked_both, walked_one}
+use Rattle.js_parsing_laws.proofs.Stretches.{stretches}
+use Rattle.js_parsing_laws.proofs.Verdicts.{verdict_of, either_way, and_then}
+use Rattle.js_parsing_laws.proofs.Verdicts.{after as grown_behind}
 use Rattle.js_pattern_laws.specs.Lists.{ListReadOn}
 
 -- ---- what is left of a list

@@ -23,23 +23,23 @@ use Rattle.js_tree.proofs.HoldingLemmas.{HoldsAll-next, HoldsAll-none, Keeps-mad
 use Rattle.js_cursor.specs.Parsers.{Parser}
 use Rattle.js_cursor.specs.declared.stop.Stop.{Stop}
 use Rattle.js_operand_laws.proofs.Wholes.{whole_answers, whole_of}
-use Rattle.js_parsing.specs.declared.nested.MethodForm.{MethodForm}
-use Rattle.js_parsing.specs.declared.nested.MethodForm.TheVariants.{Method, Getter, Setter}
-use Rattle.js_parsing.specs.Answers.{Outcome, Stops}
-use Rattle.js_parsing.specs.Arguments.{ItemTaken, NoItem, Partway}
-use Rattle.js_parsing.specs.Lexemes.{Lex}
-use Rattle.js_parsing.specs.Methods.{WholeOutcome, WholeTaken, parameters_of}
-use Rattle.js_parsing.specs.Moves.{MadeHere, Moved, plain_label}
-use Rattle.js_parsing.specs.Stands.{StandsHere}
-use Rattle.js_parsing.specs.States.{At}
-use Rattle.js_parsing.proofs.MadeNodes.{node_held, one_lies}
-use Rattle.js_parsing.proofs.Moving.{stops_behind, stops_so}
-use Rattle.js_parsing.proofs.Parts.{part_from, part_last, part_path, part_path_fails, part_sign, parts}
-use Rattle.js_parsing.proofs.Paths.{fails_at, label_here, noded}
-use Rattle.js_parsing.proofs.Signs.{plain_sign, stands_not}
-use Rattle.js_parsing.proofs.Escapes.{read_plain}
-use Rattle.js_parsing.proofs.Verdicts.{grown_then, verdict_of}
-use Rattle.js_parsing.proofs.Verdicts.{after as grown_behind}
+use Rattle.js_parsing_laws.specs.declared.nested.MethodForm.{MethodForm}
+use Rattle.js_parsing_laws.specs.declared.nested.MethodForm.TheVariants.{Method, Getter, Setter}
+use Rattle.js_parsing_laws.specs.Answers.{Outcome, Stops}
+use Rattle.js_parsing_laws.specs.Arguments.{ItemTaken, NoItem, Partway}
+use Rattle.js_parsing_laws.specs.Lexemes.{Lex}
+use Rattle.js_parsing_laws.specs.Methods.{WholeOutcome, WholeTaken, parameters_of}
+use Rattle.js_parsing_laws.specs.Moves.{MadeHere, Moved, plain_label}
+use Rattle.js_parsing_laws.specs.Stands.{StandsHere}
+use Rattle.js_parsing_laws.specs.States.{At}
+use Rattle.js_parsing_laws.proofs.MadeNodes.{node_held, one_lies}
+use Rattle.js_parsing_laws.proofs.Moving.{stops_behind, stops_so}
+use Rattle.js_parsing_laws.proofs.Parts.{part_from, part_last, part_path, part_path_fails, part_sign, parts}
+use Rattle.js_parsing_laws.proofs.Paths.{fails_at, label_here, noded}
+use Rattle.js_parsing_laws.proofs.Signs.{plain_sign, stands_not}
+use Rattle.js_parsing_laws.proofs.Escapes.{read_plain}
+use Rattle.js_parsing_laws.proofs.Verdicts.{grown_then, verdict_of}
+use Rattle.js_parsing_laws.proofs.Verdicts.{after as grown_behind}
 use Rattle.js_pattern_laws.proofs.ParameterLists.{open_plain, paren_plain}
 
 abbrev next_kinds : Look

@@ -31,19 +31,19 @@ use Rattle.js_cursor.specs.declared.stop.Stop.{Stop}
 use Rattle.js_operand_laws.proofs.ArgumentLists.{none_there}
 use Rattle.js_operand_laws.proofs.Arrays.{behind_one}
 use Rattle.js_operand_laws.proofs.Operands.{by_path}
-use Rattle.js_parsing.specs.Answers.{Underived, Numbered, Stops}
-use Rattle.js_parsing.specs.Arguments.{Partway, ItemTaken, NoItem, PartTaken, behind_item}
-use Rattle.js_parsing.specs.Lexemes.{Lex, template_tails}
-use Rattle.js_parsing.specs.Lists.{NoneLeft, OneMore}
-use Rattle.js_parsing.specs.Moves.{Moved, MadeHere, plain_label}
-use Rattle.js_parsing.specs.States.{At}
-use Rattle.js_parsing.proofs.Dead.{fails_dead}
-use Rattle.js_parsing.proofs.Here.{kind_here, unsettled}
-use Rattle.js_parsing.proofs.MadeNodes.{node_held, one_lies}
-use Rattle.js_parsing.proofs.Moving.{stops_so}
-use Rattle.js_parsing.proofs.Parts.{part_path, part_path_fails, part_sign, part_last, parts}
-use Rattle.js_parsing.proofs.Paths.{Path, ◌⟼◌, at_kind, by_symbol_as, fails_at, label_here, noded}
-use Rattle.js_parsing.proofs.Signs.{closing_there, plain_sign}
+use Rattle.js_parsing_laws.specs.Answers.{Underived, Numbered, Stops}
+use Rattle.js_parsing_laws.specs.Arguments.{Partway, ItemTaken, NoItem, PartTaken, behind_item}
+use Rattle.js_parsing_laws.specs.Lexemes.{Lex, template_tails}
+use Rattle.js_parsing_laws.specs.Lists.{NoneLeft, OneMore}
+use Rattle.js_parsing_laws.specs.Moves.{Moved, MadeHere, plain_label}
+use Rattle.js_parsing_laws.specs.States.{At}
+use Rattle.js_parsing_laws.proofs.Dead.{fails_dead}
+use Rattle.js_parsing_laws.proofs.Here.{kind_here, unsettled}
+use Rattle.js_parsing_laws.proofs.MadeNodes.{node_held, one_lies}
+use Rattle.js_parsing_laws.proofs.Moving.{stops_so}
+use Rattle.js_parsing_laws.proofs.Parts.{part_path, part_path_fails, part_sign, part_last, parts}
+use Rattle.js_parsing_laws.proofs.Paths.{Path, ◌⟼◌, at_kind, by_symbol_as, fails_at, label_here, noded}
+use Rattle.js_parsing_laws.proofs.Signs.{closing_there, plain_sign}
 use Rattle.js_pattern_laws.specs.Bindings.{rest_comma}
 use Rattle.js_pattern_laws.specs.ObjectPatterns.{named_rest, properties_left}
 use Rattle.js_pattern_laws.proofs.Lists.{end_due, item_comma, item_due, item_fails, item_last, item_more, last_due, more_from, none_yet, rest_fails, rest_more}

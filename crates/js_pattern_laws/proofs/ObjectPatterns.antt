@@ -32,25 +32,25 @@ use Rattle.js_operand_laws.specs.PropertyNames.{NameRead, NoName}
 use Rattle.js_operand_laws.proofs.Members.{name_taken}
 use Rattle.js_operand_laws.proofs.Operands.{name_signless}
 use Rattle.js_operand_laws.proofs.PropertyNames.{literal_kinds, word_named}
-use Rattle.js_parsing.specs.Answers.{Underived, Answer, Numbered, Stops}
-use Rattle.js_parsing.specs.Arguments.{behind_item, ItemTaken, NoItem}
-use Rattle.js_parsing.specs.Lexemes.{Lex, escaped_word, may_name, name_kinds}
-use Rattle.js_parsing.specs.Moves.{Moved, MadeHere, LeafTaken, TakesLeaf, plain_label}
-use Rattle.js_parsing.specs.Stands.{NameHere, StandsHere}
-use Rattle.js_parsing.specs.Nesting.{CanNest, room}
-use Rattle.js_parsing.specs.declared.nested.Goal.{Goal}
-use Rattle.js_parsing.specs.States.{At, Same, NodesLie, Standing}
-use Rattle.js_parsing.proofs.Expected.{not_due, unexpected}
-use Rattle.js_parsing.proofs.Escapes.{read_as}
-use Rattle.js_parsing.proofs.Here.{begins_here, kind_here}
-use Rattle.js_parsing.proofs.NameKinds.{a_name, listed_name, name_apart, name_at, name_read}
-use Rattle.js_parsing.proofs.NamedFirsts.{fails_unnamed}
-use Rattle.js_parsing.proofs.MadeNodes.{LabelLies, from_start, leaf_held, two_held, made_lies, one_lies}
-use Rattle.js_parsing.proofs.Moving.{beside_nodes, same_both, same_with, stops_behind, stops_so}
-use Rattle.js_parsing.proofs.Paths.{Path, ◌⟼◌, ◌⟶◌, ◌⟶✗◌, fails_at, flagged_by, flagged_here, label_here, last_called, noded_by, by_symbol_as, one_read, token}
-use Rattle.js_parsing.proofs.Signs.{other_kind, plain_sign}
-use Rattle.js_parsing.proofs.Verdicts.{verdict_of, grown_then}
-use Rattle.js_parsing.proofs.Verdicts.{after as grown_behind}
+use Rattle.js_parsing_laws.specs.Answers.{Underived, Answer, Numbered, Stops}
+use Rattle.js_parsing_laws.specs.Arguments.{behind_item, ItemTaken, NoItem}
+use Rattle.js_parsing_laws.specs.Lexemes.{Lex, escaped_word, may_name, name_kinds}
+use Rattle.js_parsing_laws.specs.Moves.{Moved, MadeHere, LeafTaken, TakesLeaf, plain_label}
+use Rattle.js_parsing_laws.specs.Stands.{NameHere, StandsHere}
+use Rattle.js_parsing_laws.specs.Nesting.{CanNest, room}
+use Rattle.js_parsing_laws.specs.declared.nested.Goal.{Goal}
+use Rattle.js_parsing_laws.specs.States.{At, Same, NodesLie, Standing}
+use Rattle.js_parsing_laws.proofs.Expected.{not_due, unexpected}
+use Rattle.js_parsing_laws.proofs.Escapes.{read_as}
+use Rattle.js_parsing_laws.proofs.Here.{begins_here, kind_here}
+use Rattle.js_parsing_laws.proofs.NameKinds.{a_name, listed_name, name_apart, name_at, name_read}
+use Rattle.js_parsing_laws.proofs.NamedFirsts.{fails_unnamed}
+use Rattle.js_parsing_laws.proofs.MadeNodes.{LabelLies, from_start, leaf_held, two_held, made_lies, one_lies}
+use Rattle.js_parsing_laws.proofs.Moving.{beside_nodes, same_both, same_with, stops_behind, stops_so}
+use Rattle.js_parsing_laws.proofs.Paths.{Path, ◌⟼◌, ◌⟶◌, ◌⟶✗◌, fails_at, flagged_by, flagged_here, label_here, last_called, noded_by, by_symbol_as, one_read, token}
+use Rattle.js_parsing_laws.proofs.Signs.{other_kind, plain_sign}
+use Rattle.js_parsing_laws.proofs.Verdicts.{verdict_of, grown_then}
+use Rattle.js_parsing_laws.proofs.Verdicts.{after as grown_behind}
 use Rattle.js_pattern_laws.specs.ObjectPatterns.{bound_by_name, property_label, shorthand_of, BoundTaken, NamePassed, NoShorthand}
 use Rattle.js_pattern_laws.proofs.Bindings.{bound_path, item_answers, item_path, no_end_here, on_initialiser, then_any}
 

@@ -20,18 +20,18 @@ use Rattle.js_tree.specs.Nodes.{node_at}
 use Rattle.js_cursor.specs.Parsers.{Parser}
 use Rattle.js_cursor.specs.Places.{goal}
 use Rattle.js_cursor.specs.declared.stop.Stop.{Stop}
-use Rattle.js_parsing.specs.Answers.{Numbered, Stretch, Stops, Underived}
-use Rattle.js_parsing.specs.Arguments.{behind_item}
-use Rattle.js_parsing.specs.Lexemes.{Lex}
-use Rattle.js_parsing.specs.Moves.{Moved}
-use Rattle.js_parsing.specs.States.{At, Same}
-use Rattle.js_parsing.specs.Told.{unrelated_at}
-use Rattle.js_parsing.proofs.Edges.{last_edge}
-use Rattle.js_parsing.proofs.MadeNodes.{held_label}
-use Rattle.js_parsing.proofs.Moving.{same_both, stops_behind}
-use Rattle.js_parsing.proofs.Paths.{Path, last_called}
-use Rattle.js_parsing.proofs.Verdicts.{either_way, grown_then, verdict_of}
-use Rattle.js_parsing.proofs.Verdicts.{after as grown_behind}
+use Rattle.js_parsing_laws.specs.Answers.{Numbered, Stretch, Stops, Underived}
+use Rattle.js_parsing_laws.specs.Arguments.{behind_item}
+use Rattle.js_parsing_laws.specs.Lexemes.{Lex}
+use Rattle.js_parsing_laws.specs.Moves.{Moved}
+use Rattle.js_parsing_laws.specs.States.{At, Same}
+use Rattle.js_parsing_laws.specs.Told.{unrelated_at}
+use Rattle.js_parsing_laws.proofs.Edges.{last_edge}
+use Rattle.js_parsing_laws.proofs.MadeNodes.{held_label}
+use Rattle.js_parsing_laws.proofs.Moving.{same_both, stops_behind}
+use Rattle.js_parsing_laws.proofs.Paths.{Path, last_called}
+use Rattle.js_parsing_laws.proofs.Verdicts.{either_way, grown_then, verdict_of}
+use Rattle.js_parsing_laws.proofs.Verdicts.{after as grown_behind}
 use Rattle.js_pattern_laws.specs.Bindings.{RestBegins, RestBound}
 use Rattle.js_pattern_laws.specs.ObjectPatterns.{named_rest, BindsName}
 use Rattle.js_pattern_laws.proofs.Bindings.{bound_by, unbound_rest}

@@ -24,27 +24,27 @@ use Rattle.js_tree.specs.Holding.{Holds, HoldsAll, Keeps}
 use Rattle.js_tree.proofs.HoldingLemmas.{HoldsAll-one, HoldsAll-hole, HoldsAll-none, Keeps-trans, Keeps-made}
 use Rattle.js_cursor.specs.Parsers.{Parser}
 use Rattle.js_cursor.specs.declared.stop.Stop.{Stop}
-use Rattle.js_parsing.specs.Answers.{Underived, Answer, Numbered, Stops}
-use Rattle.js_parsing.specs.Arguments.{Partway, behind_item, ItemTaken, NoItem}
-use Rattle.js_parsing.specs.Lexemes.{Lex, name_kinds}
-use Rattle.js_parsing.specs.Lists.{NoneLeft, OneMore}
-use Rattle.js_parsing.specs.Moves.{Moved, MadeHere, plain_label}
+use Rattle.js_parsing_laws.specs.Answers.{Underived, Answer, Numbered, Stops}
+use Rattle.js_parsing_laws.specs.Arguments.{Partway, behind_item, ItemTaken, NoItem}
+use Rattle.js_parsing_laws.specs.Lexemes.{Lex, name_kinds}
+use Rattle.js_parsing_laws.specs.Lists.{NoneLeft, OneMore}
+use Rattle.js_parsing_laws.specs.Moves.{Moved, MadeHere, plain_label}
 use Rattle.js_pattern_laws.specs.Bindings.{rest_comma}
 use Rattle.js_pattern_laws.specs.Parameters.{parameters_left}
-use Rattle.js_parsing.specs.States.{At}
+use Rattle.js_parsing_laws.specs.States.{At}
 use Rattle.js_operand_laws.proofs.ArgumentLists.{none_there}
 use Rattle.js_operand_laws.proofs.Arrays.{behind_one}
 use Rattle.js_pattern_laws.proofs.Bindings.{binding_read, ended_by, item_answers, no_end_here, on_initialiser}
-use Rattle.js_parsing.proofs.Signs.{other_kind, plain_sign}
-use Rattle.js_parsing.proofs.Dead.{fails_dead}
+use Rattle.js_parsing_laws.proofs.Signs.{other_kind, plain_sign}
+use Rattle.js_parsing_laws.proofs.Dead.{fails_dead}
 use Rattle.js_pattern_laws.proofs.Lists.{end_due, item_comma, item_due, item_fails, item_last, item_more, last_due, more_from, none_yet, rest_fails, rest_more}
-use Rattle.js_parsing.proofs.MadeNodes.{node_held, two_held, one_lies, made_lies}
-use Rattle.js_parsing.proofs.Moving.{same_both, stops_behind, stops_so}
+use Rattle.js_parsing_laws.proofs.MadeNodes.{node_held, two_held, one_lies, made_lies}
+use Rattle.js_parsing_laws.proofs.Moving.{same_both, stops_behind, stops_so}
 use Rattle.js_operand_laws.proofs.Operands.{by_path}
-use Rattle.js_parsing.proofs.Parts.{part_path, part_path_fails, part_sign, part_last, parts}
-use Rattle.js_parsing.proofs.Paths.{Path, ◌⟼◌, ◌⟶◌, ◌⟶✗◌, fails_at, token, last_called, noded, noded_by, by_symbol_as, label_here}
-use Rattle.js_parsing.proofs.Verdicts.{grown_then}
-use Rattle.js_parsing.proofs.Verdicts.{after as grown_behind}
+use Rattle.js_parsing_laws.proofs.Parts.{part_path, part_path_fails, part_sign, part_last, parts}
+use Rattle.js_parsing_laws.proofs.Paths.{Path, ◌⟼◌, ◌⟶◌, ◌⟶✗◌, fails_at, token, last_called, noded, noded_by, by_symbol_as, label_here}
+use Rattle.js_parsing_laws.proofs.Verdicts.{grown_then}
+use Rattle.js_parsing_laws.proofs.Verdicts.{after as grown_behind}
 
 pub open_plain : (is_word LParen || same_kind PrivateIdentifier LParen) ≡ false
 unfolding words

@@ -14,18 +14,18 @@ use Rattle.js_grammar.proofs.Calculus.{◌▹✗◌}
 use Rattle.js_tree.specs.declared.id.NodeId.{NodeId}
 use Rattle.js_cursor.specs.Parsers.{Parser}
 use Rattle.js_cursor.specs.declared.stop.Stop.{Stop}
-use Rattle.js_parsing.specs.Answers.{Stops}
-use Rattle.js_parsing.specs.Arguments.{ItemTaken, NoItem}
+use Rattle.js_parsing_laws.specs.Answers.{Stops}
+use Rattle.js_parsing_laws.specs.Arguments.{ItemTaken, NoItem}
 use Rattle.js_pattern_laws.specs.Bindings.{elements_left, rest_comma}
-use Rattle.js_parsing.specs.Lexemes.{Lex, name_kinds}
-use Rattle.js_parsing.specs.Lists.{NoneLeft, OneMore}
-use Rattle.js_parsing.specs.Moves.{Moved}
-use Rattle.js_parsing.specs.States.{At}
+use Rattle.js_parsing_laws.specs.Lexemes.{Lex, name_kinds}
+use Rattle.js_parsing_laws.specs.Lists.{NoneLeft, OneMore}
+use Rattle.js_parsing_laws.specs.Moves.{Moved}
+use Rattle.js_parsing_laws.specs.States.{At}
 use Rattle.js_operand_laws.proofs.ArgumentLists.{none_there}
 use Rattle.js_operand_laws.proofs.Arrays.{behind_one}
 use Rattle.js_pattern_laws.proofs.Lists.{end_due, gap_due, hole_more, item_comma, item_due, item_fails, item_last, item_more, last_due, more_from, none_yet, rest_fails, rest_more}
-use Rattle.js_parsing.proofs.Moving.{stops_so}
-use Rattle.js_parsing.proofs.Paths.{fails_at}
+use Rattle.js_parsing_laws.proofs.Moving.{stops_so}
+use Rattle.js_parsing_laws.proofs.Paths.{fails_at}
 
 -- a comma with no element before it
 abbrev gap : G

@@ -13,9 +13,9 @@ use Rattle.js_lex.proofs.Again.{cut_same}
 use Rattle.js_cursor.specs.Moves.{Peeks}
 use Rattle.js_cursor.specs.Parsers.{Parser}
 use Rattle.js_operand_laws.proofs.AsyncWords.{given_behind}
-use Rattle.js_parsing.specs.Lexemes.{Lex, other_goals, signs, signs_of}
-use Rattle.js_parsing.specs.States.{At}
-use Rattle.js_parsing.proofs.Here.{signs_are, one_plain, plainly, unsettled, settled_kind, plain_there, plain_same, Plainly}
+use Rattle.js_parsing_laws.specs.Lexemes.{Lex, other_goals, signs, signs_of}
+use Rattle.js_parsing_laws.specs.States.{At}
+use Rattle.js_parsing_laws.proofs.Here.{signs_are, one_plain, plainly, unsettled, settled_kind, plain_there, plain_same, Plainly}
 
 module _ {text : List ℕ} {f : Flags} {p : Parser} {t : Token} (a : At text f p) (h : Peeks p t) where
   -- a token that isn't `>` tells its kind

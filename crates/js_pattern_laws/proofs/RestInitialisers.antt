@@ -31,22 +31,22 @@ use Rattle.js_cursor.specs.Parsers.{Parser}
 use Rattle.js_cursor.specs.Places.{goal}
 use Rattle.js_cursor.specs.declared.stop.Stop.{Stop}
 use Rattle.js_cursor.proofs.Standing.{counts, lexeme_here}
-use Rattle.js_parsing.specs.Answers.{Answer, Underived, Numbered, Stops, Stretch, Verdict, unclean}
-use Rattle.js_parsing.specs.Arguments.{PartTaken, behind_item}
-use Rattle.js_parsing.specs.Classes.{IsEarly}
-use Rattle.js_parsing.specs.Lexemes.{Lex, spot}
-use Rattle.js_parsing.specs.Moves.{Moved, MadeHere, plain_label}
-use Rattle.js_parsing.specs.States.{At, Same}
-use Rattle.js_parsing.specs.Told.{unrelated_at}
-use Rattle.js_parsing.proofs.Edges.{last_edge}
-use Rattle.js_parsing.proofs.Giving.{kept_one}
-use Rattle.js_parsing.proofs.MadeNodes.{one_held, two_held, made_lies}
-use Rattle.js_parsing.proofs.Moving.{same_both, stops_behind}
-use Rattle.js_parsing.proofs.Paths.{Path, ◌⟶◌, ◌⟶✗◌, fails_at, label_here, noded_by, skips, token, walked_both, walked_one, walked_to}
-use Rattle.js_parsing.proofs.Signs.{other_kind, plain_sign}
-use Rattle.js_parsing.proofs.Told.{told_at, told_same}
-use Rattle.js_parsing.proofs.Verdicts.{behind_none, grown_then, told_wider, verdict_of}
-use Rattle.js_parsing.proofs.Verdicts.{after as grown_behind}
+use Rattle.js_parsing_laws.specs.Answers.{Answer, Underived, Numbered, Stops, Stretch, Verdict, unclean}
+use Rattle.js_parsing_laws.specs.Arguments.{PartTaken, behind_item}
+use Rattle.js_parsing_laws.specs.Classes.{IsEarly}
+use Rattle.js_parsing_laws.specs.Lexemes.{Lex, spot}
+use Rattle.js_parsing_laws.specs.Moves.{Moved, MadeHere, plain_label}
+use Rattle.js_parsing_laws.specs.States.{At, Same}
+use Rattle.js_parsing_laws.specs.Told.{unrelated_at}
+use Rattle.js_parsing_laws.proofs.Edges.{last_edge}
+use Rattle.js_parsing_laws.proofs.Giving.{kept_one}
+use Rattle.js_parsing_laws.proofs.MadeNodes.{one_held, two_held, made_lies}
+use Rattle.js_parsing_laws.proofs.Moving.{same_both, stops_behind}
+use Rattle.js_parsing_laws.proofs.Paths.{Path, ◌⟶◌, ◌⟶✗◌, fails_at, label_here, noded_by, skips, token, walked_both, walked_one, walked_to}
+use Rattle.js_parsing_laws.proofs.Signs.{other_kind, plain_sign}
+use Rattle.js_parsing_laws.proofs.Told.{told_at, told_same}
+use Rattle.js_parsing_laws.proofs.Verdicts.{behind_none, grown_then, told_wider, verdict_of}
+use Rattle.js_parsing_laws.proofs.Verdicts.{after as grown_behind}
 use Rattle.js_pattern_laws.specs.declared.forms.RestPlace.{RestPlace}
 use Rattle.js_pattern_laws.specs.declared.forms.RestPlace.TheVariants.{Pattern, Parameters}
 use Rattle.js_pattern_laws.specs.Bindings.{initialiser_kind, rest_initialiser, RestBegins, RestBound}

@@ -12,13 +12,13 @@ use Rattle.js_tree.specs.declared.id.NodeId.{NodeId}
 use Rattle.js_cursor.specs.Moves.{Keeps}
 use Rattle.js_cursor.specs.Parsers.{Parser}
 use Rattle.js_cursor.specs.declared.stop.Stop.{Stop}
-use Rattle.js_parsing.specs.Answers.{Numbered, Stops}
-use Rattle.js_parsing.specs.Arguments.{Partway}
-use Rattle.js_parsing.specs.Lexemes.{Lex}
-use Rattle.js_parsing.specs.Methods.{WholeOutcome, parameters_of}
-use Rattle.js_parsing.specs.States.{At}
-use Rattle.js_parsing.specs.Told.{unrelated_at}
-use Rattle.js_parsing.specs.declared.nested.MethodForm.TheVariants.{Setter}
+use Rattle.js_parsing_laws.specs.Answers.{Numbered, Stops}
+use Rattle.js_parsing_laws.specs.Arguments.{Partway}
+use Rattle.js_parsing_laws.specs.Lexemes.{Lex}
+use Rattle.js_parsing_laws.specs.Methods.{WholeOutcome, parameters_of}
+use Rattle.js_parsing_laws.specs.States.{At}
+use Rattle.js_parsing_laws.specs.Told.{unrelated_at}
+use Rattle.js_parsing_laws.specs.declared.nested.MethodForm.TheVariants.{Setter}
 
 -- what stands behind an opening parenthesis where no FormalParameter does: nothing stands in it, or a rest does
 abbrev pub beside_parameters : List Kind

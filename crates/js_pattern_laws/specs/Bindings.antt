@@ -15,11 +15,11 @@ use Rattle.js_tree.specs.Holding.{Holds, Keeps}
 use Rattle.js_cursor.specs.Parsers.{Parser}
 use Rattle.js_cursor.specs.Places.{goal}
 use Rattle.js_cursor.specs.declared.stop.Stop.{Stop}
-use Rattle.js_parsing.specs.Answers.{Stops, Stretch, Verdict}
-use Rattle.js_parsing.specs.Arguments.{PartTaken, behind_item}
-use Rattle.js_parsing.specs.Lexemes.{Lex, Walked, spot}
-use Rattle.js_parsing.specs.Lists.{NoneLeft, OneMore}
-use Rattle.js_parsing.specs.States.{At, Same}
+use Rattle.js_parsing_laws.specs.Answers.{Stops, Stretch, Verdict}
+use Rattle.js_parsing_laws.specs.Arguments.{PartTaken, behind_item}
+use Rattle.js_parsing_laws.specs.Lexemes.{Lex, Walked, spot}
+use Rattle.js_parsing_laws.specs.Lists.{NoneLeft, OneMore}
+use Rattle.js_parsing_laws.specs.States.{At, Same}
 use Rattle.js_pattern_laws.specs.declared.forms.RestPlace.{RestPlace}
 use Rattle.js_pattern_laws.specs.declared.forms.RestPlace.TheVariants.{Pattern, Parameters}
 

@@ -4,8 +4,8 @@ use Rattle.js_base.specs.declared.kind.Kind.{Kind}
 use Rattle.js_grammar.specs.Productions.{G, Flags, tok}
 use Rattle.js_tree.specs.declared.id.NodeId.{NodeId}
 use Rattle.js_cursor.specs.Parsers.{Parser}
-use Rattle.js_parsing.specs.Lists.{OneMore}
-use Rattle.js_parsing.specs.States.{At}
+use Rattle.js_parsing_laws.specs.Lists.{OneMore}
+use Rattle.js_parsing_laws.specs.States.{At}
 
 -- the list was read up to its closing bracket, behind the children ids, with the children js
 abbrev pub ListReadOn : (Flags → G) → Kind → List (Option NodeId) → List (Option NodeId) → Parser → Parser → Type 0

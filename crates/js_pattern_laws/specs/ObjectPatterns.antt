@@ -17,11 +17,11 @@ use Rattle.js_cursor.specs.Parsers.{Parser}
 use Rattle.js_cursor.specs.declared.stop.Stop.{Stop}
 use Rattle.js_operand_laws.specs.PropertyNames.{NameRead}
 use Rattle.js_operand_laws.specs.declared.forms.PropertyName.{PropertyName}
-use Rattle.js_parsing.specs.Arguments.{ItemOutcome, behind_item}
-use Rattle.js_parsing.specs.Answers.{Stops, Stretch, Verdict}
-use Rattle.js_parsing.specs.Lexemes.{Lex, Walked, escaped_word, may_name, spot}
-use Rattle.js_parsing.specs.Moves.{Moved, TakesLeaf}
-use Rattle.js_parsing.specs.States.{At, Same}
+use Rattle.js_parsing_laws.specs.Arguments.{ItemOutcome, behind_item}
+use Rattle.js_parsing_laws.specs.Answers.{Stops, Stretch, Verdict}
+use Rattle.js_parsing_laws.specs.Lexemes.{Lex, Walked, escaped_word, may_name, spot}
+use Rattle.js_parsing_laws.specs.Moves.{Moved, TakesLeaf}
+use Rattle.js_parsing_laws.specs.States.{At, Same}
 use Rattle.js_pattern_laws.specs.Bindings.{PartOutcome}
 
 -- a rest, which binds a name

@@ -6,14 +6,14 @@ ghost use Rattle.js_base.specs.declared.kind.Kind.TheVariants.{Comma, Dot3, Eq, 
 ghost use Rattle.js_cursor.specs.Places.{goal};
 ghost use Rattle.js_grammar.specs.Marks.{Mark};
 ghost use Rattle.js_grammar.specs.Productions.{at, BElement, Binding, BindingRest};
-ghost use Rattle.js_parsing.specs.Classes.{EndsParse};
-ghost use Rattle.js_parsing.specs.Answers.{Answers};
+ghost use Rattle.js_parsing_laws.specs.Classes.{EndsParse};
+ghost use Rattle.js_parsing_laws.specs.Answers.{Answers};
 ghost use Rattle.js_pattern_laws.specs.Bindings.{closers, elements_left, initialiser_kind, EndsRest, FinishesRest, InitialisesRest, RestBegins};
-ghost use Rattle.js_parsing.specs.Told.{unrelated_at};
-ghost use Rattle.js_parsing.specs.Lists.{ListRead, ListStops, ReadsItem, ReadsOneMore};
-ghost use Rattle.js_parsing.specs.Stands.{StandsHere};
-ghost use Rattle.js_parsing.specs.Nesting.{CanNest, room};
-ghost use Rattle.js_parsing.specs.States.{Standing};
+ghost use Rattle.js_parsing_laws.specs.Told.{unrelated_at};
+ghost use Rattle.js_parsing_laws.specs.Lists.{ListRead, ListStops, ReadsItem, ReadsOneMore};
+ghost use Rattle.js_parsing_laws.specs.Stands.{StandsHere};
+ghost use Rattle.js_parsing_laws.specs.Nesting.{CanNest, room};
+ghost use Rattle.js_parsing_laws.specs.States.{Standing};
 
 use crate::object_pattern::parse_object_pattern;
 use js_base::{Diagnostic, DiagnosticKind, Kind, Span};
@@ -23,8 +23,8 @@ use js_literals::leaf::parse_name;
 use js_parsing::context::assignment_with_in;
 use js_parsing::diagnostics::diagnostic_at;
 use js_parsing::lexemes::{advance, name_stands, stands};
-use js_parsing::nested::Nested;
 use js_parsing::nodes::{make_list, make_one, make_two};
+use js_parsing_laws::nested::Nested;
 use js_pattern_laws::forms::RestPlace;
 use js_tree::{NodeId, NodeKind, Op};
 

@@ -3,10 +3,10 @@
 ghost use Rattle.std.specs.Prelude.{◌≡◌, ◌+◌, MatchResult};
 ghost use Rattle.js_base.specs.declared.kind.Kind.TheVariants.{Comma, LParen};
 ghost use Rattle.js_cursor.specs.Moves.{OnlyMemory, Opened};
-ghost use Rattle.js_parsing.specs.Methods.{ReadsWhole, parameters_of};
-ghost use Rattle.js_parsing.specs.Nesting.{CanNest, room};
-ghost use Rattle.js_parsing.specs.States.{Standing};
-ghost use Rattle.js_parsing.specs.declared.nested.MethodForm.TheVariants.{Getter, Setter};
+ghost use Rattle.js_parsing_laws.specs.Methods.{ReadsWhole, parameters_of};
+ghost use Rattle.js_parsing_laws.specs.Nesting.{CanNest, room};
+ghost use Rattle.js_parsing_laws.specs.States.{Standing};
+ghost use Rattle.js_parsing_laws.specs.declared.nested.MethodForm.TheVariants.{Getter, Setter};
 ghost use Rattle.js_pattern_laws.specs.Accessors.{IsTold, KindBehind, ReadsFurther, TellsParameters};
 ghost use Rattle.js_pattern_laws.specs.Bindings.{RestBegins};
 
@@ -17,8 +17,8 @@ use js_lex::ParserConfig;
 use js_literals::leaf::close_parentheses;
 use js_parsing::diagnostics::diagnostic_at;
 use js_parsing::lexemes::{advance, stands};
-use js_parsing::nested::{MethodForm, Nested};
 use js_parsing::nodes::{make_leaf, make_list, make_one};
+use js_parsing_laws::nested::{MethodForm, Nested};
 use js_tree::{NodeId, NodeKind, Op};
 
 /// The parameters of a method in their parentheses (ECMA-262, section 15.4).

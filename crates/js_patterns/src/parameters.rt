@@ -4,12 +4,12 @@ ghost use Rattle.std.specs.Prelude.{false, ◌≡◌, ◌+◌, ◌∷◌, [], Ma
 ghost use Rattle.js_base.specs.Kinds.{one_of_kinds};
 ghost use Rattle.js_base.specs.declared.kind.Kind.TheVariants.{Dot3, LParen, RParen};
 ghost use Rattle.js_grammar.specs.Productions.{at, Param, Params, Rest};
-ghost use Rattle.js_parsing.specs.Answers.{Answers};
-ghost use Rattle.js_parsing.specs.Lists.{ListStops, ReadsItem, ReadsOneMore};
-ghost use Rattle.js_parsing.specs.Nesting.{CanNest, room};
+ghost use Rattle.js_parsing_laws.specs.Answers.{Answers};
+ghost use Rattle.js_parsing_laws.specs.Lists.{ListStops, ReadsItem, ReadsOneMore};
+ghost use Rattle.js_parsing_laws.specs.Nesting.{CanNest, room};
 ghost use Rattle.js_pattern_laws.specs.Lists.{ListReadOn};
 ghost use Rattle.js_pattern_laws.specs.Parameters.{parameters_left};
-ghost use Rattle.js_parsing.specs.States.{Standing};
+ghost use Rattle.js_parsing_laws.specs.States.{Standing};
 
 use crate::binding::{check_behind_rest, parse_binding_pattern, parse_binding_rest};
 use js_base::{DiagnosticKind, Kind};
@@ -19,8 +19,8 @@ use js_literals::leaf::close_parentheses;
 use js_parsing::context::assignment_with_in;
 use js_parsing::diagnostics::diagnostic_at;
 use js_parsing::lexemes::advance;
-use js_parsing::nested::Nested;
 use js_parsing::nodes::{make_list, make_one, make_with_optional};
+use js_parsing_laws::nested::Nested;
 use js_pattern_laws::forms::RestPlace;
 use js_tree::{NodeId, NodeKind, Op};
 

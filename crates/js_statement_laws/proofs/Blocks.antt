@@ -33,24 +33,24 @@ use Rattle.js_cursor.specs.Moves.{Expects, IsKind, MovesOn, is_last}
 use Rattle.js_cursor.specs.Parsers.{Parser}
 use Rattle.js_cursor.specs.declared.stop.Stop.{Stop}
 use Rattle.js_cursor.specs.declared.stop.Stop.TheVariants.{Fatal, NoMemory}
-use Rattle.js_parsing.specs.Answers.{Grown, Numbered, Stops, Stretch, Underived, Verdict}
-use Rattle.js_parsing.specs.Lexemes.{Lex, Walked, read_kinds, spot, template_tails}
-use Rattle.js_parsing.specs.Moves.{Moved, MadeHere, plain_label}
-use Rattle.js_parsing.specs.States.{At, Same}
-use Rattle.js_parsing.specs.Statements.{placed, after_statement, NoStatement, Statement}
+use Rattle.js_parsing_laws.specs.Answers.{Grown, Numbered, Stops, Stretch, Underived, Verdict}
+use Rattle.js_parsing_laws.specs.Lexemes.{Lex, Walked, read_kinds, spot, template_tails}
+use Rattle.js_parsing_laws.specs.Moves.{Moved, MadeHere, plain_label}
+use Rattle.js_parsing_laws.specs.States.{At, Same}
+use Rattle.js_parsing_laws.specs.Statements.{placed, after_statement, NoStatement, Statement}
 use Rattle.js_statement_laws.specs.Blocks.{BracesTaken, NoBraces, in_braces}
 use Rattle.js_statement_laws.specs.StatementLists.{NoList, Taken, at_end, ends_at, ends_in_brace, ends_list, list_of, statements}
 use Rattle.js_statement_laws.specs.declared.forms.StatementList.{StatementList}
 use Rattle.js_statement_laws.specs.declared.forms.StatementList.TheVariants as list
-use Rattle.js_parsing.proofs.Classes.{here_ends}
-use Rattle.js_parsing.proofs.Giving.{fails_none, gives_up}
-use Rattle.js_parsing.proofs.Here.{kind_here, uncut}
-use Rattle.js_parsing.proofs.MadeNodes.{node_held, one_lies}
-use Rattle.js_parsing.proofs.Moving.{moves, same_both, stops_behind}
-use Rattle.js_parsing.proofs.Paths.{Path, ◌⟶◌, ◌⟶✗◌, at_kind, at_kinds, label_here, last_token, noded, token, walked_both}
-use Rattle.js_parsing.proofs.Signs.{plain_sign}
-use Rattle.js_parsing.proofs.Verdicts.{and_then, grown_then, verdict_of}
-use Rattle.js_parsing.proofs.Verdicts.{after as grown_behind}
+use Rattle.js_parsing_laws.proofs.Classes.{here_ends}
+use Rattle.js_parsing_laws.proofs.Giving.{fails_none, gives_up}
+use Rattle.js_parsing_laws.proofs.Here.{kind_here, uncut}
+use Rattle.js_parsing_laws.proofs.MadeNodes.{node_held, one_lies}
+use Rattle.js_parsing_laws.proofs.Moving.{moves, same_both, stops_behind}
+use Rattle.js_parsing_laws.proofs.Paths.{Path, ◌⟶◌, ◌⟶✗◌, at_kind, at_kinds, label_here, last_token, noded, token, walked_both}
+use Rattle.js_parsing_laws.proofs.Signs.{plain_sign}
+use Rattle.js_parsing_laws.proofs.Verdicts.{and_then, grown_then, verdict_of}
+use Rattle.js_parsing_laws.proofs.Verdicts.{after as grown_behind}
 use Rattle.js_operand_laws.proofs.Operands.{by_path}
 use Rattle.js_statement_laws.proofs.CompoundStatements.{no_token}
 use Rattle.js_statement_laws.proofs.Statements.{by_statement, never_open}

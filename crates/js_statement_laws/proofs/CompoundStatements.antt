@@ -39,22 +39,22 @@ use Rattle.js_cursor.specs.Moves.{Eats, Expects, IsKind, MovesOn, OnlyMemory}
 use Rattle.js_cursor.specs.Parsers.{Parser}
 use Rattle.js_cursor.specs.declared.stop.Stop.{Stop}
 use Rattle.js_cursor.specs.declared.stop.Stop.TheVariants.{Fatal, NoMemory}
-use Rattle.js_parsing.specs.Answers.{Answer, Grown, Numbered, Stops, Underived}
-use Rattle.js_parsing.specs.Lexemes.{Lex, other_goals, read_kinds}
-use Rattle.js_parsing.specs.Moves.{IsWholeHere, Moved, Moves, MadeHere, plain_label, unpassable}
-use Rattle.js_parsing.specs.Stands.{StandsHere}
-use Rattle.js_parsing.specs.States.{At, Same}
-use Rattle.js_parsing.specs.Statements.{placed, no_link, after_statement, NoStatement, Statement, TakesStatement}
+use Rattle.js_parsing_laws.specs.Answers.{Answer, Grown, Numbered, Stops, Underived}
+use Rattle.js_parsing_laws.specs.Lexemes.{Lex, other_goals, read_kinds}
+use Rattle.js_parsing_laws.specs.Moves.{IsWholeHere, Moved, Moves, MadeHere, plain_label, unpassable}
+use Rattle.js_parsing_laws.specs.Stands.{StandsHere}
+use Rattle.js_parsing_laws.specs.States.{At, Same}
+use Rattle.js_parsing_laws.specs.Statements.{placed, no_link, after_statement, NoStatement, Statement, TakesStatement}
 use Rattle.js_statement_laws.specs.CompoundStatements.{HeadsHere, NoParens, ParensTaken, TakesAlternate, in_parens}
-use Rattle.js_parsing.proofs.Classes.{here_ends}
-use Rattle.js_parsing.proofs.Giving.{gives_up}
-use Rattle.js_parsing.proofs.Here.{escaped_here, kind_here}
-use Rattle.js_parsing.proofs.MadeNodes.{node_held, one_lies, two_held}
-use Rattle.js_parsing.proofs.Moving.{moves, same_both, same_itself, stops_behind}
-use Rattle.js_parsing.proofs.Paths.{Path, ◌⟼◌, ◌⟶◌, ◌⟶✗◌, at_kind, called, fails_at, label_here, last_token, noded, noded_by, read_of, token}
-use Rattle.js_parsing.proofs.Signs.{none_seen, NoneIs, plain_sign, stands_not, whole_sign}
-use Rattle.js_parsing.proofs.Verdicts.{either_way, grown_then, verdict_of}
-use Rattle.js_parsing.proofs.Verdicts.{after as grown_behind}
+use Rattle.js_parsing_laws.proofs.Classes.{here_ends}
+use Rattle.js_parsing_laws.proofs.Giving.{gives_up}
+use Rattle.js_parsing_laws.proofs.Here.{escaped_here, kind_here}
+use Rattle.js_parsing_laws.proofs.MadeNodes.{node_held, one_lies, two_held}
+use Rattle.js_parsing_laws.proofs.Moving.{moves, same_both, same_itself, stops_behind}
+use Rattle.js_parsing_laws.proofs.Paths.{Path, ◌⟼◌, ◌⟶◌, ◌⟶✗◌, at_kind, called, fails_at, label_here, last_token, noded, noded_by, read_of, token}
+use Rattle.js_parsing_laws.proofs.Signs.{none_seen, NoneIs, plain_sign, stands_not, whole_sign}
+use Rattle.js_parsing_laws.proofs.Verdicts.{either_way, grown_then, verdict_of}
+use Rattle.js_parsing_laws.proofs.Verdicts.{after as grown_behind}
 use Rattle.js_statement_laws.proofs.Labels.{behind_label, on_label}
 use Rattle.js_statement_laws.proofs.Statements.{Ended, by_statement, never_open, ◌⟝◌}
 use Rattle.js_statement_laws.proofs.WordStatements.{Alone, alone_fails, alone_path, word_here}

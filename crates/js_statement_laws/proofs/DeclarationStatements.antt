@@ -30,22 +30,22 @@ use Rattle.js_tree.specs.Holding.{Holds, HoldsAll, Keeps}
 use Rattle.js_tree.proofs.HoldingLemmas.{Keeps-trans, Keeps-made}
 use Rattle.js_cursor.specs.Parsers.{Parser}
 use Rattle.js_cursor.specs.declared.stop.Stop.{Stop}
-use Rattle.js_parsing.specs.Answers.{Grown}
-use Rattle.js_parsing.specs.Lexemes.{Lex, read_kinds}
-use Rattle.js_parsing.specs.Moves.{IsWholeHere, Moved, MadeHere, plain_label}
-use Rattle.js_parsing.specs.Stands.{StandsHere}
-use Rattle.js_parsing.specs.States.{At, Same, NodesLie}
-use Rattle.js_parsing.specs.Statements.{placed, no_link, after_statement, NoStatement, Statement, StatementOutcome, EndsStatement, NoEnd}
+use Rattle.js_parsing_laws.specs.Answers.{Grown}
+use Rattle.js_parsing_laws.specs.Lexemes.{Lex, read_kinds}
+use Rattle.js_parsing_laws.specs.Moves.{IsWholeHere, Moved, MadeHere, plain_label}
+use Rattle.js_parsing_laws.specs.Stands.{StandsHere}
+use Rattle.js_parsing_laws.specs.States.{At, Same, NodesLie}
+use Rattle.js_parsing_laws.specs.Statements.{placed, no_link, after_statement, NoStatement, Statement, StatementOutcome, EndsStatement, NoEnd}
 use Rattle.js_declarations.specs.Declarations.{AllOf, Declarators, NoneOf, is_constant, list_of}
 use Rattle.js_declarations.proofs.DeclaratorLists.{all_behind, none_behind}
 use Rattle.js_statement_laws.specs.DeclarationStatements.{Declaration, NoDeclaration, ReadsDeclaration, declaration}
 use Rattle.js_cursor.specs.Moves.{is_last}
-use Rattle.js_parsing.proofs.Here.{uncut}
-use Rattle.js_parsing.proofs.MadeNodes.{node_held, made_lies}
-use Rattle.js_parsing.proofs.Moving.{beside_nodes, moves, same_both, same_with, stops_so}
-use Rattle.js_parsing.proofs.Paths.{Path, ◌⟶◌, ◌⟶✗◌, at_kind, by_symbol_as, label_here, noded_by, skips, walked_both, walked_one}
-use Rattle.js_parsing.proofs.Verdicts.{behind_none, grown_then, verdict_of}
-use Rattle.js_parsing.proofs.Verdicts.{after as grown_behind}
+use Rattle.js_parsing_laws.proofs.Here.{uncut}
+use Rattle.js_parsing_laws.proofs.MadeNodes.{node_held, made_lies}
+use Rattle.js_parsing_laws.proofs.Moving.{beside_nodes, moves, same_both, same_with, stops_so}
+use Rattle.js_parsing_laws.proofs.Paths.{Path, ◌⟶◌, ◌⟶✗◌, at_kind, by_symbol_as, label_here, noded_by, skips, walked_both, walked_one}
+use Rattle.js_parsing_laws.proofs.Verdicts.{behind_none, grown_then, verdict_of}
+use Rattle.js_parsing_laws.proofs.Verdicts.{after as grown_behind}
 use Rattle.js_statement_laws.proofs.Statements.{◌⟝◌, ended_so, never_open, no_symbol, omits_stopped, semicolon_path, unended, whole_semicolon}
 use Rattle.js_statement_laws.proofs.WordStatements.{Alone, alone_fails, alone_path, still_unlinked, unlinked, word_here}
 

@@ -15,12 +15,12 @@ use Rattle.js_cursor.specs.Places.{IsAt}
 use Rattle.js_cursor.specs.declared.stop.Stop.{Stop}
 use Rattle.js_cursor.proofs.Later.{follows_on}
 use Rattle.js_cursor.proofs.Changing.{ctx_set}
-use Rattle.js_parsing.specs.Answers.{Stops}
-use Rattle.js_parsing.specs.Heads.{widened}
-use Rattle.js_parsing.specs.Lexemes.{Lex}
-use Rattle.js_parsing.specs.States.{At, IsPlain, whole, sign, nothing, flags_of}
-use Rattle.js_parsing.proofs.Moving.{flags_same, stops_later}
-use Rattle.js_parsing.proofs.Verdicts.{verdict_of}
+use Rattle.js_parsing_laws.specs.Answers.{Stops}
+use Rattle.js_parsing_laws.specs.Heads.{widened}
+use Rattle.js_parsing_laws.specs.Lexemes.{Lex}
+use Rattle.js_parsing_laws.specs.States.{At, IsPlain, whole, sign, nothing, flags_of}
+use Rattle.js_parsing_laws.proofs.Moving.{flags_same, stops_later}
+use Rattle.js_parsing_laws.proofs.Verdicts.{verdict_of}
 use Rattle.js_statement_laws.specs.declared.forms.Ending.{Ending}
 use Rattle.js_statement_laws.specs.declared.forms.Ending.TheVariants as ending
 use Rattle.js_statement_laws.specs.ForHeads.{FirstTaken, NoFirstPart, end_kind, first_part}

@@ -37,13 +37,13 @@ use Rattle.js_cursor.specs.Moves.{Keeps as KeepsOne}
 use Rattle.js_cursor.specs.Parsers.{Parser}
 use Rattle.js_cursor.specs.Places.{goal}
 use Rattle.js_cursor.specs.declared.stop.Stop.{Stop}
-use Rattle.js_parsing.specs.Answers.{Grown, Stops, Stretch, Verdict, unclean}
-use Rattle.js_parsing.specs.Classes.{IsEarly}
-use Rattle.js_parsing.specs.Lexemes.{Lex, Walked, other_goals, read_kinds, spot}
-use Rattle.js_parsing.specs.Moves.{MadeHere, Moved, plain_label}
-use Rattle.js_parsing.specs.Stands.{StandsHere}
-use Rattle.js_parsing.specs.States.{At, Same, NodesLie}
-use Rattle.js_parsing.specs.Told.{unrelated_at}
+use Rattle.js_parsing_laws.specs.Answers.{Grown, Stops, Stretch, Verdict, unclean}
+use Rattle.js_parsing_laws.specs.Classes.{IsEarly}
+use Rattle.js_parsing_laws.specs.Lexemes.{Lex, Walked, other_goals, read_kinds, spot}
+use Rattle.js_parsing_laws.specs.Moves.{MadeHere, Moved, plain_label}
+use Rattle.js_parsing_laws.specs.Stands.{StandsHere}
+use Rattle.js_parsing_laws.specs.States.{At, Same, NodesLie}
+use Rattle.js_parsing_laws.specs.Told.{unrelated_at}
 use Rattle.js_declarations.specs.Declarations.{AllOf, NoneOf, NoOne, ends_row, is_constant, list_of}
 use Rattle.js_declarations.specs.HeadDeclarators.{BesideThrough, BoundThrough, DeclaratorsBehind, HeadList, HeadRead, NoHeadDeclarator, NoneBehind, ThroughHere, ValueRead, ValueTaken, bound_alone, named_value}
 use Rattle.js_declarations.specs.HeadDeclarators.{goes_through as ends_head}
@@ -57,15 +57,15 @@ use Rattle.js_statement_laws.specs.declared.forms.Ending.TheVariants as ending
 use Rattle.js_statement_laws.specs.ForHeads.{FirstTaken, NoFirst, NoFirstPart, end_kind, first_part}
 use Rattle.js_statement_laws.specs.ForParts.{BeginsHead, FaultOf, HeadFault, TellsHead, is_var, may_be, may_not, may_stand, none_stands, through_kind}
 use Rattle.js_statement_laws.specs.LetStatements.{behind_let, LetHere}
-use Rattle.js_parsing.proofs.Giving.{kept_one}
-use Rattle.js_parsing.proofs.Here.{begins_here}
-use Rattle.js_parsing.proofs.MadeNodes.{node_held, made_lies}
-use Rattle.js_parsing.proofs.Moving.{beside_nodes, same_both, same_with, stops_behind}
-use Rattle.js_parsing.proofs.Paths.{Path, ◌⟼◌, ◌⟶◌, at_kind, by_symbol_as, label_here, noded_by, noding, skips, token, walked_both, walked_one, walked_to}
-use Rattle.js_parsing.proofs.Signs.{stands_not}
-use Rattle.js_parsing.proofs.Told.{told_at, told_same}
-use Rattle.js_parsing.proofs.Verdicts.{behind_none, either_way, grown_both, grown_then, verdict_of}
-use Rattle.js_parsing.proofs.Verdicts.{after as grown_behind}
+use Rattle.js_parsing_laws.proofs.Giving.{kept_one}
+use Rattle.js_parsing_laws.proofs.Here.{begins_here}
+use Rattle.js_parsing_laws.proofs.MadeNodes.{node_held, made_lies}
+use Rattle.js_parsing_laws.proofs.Moving.{beside_nodes, same_both, same_with, stops_behind}
+use Rattle.js_parsing_laws.proofs.Paths.{Path, ◌⟼◌, ◌⟶◌, at_kind, by_symbol_as, label_here, noded_by, noding, skips, token, walked_both, walked_one, walked_to}
+use Rattle.js_parsing_laws.proofs.Signs.{stands_not}
+use Rattle.js_parsing_laws.proofs.Told.{told_at, told_same}
+use Rattle.js_parsing_laws.proofs.Verdicts.{behind_none, either_way, grown_both, grown_then, verdict_of}
+use Rattle.js_parsing_laws.proofs.Verdicts.{after as grown_behind}
 use Rattle.js_statement_laws.proofs.CompoundStatements.{no_token}
 use Rattle.js_statement_laws.proofs.ForHeads.{no_empty, no_first_part}
 use Rattle.js_statement_laws.proofs.ForParts.{look_in, path_not, stretch_not, verdict_not, without}

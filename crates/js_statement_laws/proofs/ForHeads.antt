@@ -24,7 +24,7 @@ use Rattle.js_grammar.specs.FirstSets.{first}
 use Rattle.js_grammar.proofs.First.{starts, starting}
 use Rattle.js_grammar.proofs.FirstClaims.{firsts}
 use Rattle.js_grammar.proofs.FirstRules.{fails_here}
-use Rattle.js_parsing.proofs.Here.{kind_here}
+use Rattle.js_parsing_laws.proofs.Here.{kind_here}
 use Rattle.js_grammar.proofs.FollowLaws.{surely}
 use Rattle.js_tree.specs.declared.id.NodeId.{NodeId}
 use Rattle.js_tree.specs.Nodes.{Node}
@@ -34,19 +34,19 @@ use Rattle.js_lex.specs.Reading.{is_right_angle}
 use Rattle.js_cursor.specs.Moves.{Expects, IsKind}
 use Rattle.js_cursor.specs.Parsers.{Parser}
 use Rattle.js_cursor.specs.declared.stop.Stop.{Stop}
-use Rattle.js_parsing.specs.Answers.{Grown, Numbered, Stops, Stretch, Underived, Verdict, clean}
-use Rattle.js_parsing.specs.Lexemes.{Lex, nowhere, other_goals}
-use Rattle.js_parsing.specs.Moves.{Moved}
-use Rattle.js_parsing.specs.Stands.{StandsHere}
-use Rattle.js_parsing.specs.States.{At}
+use Rattle.js_parsing_laws.specs.Answers.{Grown, Numbered, Stops, Stretch, Underived, Verdict, clean}
+use Rattle.js_parsing_laws.specs.Lexemes.{Lex, nowhere, other_goals}
+use Rattle.js_parsing_laws.specs.Moves.{Moved}
+use Rattle.js_parsing_laws.specs.Stands.{StandsHere}
+use Rattle.js_parsing_laws.specs.States.{At}
 use Rattle.js_statement_laws.specs.declared.forms.Ending.{Ending}
 use Rattle.js_statement_laws.specs.declared.forms.Ending.TheVariants as ending
 use Rattle.js_statement_laws.specs.ForHeads.{AtEnd, EndsPart, FirstTaken, HeadTaken, NoFirst, NoFirstPart, NoHead, NoParensHead, NoPart, NoRest, ParensHeadTaken, PartTaken, RestTaken, TakesFirst, TakesHead, TakesRest, behind_head, behind_rest, behind_slot, end_kind, first_part, head_part, rest_part}
-use Rattle.js_parsing.proofs.Moving.{same_both, same_itself, stops_behind}
-use Rattle.js_parsing.proofs.Paths.{Path, ◌⟶◌, ◌⟶✗◌, fails_at, last_called, last_token, skips, token, walked_both, walked_one}
-use Rattle.js_parsing.proofs.Signs.{plain_sign, stands_not, none_seen}
-use Rattle.js_parsing.proofs.Verdicts.{and_then, behind_none, either_way, grown_then, verdict_of}
-use Rattle.js_parsing.proofs.Verdicts.{after as grown_behind}
+use Rattle.js_parsing_laws.proofs.Moving.{same_both, same_itself, stops_behind}
+use Rattle.js_parsing_laws.proofs.Paths.{Path, ◌⟶◌, ◌⟶✗◌, fails_at, last_called, last_token, skips, token, walked_both, walked_one}
+use Rattle.js_parsing_laws.proofs.Signs.{plain_sign, stands_not, none_seen}
+use Rattle.js_parsing_laws.proofs.Verdicts.{and_then, behind_none, either_way, grown_then, verdict_of}
+use Rattle.js_parsing_laws.proofs.Verdicts.{after as grown_behind}
 use Rattle.js_statement_laws.proofs.CompoundStatements.{no_token, unexpected}
 
 -- ---- which lexeme stands there

@@ -4,7 +4,7 @@ use Rattle.std.proofs.lemmas.Bool.{false≢true, and_from, and_parts}
 use Rattle.js_base.specs.declared.diagnostic.Diagnostic.{Diagnostic}
 use Rattle.js_base.specs.declared.diagnostic.DiagnosticKind.TheVariants.{ForLoopAsyncOf, ForLoopLetReservedWord}
 use Rattle.js_declarations.proofs.SpansMarked.{span_marked}
-use Rattle.js_parsing.specs.Told.{unrelated_at}
+use Rattle.js_parsing_laws.specs.Told.{unrelated_at}
 use Rattle.js_base.specs.Contexts.{has_flag, in_flag}
 use Rattle.js_base.specs.declared.kind.Kind.{Kind}
 use Rattle.js_base.specs.declared.kind.Kind.TheVariants as kind
@@ -31,10 +31,10 @@ use Rattle.js_tree.proofs.HoldingLemmas.{HoldsAll-one}
 use Rattle.js_lex.specs.Reading.{is_right_angle}
 use Rattle.js_cursor.specs.Parsers.{Parser}
 use Rattle.js_cursor.specs.declared.stop.Stop.{Stop}
-use Rattle.js_parsing.specs.Answers.{Answer, Grown, Numbered, Stops, Stretch, Underived, Verdict}
-use Rattle.js_parsing.specs.Lexemes.{Lex, other_goals}
-use Rattle.js_parsing.specs.Stands.{StandsHere}
-use Rattle.js_parsing.specs.States.{At}
+use Rattle.js_parsing_laws.specs.Answers.{Answer, Grown, Numbered, Stops, Stretch, Underived, Verdict}
+use Rattle.js_parsing_laws.specs.Lexemes.{Lex, other_goals}
+use Rattle.js_parsing_laws.specs.Stands.{StandsHere}
+use Rattle.js_parsing_laws.specs.States.{At}
 use Rattle.js_targets.specs.Taken.{NoTargetFrom, goes_through}
 use Rattle.js_declarations.specs.HeadDeclarators.{ThroughHere}
 use Rattle.js_statement_laws.specs.declared.forms.Ending.{Ending}
@@ -42,12 +42,12 @@ use Rattle.js_statement_laws.specs.declared.forms.Ending.TheVariants as ending
 use Rattle.js_statement_laws.specs.ForHeads.{FirstTaken, NoFirst, NoFirstPart, end_kind, first_part}
 use Rattle.js_statement_laws.specs.ForParts.{BeginsHead, ChecksAsync, ChecksLet, FindsHead, HeadExpressionRead, HeadTargetTaken, IsAsyncAlone, NoneBegins, TakesHeadTarget, TakesPartWithoutIn}
 use Rattle.js_statement_laws.specs.LetStatements.{behind_let, LetIsName}
-use Rattle.js_parsing.proofs.Ahead.{pass_over}
-use Rattle.js_parsing.proofs.Moving.{stops_so}
-use Rattle.js_parsing.proofs.Paths.{Path, ◌⟼◌, by_symbol_as, last_called}
-use Rattle.js_parsing.proofs.Signs.{stands_not, NoneIs, none_seen}
-use Rattle.js_parsing.proofs.Verdicts.{either_way, verdict_of}
-use Rattle.js_parsing.proofs.Verdicts.{after as grown_behind}
+use Rattle.js_parsing_laws.proofs.Ahead.{pass_over}
+use Rattle.js_parsing_laws.proofs.Moving.{stops_so}
+use Rattle.js_parsing_laws.proofs.Paths.{Path, ◌⟼◌, by_symbol_as, last_called}
+use Rattle.js_parsing_laws.proofs.Signs.{stands_not, NoneIs, none_seen}
+use Rattle.js_parsing_laws.proofs.Verdicts.{either_way, verdict_of}
+use Rattle.js_parsing_laws.proofs.Verdicts.{after as grown_behind}
 use Rattle.js_statement_laws.proofs.CompoundStatements.{no_token}
 use Rattle.std.specs.Prelude.{IsCharBoundary, Result, Ok, Err}
 use Rattle.js_base.specs.declared.span.Span.{Span}
@@ -58,16 +58,16 @@ use Rattle.js_grammar.specs.Marks.{Mark}
 use Rattle.js_cursor.specs.Moves.{GivesUp, is_last}
 use Rattle.js_cursor.specs.Moves.{Keeps as KeepsOne}
 use Rattle.js_cursor.specs.Places.{IsAt, goal}
-use Rattle.js_parsing.specs.Answers.{unclean}
-use Rattle.js_parsing.specs.Classes.{EndsParse, IsEarly}
-use Rattle.js_parsing.specs.Lexemes.{read_kinds, spot}
-use Rattle.js_parsing.proofs.Giving.{kept_one}
-use Rattle.js_parsing.proofs.Here.{found, uncut}
-use Rattle.js_parsing.proofs.Moving.{same_both}
-use Rattle.js_parsing.proofs.Paths.{read_of, walked_to}
-use Rattle.js_parsing.proofs.Signs.{none_kept}
-use Rattle.js_parsing.proofs.Told.{told_at, told_same}
-use Rattle.js_parsing.proofs.Verdicts.{grown_both}
+use Rattle.js_parsing_laws.specs.Answers.{unclean}
+use Rattle.js_parsing_laws.specs.Classes.{EndsParse, IsEarly}
+use Rattle.js_parsing_laws.specs.Lexemes.{read_kinds, spot}
+use Rattle.js_parsing_laws.proofs.Giving.{kept_one}
+use Rattle.js_parsing_laws.proofs.Here.{found, uncut}
+use Rattle.js_parsing_laws.proofs.Moving.{same_both}
+use Rattle.js_parsing_laws.proofs.Paths.{read_of, walked_to}
+use Rattle.js_parsing_laws.proofs.Signs.{none_kept}
+use Rattle.js_parsing_laws.proofs.Told.{told_at, told_same}
+use Rattle.js_parsing_laws.proofs.Verdicts.{grown_both}
 use Rattle.js_targets.specs.Taken.{LiteralRead, TakesTarget, no_target_at}
 use Rattle.js_targets.specs.Targets.{IsTarget, is_literal, target_of}
 use Rattle.js_targets.proofs.ArraysConverted.{signs}

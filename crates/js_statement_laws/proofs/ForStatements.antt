@@ -31,27 +31,27 @@ use Rattle.js_cursor.specs.Moves.{Keeps as Tells}
 use Rattle.js_cursor.specs.Parsers.{Parser}
 use Rattle.js_cursor.specs.Places.{goal}
 use Rattle.js_cursor.specs.declared.stop.Stop.{Stop}
-use Rattle.js_parsing.specs.Answers.{Grown, Stops, unclean}
-use Rattle.js_parsing.specs.Lexemes.{Lex, Walked, spot}
-use Rattle.js_parsing.specs.Moves.{IsWholeHere, Moved, MadeHere}
-use Rattle.js_parsing.specs.Stands.{StandsHere}
-use Rattle.js_parsing.specs.States.{At, Same}
-use Rattle.js_parsing.specs.Statements.{placed, no_link, after_statement, NoStatement, Statement}
+use Rattle.js_parsing_laws.specs.Answers.{Grown, Stops, unclean}
+use Rattle.js_parsing_laws.specs.Lexemes.{Lex, Walked, spot}
+use Rattle.js_parsing_laws.specs.Moves.{IsWholeHere, Moved, MadeHere}
+use Rattle.js_parsing_laws.specs.Stands.{StandsHere}
+use Rattle.js_parsing_laws.specs.States.{At, Same}
+use Rattle.js_parsing_laws.specs.Statements.{placed, no_link, after_statement, NoStatement, Statement}
 use Rattle.js_statement_laws.specs.declared.forms.Ending.{Ending}
 use Rattle.js_statement_laws.specs.declared.forms.Ending.TheVariants as ending
 use Rattle.js_statement_laws.specs.ForHeads.{NoParensHead, ParensHeadTaken, behind_head, first_part, head_part, name_of, node_of}
 use Rattle.js_statement_laws.specs.ForWords.{ChecksAwait, ChecksEnding, PassesAwait, await_at, for_label, is_of, no_of_from}
-use Rattle.js_parsing.specs.Nesting.{room}
-use Rattle.js_parsing.proofs.MadeNodes.{node_held, one_lies}
-use Rattle.js_parsing.proofs.Nesting.{nested_room}
-use Rattle.js_parsing.proofs.Edges.{last_edge}
-use Rattle.js_parsing.proofs.Here.{found, uncut}
-use Rattle.js_parsing.proofs.Moving.{same_both, same_itself, stops_behind}
-use Rattle.js_parsing.proofs.Paths.{Path, ◌⟼◌, ◌⟶◌, ◌⟶✗◌, at_kind, by_symbol_as, flagged_by, flagged_here, token, walked_both, walked_from, walked_one}
-use Rattle.js_parsing.proofs.Told.{told_at, told_same}
-use Rattle.js_parsing.proofs.Verdicts.{grown_both, grown_first, grown_on, grown_then}
-use Rattle.js_parsing.proofs.Verdicts.{after as grown_behind}
-use Rattle.js_parsing.proofs.Giving.{kept_one}
+use Rattle.js_parsing_laws.specs.Nesting.{room}
+use Rattle.js_parsing_laws.proofs.MadeNodes.{node_held, one_lies}
+use Rattle.js_parsing_laws.proofs.Nesting.{nested_room}
+use Rattle.js_parsing_laws.proofs.Edges.{last_edge}
+use Rattle.js_parsing_laws.proofs.Here.{found, uncut}
+use Rattle.js_parsing_laws.proofs.Moving.{same_both, same_itself, stops_behind}
+use Rattle.js_parsing_laws.proofs.Paths.{Path, ◌⟼◌, ◌⟶◌, ◌⟶✗◌, at_kind, by_symbol_as, flagged_by, flagged_here, token, walked_both, walked_from, walked_one}
+use Rattle.js_parsing_laws.proofs.Told.{told_at, told_same}
+use Rattle.js_parsing_laws.proofs.Verdicts.{grown_both, grown_first, grown_on, grown_then}
+use Rattle.js_parsing_laws.proofs.Verdicts.{after as grown_behind}
+use Rattle.js_parsing_laws.proofs.Giving.{kept_one}
 use Rattle.js_statement_laws.proofs.CompoundStatements.{no_token, statement_read, then_fails, then_part}
 use Rattle.js_statement_laws.proofs.ForHeads.{which}
 use Rattle.js_statement_laws.proofs.Statements.{by_such_statement, no_symbol, ◌⟝◌}

@@ -29,12 +29,12 @@ use Rattle.js_tree.proofs.HoldingLemmas.{HoldsAll-none, Keeps-trans, Keeps-made}
 use Rattle.js_lex.specs.States.{goal_of}
 use Rattle.js_cursor.specs.Parsers.{Parser}
 use Rattle.js_cursor.specs.Places.{goal}
-use Rattle.js_parsing.specs.Answers.{unclean}
-use Rattle.js_parsing.specs.Lexemes.{Lex, spot}
-use Rattle.js_parsing.specs.Moves.{MadeHere, plain_label}
-use Rattle.js_parsing.specs.Stands.{StandsHere}
-use Rattle.js_parsing.specs.States.{At, Same}
-use Rattle.js_parsing.specs.Statements.{after_statement, statement_kinds, NoStatement, Statement}
+use Rattle.js_parsing_laws.specs.Answers.{unclean}
+use Rattle.js_parsing_laws.specs.Lexemes.{Lex, spot}
+use Rattle.js_parsing_laws.specs.Moves.{MadeHere, plain_label}
+use Rattle.js_parsing_laws.specs.Stands.{StandsHere}
+use Rattle.js_parsing_laws.specs.States.{At, Same}
+use Rattle.js_parsing_laws.specs.Statements.{after_statement, statement_kinds, NoStatement, Statement}
 use Rattle.js_operand_laws.specs.declared.forms.FunctionForm.TheVariants.{Declaration}
 use Rattle.js_operand_laws.specs.declared.forms.FunctionParts.{FunctionParts}
 use Rattle.js_operand_laws.specs.Functions.{BeginsFunction, FunctionNext, HeadRead, NoFunction, PartsTaken, function_line}
@@ -42,17 +42,17 @@ use Rattle.js_operand_laws.proofs.AsyncWords.{one_function}
 use Rattle.js_operand_laws.proofs.Functions.{four_lines, line_flags, line_left, none_left}
 use Rattle.js_statement_laws.specs.FunctionStatements.{ChecksPlain, fault_of_body, told_of_body}
 use Rattle.js_declarations.proofs.SpansMarked.{span_marked}
-use Rattle.js_parsing.proofs.Ahead.{pass_over}
-use Rattle.js_parsing.proofs.Dead.{lives}
-use Rattle.js_parsing.proofs.Giving.{kept_one}
-use Rattle.js_parsing.proofs.Here.{kind_here}
-use Rattle.js_parsing.proofs.MadeNodes.{node_held, one_lies}
-use Rattle.js_parsing.proofs.Moving.{same_both, same_itself}
-use Rattle.js_parsing.proofs.Parts.{part_path}
-use Rattle.js_parsing.proofs.Paths.{Path, ◌⟼◌, at_kind, by_symbol_as, flagged_by, flagged_here, walked_to}
-use Rattle.js_parsing.proofs.Escapes.{keyword_none}
-use Rattle.js_parsing.proofs.Told.{told_at, told_same}
-use Rattle.js_parsing.proofs.Verdicts.{after as grown_behind, verdict_of}
+use Rattle.js_parsing_laws.proofs.Ahead.{pass_over}
+use Rattle.js_parsing_laws.proofs.Dead.{lives}
+use Rattle.js_parsing_laws.proofs.Giving.{kept_one}
+use Rattle.js_parsing_laws.proofs.Here.{kind_here}
+use Rattle.js_parsing_laws.proofs.MadeNodes.{node_held, one_lies}
+use Rattle.js_parsing_laws.proofs.Moving.{same_both, same_itself}
+use Rattle.js_parsing_laws.proofs.Parts.{part_path}
+use Rattle.js_parsing_laws.proofs.Paths.{Path, ◌⟼◌, at_kind, by_symbol_as, flagged_by, flagged_here, walked_to}
+use Rattle.js_parsing_laws.proofs.Escapes.{keyword_none}
+use Rattle.js_parsing_laws.proofs.Told.{told_at, told_same}
+use Rattle.js_parsing_laws.proofs.Verdicts.{after as grown_behind, verdict_of}
 use Rattle.js_statement_laws.proofs.Statements.{by_such_statement, item_left, labels_fail, never_open, no_expression, no_lexical, no_symbol, sub_left}
 use Rattle.js_statement_laws.proofs.WordLookaheads.{async_word, elsewhere, ends_at, followed, let_word, no_let_here}
 

@@ -30,27 +30,27 @@ use Rattle.std.specs.Prelude.{Err}
 use Rattle.js_cursor.specs.Moves.{OnlyMemory}
 use Rattle.js_cursor.specs.declared.stop.Stop.{Stop}
 use Rattle.js_cursor.specs.declared.stop.Stop.TheVariants.{Fatal, NoMemory}
-use Rattle.js_parsing.specs.Answers.{Grown, Stretch, Underived, Answer, Numbered, Stops}
-use Rattle.js_parsing.specs.Lexemes.{Lex, Walked, may_name, name_kinds, Spot, spot, nowhere, one_more, more_faults, read_again}
-use Rattle.js_parsing.specs.Nesting.{room}
-use Rattle.js_parsing.specs.Moves.{Moved, MadeHere, plain_label}
-use Rattle.js_parsing.specs.Statements.{placed, no_link, statement_kinds, after_statement, NoStatement, Statement, StatementOutcome, IsLabel}
-use Rattle.js_parsing.specs.States.{At, Same}
-use Rattle.js_parsing.proofs.Signs.{plain_sign}
+use Rattle.js_parsing_laws.specs.Answers.{Grown, Stretch, Underived, Answer, Numbered, Stops}
+use Rattle.js_parsing_laws.specs.Lexemes.{Lex, Walked, may_name, name_kinds, Spot, spot, nowhere, one_more, more_faults, read_again}
+use Rattle.js_parsing_laws.specs.Nesting.{room}
+use Rattle.js_parsing_laws.specs.Moves.{Moved, MadeHere, plain_label}
+use Rattle.js_parsing_laws.specs.Statements.{placed, no_link, statement_kinds, after_statement, NoStatement, Statement, StatementOutcome, IsLabel}
+use Rattle.js_parsing_laws.specs.States.{At, Same}
+use Rattle.js_parsing_laws.proofs.Signs.{plain_sign}
 use Rattle.js_expression_laws.proofs.Conditionals.{colon_plain}
-use Rattle.js_parsing.proofs.NameKinds.{at_name, listed_name, name_apart, name_passes, name_read, name_whole, names_at}
-use Rattle.js_parsing.proofs.Dead.{lives}
-use Rattle.js_parsing.proofs.Here.{found, kind_here, uncut}
-use Rattle.js_parsing.proofs.MadeNodes.{leaf_held, two_held, one_lies, from_start}
-use Rattle.js_parsing.proofs.Moving.{same_both, same_itself, same_with, beside_nodes, stops_behind}
-use Rattle.js_parsing.proofs.Paths.{Path, ◌⟼◌, ◌⟶◌, ◌⟶✗◌, one_read, read_of, token, noded, noded_by, by_symbol_as, label_here}
+use Rattle.js_parsing_laws.proofs.NameKinds.{at_name, listed_name, name_apart, name_passes, name_read, name_whole, names_at}
+use Rattle.js_parsing_laws.proofs.Dead.{lives}
+use Rattle.js_parsing_laws.proofs.Here.{found, kind_here, uncut}
+use Rattle.js_parsing_laws.proofs.MadeNodes.{leaf_held, two_held, one_lies, from_start}
+use Rattle.js_parsing_laws.proofs.Moving.{same_both, same_itself, same_with, beside_nodes, stops_behind}
+use Rattle.js_parsing_laws.proofs.Paths.{Path, ◌⟼◌, ◌⟶◌, ◌⟶✗◌, one_read, read_of, token, noded, noded_by, by_symbol_as, label_here}
 use Rattle.js_statement_laws.proofs.Statements.{by_statement, no_function, no_function_body, no_symbol, no_lexical, no_expression_ends, before_colon, item_left, sub_left, colon_ends}
 use Rattle.js_statement_laws.specs.LetStatements.{behind_let, LetIsName}
 use Rattle.js_statement_laws.proofs.WordLookaheads.{AsyncIsName, let_word, not_followed, ◌⇒✗◌}
 use Rattle.js_statement_laws.proofs.Strings.{name_look, name_node, name_expression}
-use Rattle.js_parsing.proofs.Escapes.{read_as, read_plain, keyword_none}
-use Rattle.js_parsing.proofs.Verdicts.{either_way, verdict_of, grown_then}
-use Rattle.js_parsing.proofs.Verdicts.{after as grown_behind}
+use Rattle.js_parsing_laws.proofs.Escapes.{read_as, read_plain, keyword_none}
+use Rattle.js_parsing_laws.proofs.Verdicts.{either_way, verdict_of, grown_then}
+use Rattle.js_parsing_laws.proofs.Verdicts.{after as grown_behind}
 use Rattle.js_operand_laws.proofs.Operands.{name_signless}
 
 -- ---- what may stand behind

@@ -30,23 +30,23 @@ use Rattle.js_lex.specs.Reading.{is_right_angle}
 use Rattle.js_cursor.specs.Moves.{Keeps as KeepsOne, Peeks}
 use Rattle.js_cursor.specs.Parsers.{Parser}
 use Rattle.js_cursor.specs.declared.stop.Stop.{Stop}
-use Rattle.js_parsing.specs.Answers.{unclean}
-use Rattle.js_parsing.specs.Classes.{IsEarly}
-use Rattle.js_parsing.specs.Lexemes.{Lex, other_goals, spot}
-use Rattle.js_parsing.specs.Stands.{StandsHere}
-use Rattle.js_parsing.specs.States.{At}
-use Rattle.js_parsing.specs.Statements.{after_statement, no_link, statement_kinds, NoStatement, Statement, StatementOutcome, TakesStatement}
-use Rattle.js_parsing.proofs.Ahead.{pass_over}
-use Rattle.js_parsing.proofs.Here.{kind_here, unsettled}
-use Rattle.js_parsing.proofs.Dead.{lives}
-use Rattle.js_parsing.proofs.Giving.{kept_one}
-use Rattle.js_parsing.proofs.Moving.{same_both, stops_so}
-use Rattle.js_parsing.proofs.Paths.{◌⟼◌, at_kind, by_symbol_as, walked_to}
-use Rattle.js_parsing.proofs.Escapes.{keyword_none, read_plain}
-use Rattle.js_parsing.specs.Told.{unrelated_at}
-use Rattle.js_parsing.proofs.Told.{told_at, told_same}
-use Rattle.js_parsing.proofs.Signs.{span_is}
-use Rattle.js_parsing.proofs.Verdicts.{after as grown_behind}
+use Rattle.js_parsing_laws.specs.Answers.{unclean}
+use Rattle.js_parsing_laws.specs.Classes.{IsEarly}
+use Rattle.js_parsing_laws.specs.Lexemes.{Lex, other_goals, spot}
+use Rattle.js_parsing_laws.specs.Stands.{StandsHere}
+use Rattle.js_parsing_laws.specs.States.{At}
+use Rattle.js_parsing_laws.specs.Statements.{after_statement, no_link, statement_kinds, NoStatement, Statement, StatementOutcome, TakesStatement}
+use Rattle.js_parsing_laws.proofs.Ahead.{pass_over}
+use Rattle.js_parsing_laws.proofs.Here.{kind_here, unsettled}
+use Rattle.js_parsing_laws.proofs.Dead.{lives}
+use Rattle.js_parsing_laws.proofs.Giving.{kept_one}
+use Rattle.js_parsing_laws.proofs.Moving.{same_both, stops_so}
+use Rattle.js_parsing_laws.proofs.Paths.{◌⟼◌, at_kind, by_symbol_as, walked_to}
+use Rattle.js_parsing_laws.proofs.Escapes.{keyword_none, read_plain}
+use Rattle.js_parsing_laws.specs.Told.{unrelated_at}
+use Rattle.js_parsing_laws.proofs.Told.{told_at, told_same}
+use Rattle.js_parsing_laws.proofs.Signs.{span_is}
+use Rattle.js_parsing_laws.proofs.Verdicts.{after as grown_behind}
 use Rattle.js_pattern_laws.proofs.Peeks.{peeked_kind, peeked_whole}
 use Rattle.js_statement_laws.specs.DeclarationStatements.{Declaration, ReadsDeclaration, declaration}
 use Rattle.js_statement_laws.specs.LetStatements.{behind_let, BeginsLexical, FindsLexical, LetBegins, LetHere, NoLet, TellsLexical}

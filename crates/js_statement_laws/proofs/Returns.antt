@@ -37,21 +37,21 @@ use Rattle.js_cursor.specs.Moves.{MayEnd, is_last}
 use Rattle.js_cursor.specs.Parsers.{Parser}
 use Rattle.js_cursor.specs.Places.{goal}
 use Rattle.js_cursor.specs.declared.stop.Stop.{Stop}
-use Rattle.js_parsing.specs.Answers.{Grown, Numbered, Stops, unclean}
-use Rattle.js_parsing.specs.Lexemes.{Lex, spot}
-use Rattle.js_parsing.specs.Moves.{Moved, MadeHere, plain_label}
-use Rattle.js_parsing.specs.Stands.{StandsHere}
-use Rattle.js_parsing.specs.States.{At, Same}
-use Rattle.js_parsing.specs.Statements.{placed, no_link, after_statement, NoStatement, Statement, EndsStatement, NoEnd}
+use Rattle.js_parsing_laws.specs.Answers.{Grown, Numbered, Stops, unclean}
+use Rattle.js_parsing_laws.specs.Lexemes.{Lex, spot}
+use Rattle.js_parsing_laws.specs.Moves.{Moved, MadeHere, plain_label}
+use Rattle.js_parsing_laws.specs.Stands.{StandsHere}
+use Rattle.js_parsing_laws.specs.States.{At, Same}
+use Rattle.js_parsing_laws.specs.Statements.{placed, no_link, after_statement, NoStatement, Statement, EndsStatement, NoEnd}
 use Rattle.js_statement_laws.specs.WordStatements.{ChecksReturn, TakesArgument, stray_return}
-use Rattle.js_parsing.proofs.Ahead.{pass_over}
-use Rattle.js_parsing.proofs.Giving.{kept_one}
-use Rattle.js_parsing.proofs.Here.{found, newline_here, uncut}
-use Rattle.js_parsing.proofs.MadeNodes.{node_held, one_lies}
-use Rattle.js_parsing.proofs.Moving.{same_both, same_itself, stops_behind}
-use Rattle.js_parsing.proofs.Paths.{Path, ◌⟶◌, ◌⟶✗◌, at_kind, token, last_called, noded_by, by_symbol_as, label_here, walked_to}
-use Rattle.js_parsing.proofs.Told.{told_at, told_same}
-use Rattle.js_parsing.proofs.Verdicts.{after as grown_behind, grown_then, verdict_of}
+use Rattle.js_parsing_laws.proofs.Ahead.{pass_over}
+use Rattle.js_parsing_laws.proofs.Giving.{kept_one}
+use Rattle.js_parsing_laws.proofs.Here.{found, newline_here, uncut}
+use Rattle.js_parsing_laws.proofs.MadeNodes.{node_held, one_lies}
+use Rattle.js_parsing_laws.proofs.Moving.{same_both, same_itself, stops_behind}
+use Rattle.js_parsing_laws.proofs.Paths.{Path, ◌⟶◌, ◌⟶✗◌, at_kind, token, last_called, noded_by, by_symbol_as, label_here, walked_to}
+use Rattle.js_parsing_laws.proofs.Told.{told_at, told_same}
+use Rattle.js_parsing_laws.proofs.Verdicts.{after as grown_behind, grown_then, verdict_of}
 use Rattle.js_statement_laws.proofs.Statements.{◌⟝◌, by_such_statement, closer_here, closes_here, closes_or_line, end_path, ended_so, never_open, no_close, no_symbol, unended}
 use Rattle.js_statement_laws.proofs.WordStatements.{Alone, alone_path, closing, ends_so, still_unlinked, unlinked}
 

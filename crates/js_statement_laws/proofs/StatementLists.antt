@@ -1,6 +1,6 @@
 -- Directives and statements, one behind the other.
-use Rattle.js_parsing.proofs.Escapes.{keyword_none}
-use Rattle.js_parsing.proofs.MadeNodes.{held_label, one_lies, LabelLies, from_start}
+use Rattle.js_parsing_laws.proofs.Escapes.{keyword_none}
+use Rattle.js_parsing_laws.proofs.MadeNodes.{held_label, one_lies, LabelLies, from_start}
 use Rattle.std.proofs.Common.{ℕ, ◌≡◌, ◌<◌, max, List, [], ◌∷◌, ◌++◌, length, Bool, true, false, not, ◌&&◌, ◌||◌, cond, IsTrue, Option, Some, refl, sym, ap, subst, arith, ◌∙◌}
 use Rattle.std.specs.Prelude.{◌↔◌}
 use Rattle.std.proofs.lemmas.Bool.{false≢true, and_parts, and_from}
@@ -35,19 +35,19 @@ use Rattle.js_tree.specs.Holding.{Holds, HoldsAll, Keeps}
 use Rattle.js_tree.proofs.HoldingLemmas.{HoldsAll-none, HoldsAll-next, Holds-below, Keeps-refl, Keeps-trans, Keeps-made}
 use Rattle.js_cursor.specs.Moves.{is_last}
 use Rattle.js_cursor.specs.Parsers.{Parser}
-use Rattle.js_parsing.specs.Lexemes.{Lex, name_kinds, nowhere, keyword_kind}
-use Rattle.js_parsing.specs.States.{At, Same, NodesLie}
-use Rattle.js_parsing.specs.Nesting.{room}
-use Rattle.js_parsing.specs.Moves.{MadeHere, plain_label}
-use Rattle.js_parsing.specs.Answers.{Grown, Verdict, clean, unclean, wider, Stretch, Underived, Answer, Numbered}
-use Rattle.js_parsing.specs.Statements.{statement_kinds, no_link, after_statement, NoStatement, Statement, EndsStatement, NoEnd}
+use Rattle.js_parsing_laws.specs.Lexemes.{Lex, name_kinds, nowhere, keyword_kind}
+use Rattle.js_parsing_laws.specs.States.{At, Same, NodesLie}
+use Rattle.js_parsing_laws.specs.Nesting.{room}
+use Rattle.js_parsing_laws.specs.Moves.{MadeHere, plain_label}
+use Rattle.js_parsing_laws.specs.Answers.{Grown, Verdict, clean, unclean, wider, Stretch, Underived, Answer, Numbered}
+use Rattle.js_parsing_laws.specs.Statements.{statement_kinds, no_link, after_statement, NoStatement, Statement, EndsStatement, NoEnd}
 use Rattle.js_statement_laws.specs.StatementLists.{at_end, ends_at, ends_list, has_directives, item_of, list_of, with_directives, statements, NoList, OneTaken, Taken, OpeningTaken}
 use Rattle.js_statement_laws.specs.declared.forms.StatementList.{StatementList}
 use Rattle.js_statement_laws.specs.declared.forms.StatementList.TheVariants.{Text, Block, Body, Clause}
-use Rattle.js_parsing.proofs.Verdicts.{verdict_of, either_way, and_then}
-use Rattle.js_parsing.proofs.Moving.{same_both, same_itself, same_with, beside_nodes}
-use Rattle.js_parsing.proofs.MadeNodes.{one_held}
-use Rattle.js_parsing.proofs.Paths.{Path, ◌⟶✗◌, not_here, fails_at, noded_by, by_symbol_as, label_here, walked_both}
+use Rattle.js_parsing_laws.proofs.Verdicts.{verdict_of, either_way, and_then}
+use Rattle.js_parsing_laws.proofs.Moving.{same_both, same_itself, same_with, beside_nodes}
+use Rattle.js_parsing_laws.proofs.MadeNodes.{one_held}
+use Rattle.js_parsing_laws.proofs.Paths.{Path, ◌⟶✗◌, not_here, fails_at, noded_by, by_symbol_as, label_here, walked_both}
 use Rattle.js_statement_laws.specs.LetStatements.{LetIsName}
 use Rattle.js_statement_laws.proofs.WordLookaheads.{AsyncIsName, no_async_here, no_let_here}
 use Rattle.js_statement_laws.proofs.Statements.{none_of_one, to_semicolon, end_path, unended, statement_path, statement_fails, statement_unended, ended_so, no_label_at}

@@ -1,5 +1,5 @@
 -- Statements, and the semicolons that end them or are left out.
-use Rattle.js_parsing.proofs.Ahead.{pass_over}
+use Rattle.js_parsing_laws.proofs.Ahead.{pass_over}
 use Rattle.js_statement_laws.specs.LetStatements.{behind_let, LetIsName}
 use Rattle.js_statement_laws.proofs.WordLookaheads.{AsyncIsName, Leads, at_once, ◌⇒◌, ◌⇒✗◌, async_word, leads_to, let_word, name_in_body, not_followed}
 use Rattle.std.proofs.Common.{ℕ, ◌≡◌, ◌≤◌, max, inl, inr, List, [], ◌∷◌, length, Bool, true, false, not, ◌&&◌, ◌||◌, IsTrue, Some, refl, sym, ap, subst, arith, ◌∙◌}
@@ -47,27 +47,27 @@ use Rattle.js_cursor.specs.Parsers.{Parser}
 use Rattle.js_cursor.specs.Moves.{MayEnd, EndsOr, GivesUp, IsUnexpected, OnlyMemory, ends_statement}
 use Rattle.js_cursor.specs.declared.stop.Stop.{Stop}
 use Rattle.js_cursor.specs.declared.stop.Stop.TheVariants.{Fatal, NoMemory}
-use Rattle.js_parsing.specs.Lexemes.{Lex, may_name, name_kinds, other_goals, read_kinds, signs_of, slashes, template_tails, Plain, keyword_kind, read_word}
-use Rattle.js_parsing.specs.States.{At, Same, NodesLie}
-use Rattle.js_parsing.specs.Moves.{IsWholeHere, Moved, MadeHere, LeafTaken, TakesLeaf, plain_label, unpassable}
-use Rattle.js_parsing.specs.Answers.{Underived, Answer, Numbered, Stops, beside}
-use Rattle.js_parsing.specs.Statements.{placed, link_kinds, statement_kinds, no_link, after_statement, Closed, NoStatement, Statement, StatementOutcome, EndsStatement, NoEnd, IsLabel}
+use Rattle.js_parsing_laws.specs.Lexemes.{Lex, may_name, name_kinds, other_goals, read_kinds, signs_of, slashes, template_tails, Plain, keyword_kind, read_word}
+use Rattle.js_parsing_laws.specs.States.{At, Same, NodesLie}
+use Rattle.js_parsing_laws.specs.Moves.{IsWholeHere, Moved, MadeHere, LeafTaken, TakesLeaf, plain_label, unpassable}
+use Rattle.js_parsing_laws.specs.Answers.{Underived, Answer, Numbered, Stops, beside}
+use Rattle.js_parsing_laws.specs.Statements.{placed, link_kinds, statement_kinds, no_link, after_statement, Closed, NoStatement, Statement, StatementOutcome, EndsStatement, NoEnd, IsLabel}
 use Rattle.js_declarations.specs.Declarations.{stops_row}
-use Rattle.js_parsing.proofs.Verdicts.{verdict_of, either_way}
-use Rattle.js_parsing.proofs.Moving.{moves, same_both, same_itself, same_with, beside_nodes}
-use Rattle.js_parsing.proofs.NameKinds.{name_whole, names_at, test_named}
-use Rattle.js_parsing.proofs.Here.{kind_here, newline_here, plain_token, told, uncut, unsettled, escaped_here}
-use Rattle.js_parsing.proofs.Signs.{closing_there}
-use Rattle.js_parsing.proofs.Dead.{live, lives}
-use Rattle.js_parsing.proofs.MadeNodes.{leaf_held, one_held, one_lies, LabelLies, from_start}
-use Rattle.js_parsing.proofs.Paths.{begins_by, reads, Path, ◌⟼◌, ◌⟶◌, ◌⟶✗◌, at_kind, not_here, fails_at, last_token, noded, noded_by, by_symbol_as, label_here}
-use Rattle.js_parsing.proofs.Escapes.{read_plain, keyword_plain, plain_or_word}
-use Rattle.js_parsing.proofs.Tight.{plain_so}
+use Rattle.js_parsing_laws.proofs.Verdicts.{verdict_of, either_way}
+use Rattle.js_parsing_laws.proofs.Moving.{moves, same_both, same_itself, same_with, beside_nodes}
+use Rattle.js_parsing_laws.proofs.NameKinds.{name_whole, names_at, test_named}
+use Rattle.js_parsing_laws.proofs.Here.{kind_here, newline_here, plain_token, told, uncut, unsettled, escaped_here}
+use Rattle.js_parsing_laws.proofs.Signs.{closing_there}
+use Rattle.js_parsing_laws.proofs.Dead.{live, lives}
+use Rattle.js_parsing_laws.proofs.MadeNodes.{leaf_held, one_held, one_lies, LabelLies, from_start}
+use Rattle.js_parsing_laws.proofs.Paths.{begins_by, reads, Path, ◌⟼◌, ◌⟶◌, ◌⟶✗◌, at_kind, not_here, fails_at, last_token, noded, noded_by, by_symbol_as, label_here}
+use Rattle.js_parsing_laws.proofs.Escapes.{read_plain, keyword_plain, plain_or_word}
+use Rattle.js_parsing_laws.proofs.Tight.{plain_so}
 use Rattle.js_statement_laws.proofs.Strings.{name_look, name_node, name_expression}
-use Rattle.js_parsing.proofs.Giving.{gives_up, gives_up_here, fails_at_word}
-use Rattle.js_parsing.proofs.Classes.{here_ends}
+use Rattle.js_parsing_laws.proofs.Giving.{gives_up, gives_up_here, fails_at_word}
+use Rattle.js_parsing_laws.proofs.Classes.{here_ends}
 use Rattle.js_base.specs.declared.diagnostic.DiagnosticKind.TheVariants.{ExpectToken}
-use Rattle.js_parsing.proofs.Slashes.{sign_there}
+use Rattle.js_parsing_laws.proofs.Slashes.{sign_there}
 use Rattle.js_operand_laws.specs.declared.forms.FunctionForm.TheVariants.{Declaration}
 use Rattle.js_operand_laws.specs.Functions.{function_line}
 use Rattle.js_operand_laws.proofs.Functions.{none_left}

@@ -43,25 +43,25 @@ use Rattle.js_cursor.specs.Places.{IsAt, goal}
 use Rattle.js_cursor.specs.declared.stop.Stop.{Stop}
 use Rattle.js_cursor.specs.declared.stop.Stop.TheVariants.{Fatal, NoMemory}
 use Rattle.js_cursor.proofs.Standing.{mark_here}
-use Rattle.js_parsing.proofs.Here.{escaped_here}
-use Rattle.js_parsing.specs.Answers.{Answers, Grown, Numbered, Stops, Underived, unclean}
-use Rattle.js_parsing.specs.Classes.{EndsParse}
-use Rattle.js_parsing.specs.Lexemes.{Lex, spot}
-use Rattle.js_parsing.specs.Moves.{IsWholeHere, Moved, Moves, MadeHere, plain_label}
-use Rattle.js_parsing.specs.Stands.{StandsHere}
-use Rattle.js_parsing.specs.States.{At, NodesLie, Same, flags_of}
-use Rattle.js_parsing.specs.Statements.{placed, after_statement, NoStatement, Statement}
-use Rattle.js_parsing.specs.Told.{unrelated_at}
+use Rattle.js_parsing_laws.proofs.Here.{escaped_here}
+use Rattle.js_parsing_laws.specs.Answers.{Answers, Grown, Numbered, Stops, Underived, unclean}
+use Rattle.js_parsing_laws.specs.Classes.{EndsParse}
+use Rattle.js_parsing_laws.specs.Lexemes.{Lex, spot}
+use Rattle.js_parsing_laws.specs.Moves.{IsWholeHere, Moved, Moves, MadeHere, plain_label}
+use Rattle.js_parsing_laws.specs.Stands.{StandsHere}
+use Rattle.js_parsing_laws.specs.States.{At, NodesLie, Same, flags_of}
+use Rattle.js_parsing_laws.specs.Statements.{placed, after_statement, NoStatement, Statement}
+use Rattle.js_parsing_laws.specs.Told.{unrelated_at}
 use Rattle.js_pattern_laws.proofs.BehindRests.{mark_later}
-use Rattle.js_parsing.proofs.Escapes.{kind_escaped}
-use Rattle.js_parsing.proofs.Giving.{fails_none, gives_up, kept_one, fails_unescaped}
-use Rattle.js_parsing.proofs.MadeNodes.{made_lies, node_held, one_lies}
-use Rattle.js_parsing.proofs.Moving.{beside_nodes, same_both, same_itself, same_with, stops_behind, stops_so}
-use Rattle.js_parsing.proofs.Paths.{Path, ◌⟶◌, ◌⟶✗◌, ◌⟼◌, at_kind, by_symbol_as, called, fails_at, label_here, last_token, noded, noded_by, token, walked_to}
-use Rattle.js_parsing.proofs.Signs.{plain_sign}
-use Rattle.js_parsing.proofs.Told.{lexeme_marked, told_at, told_same}
-use Rattle.js_parsing.proofs.Verdicts.{either_way, grown_both, grown_on, grown_then, verdict_of}
-use Rattle.js_parsing.proofs.Verdicts.{after as grown_behind}
+use Rattle.js_parsing_laws.proofs.Escapes.{kind_escaped}
+use Rattle.js_parsing_laws.proofs.Giving.{fails_none, gives_up, kept_one, fails_unescaped}
+use Rattle.js_parsing_laws.proofs.MadeNodes.{made_lies, node_held, one_lies}
+use Rattle.js_parsing_laws.proofs.Moving.{beside_nodes, same_both, same_itself, same_with, stops_behind, stops_so}
+use Rattle.js_parsing_laws.proofs.Paths.{Path, ◌⟶◌, ◌⟶✗◌, ◌⟼◌, at_kind, by_symbol_as, called, fails_at, label_here, last_token, noded, noded_by, token, walked_to}
+use Rattle.js_parsing_laws.proofs.Signs.{plain_sign}
+use Rattle.js_parsing_laws.proofs.Told.{lexeme_marked, told_at, told_same}
+use Rattle.js_parsing_laws.proofs.Verdicts.{either_way, grown_both, grown_on, grown_then, verdict_of}
+use Rattle.js_parsing_laws.proofs.Verdicts.{after as grown_behind}
 use Rattle.js_statement_laws.proofs.Blocks.{at_brace, none_told, then_some}
 use Rattle.js_statement_laws.proofs.CompoundStatements.{no_token, parens_read, then_fails, then_part, unexpected}
 use Rattle.js_statement_laws.proofs.StatementLists.{none_left, none_taken, one_taken_more, taken_so, uncleanly, unrolled}

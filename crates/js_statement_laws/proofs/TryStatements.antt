@@ -33,28 +33,28 @@ use Rattle.js_cursor.specs.Places.{goal}
 use Rattle.js_grammar.specs.LexicalFaults.{Reached}
 use Rattle.js_grammar.specs.Marks.{EdgeOf, Mark}
 use Rattle.js_lex.specs.Reading.{is_right_angle}
-use Rattle.js_parsing.specs.Told.{unrelated_at}
+use Rattle.js_parsing_laws.specs.Told.{unrelated_at}
 use Rattle.js_cursor.specs.Moves.{IsKind, Keeps as KeepsOne, OnlyMemory}
 use Rattle.js_cursor.specs.Parsers.{Parser}
 use Rattle.js_cursor.specs.declared.stop.Stop.{Stop}
 use Rattle.js_cursor.specs.declared.stop.Stop.TheVariants.{Fatal, NoMemory}
-use Rattle.js_parsing.specs.Answers.{Numbered, Stops, Underived, unclean}
-use Rattle.js_parsing.specs.Classes.{IsEarly}
-use Rattle.js_parsing.specs.Lexemes.{Lex, other_goals, spot, nowhere}
-use Rattle.js_parsing.specs.Moves.{Moved, MadeHere, plain_label}
-use Rattle.js_parsing.specs.Stands.{StandsHere}
-use Rattle.js_parsing.specs.States.{At, Same, NodesLie}
-use Rattle.js_parsing.specs.Statements.{placed, after_statement, NoStatement, Statement}
-use Rattle.js_parsing.proofs.Edges.{last_edge}
-use Rattle.js_parsing.proofs.Giving.{kept_one, fails_unescaped}
-use Rattle.js_parsing.proofs.Here.{kind_here, unsettled}
-use Rattle.js_parsing.proofs.MadeNodes.{node_held, one_lies, made_lies}
-use Rattle.js_parsing.proofs.Moving.{beside_nodes, same_both, same_itself, same_with, stops_behind, stops_so}
-use Rattle.js_parsing.proofs.Paths.{Path, ◌⟼◌, ◌⟶◌, ◌⟶✗◌, at_kind, fails_at, label_here, last_called, last_token, noded, noded_by, by_symbol_as, token, walked_to}
-use Rattle.js_parsing.proofs.Signs.{none_seen, other_kind, plain_sign, stands_not}
-use Rattle.js_parsing.proofs.Told.{told_at, told_same}
-use Rattle.js_parsing.proofs.Verdicts.{grown_then, verdict_of}
-use Rattle.js_parsing.proofs.Verdicts.{after as grown_behind}
+use Rattle.js_parsing_laws.specs.Answers.{Numbered, Stops, Underived, unclean}
+use Rattle.js_parsing_laws.specs.Classes.{IsEarly}
+use Rattle.js_parsing_laws.specs.Lexemes.{Lex, other_goals, spot, nowhere}
+use Rattle.js_parsing_laws.specs.Moves.{Moved, MadeHere, plain_label}
+use Rattle.js_parsing_laws.specs.Stands.{StandsHere}
+use Rattle.js_parsing_laws.specs.States.{At, Same, NodesLie}
+use Rattle.js_parsing_laws.specs.Statements.{placed, after_statement, NoStatement, Statement}
+use Rattle.js_parsing_laws.proofs.Edges.{last_edge}
+use Rattle.js_parsing_laws.proofs.Giving.{kept_one, fails_unescaped}
+use Rattle.js_parsing_laws.proofs.Here.{kind_here, unsettled}
+use Rattle.js_parsing_laws.proofs.MadeNodes.{node_held, one_lies, made_lies}
+use Rattle.js_parsing_laws.proofs.Moving.{beside_nodes, same_both, same_itself, same_with, stops_behind, stops_so}
+use Rattle.js_parsing_laws.proofs.Paths.{Path, ◌⟼◌, ◌⟶◌, ◌⟶✗◌, at_kind, fails_at, label_here, last_called, last_token, noded, noded_by, by_symbol_as, token, walked_to}
+use Rattle.js_parsing_laws.proofs.Signs.{none_seen, other_kind, plain_sign, stands_not}
+use Rattle.js_parsing_laws.proofs.Told.{told_at, told_same}
+use Rattle.js_parsing_laws.proofs.Verdicts.{grown_then, verdict_of}
+use Rattle.js_parsing_laws.proofs.Verdicts.{after as grown_behind}
 use Rattle.js_statement_laws.proofs.Blocks.{then_some}
 use Rattle.js_statement_laws.proofs.CompoundStatements.{no_token, then_fails}
 use Rattle.js_statement_laws.proofs.Statements.{by_statement, never_open}

@@ -15,14 +15,14 @@ use Rattle.js_grammar.proofs.Looks.{covers, covered, same_self}
 use Rattle.js_grammar.proofs.Calculus.{◌▹◌, ◌▹✗◌, here_at, left, right, looks, two_ahead, then_by, part_fails, fails_alt, fails_look, fails_lexeme, fails_ahead}
 use Rattle.js_lex.specs.Reading.{is_right_angle}
 use Rattle.js_cursor.specs.Parsers.{Parser}
-use Rattle.js_parsing.specs.Lexemes.{Lex, other_goals, signs}
-use Rattle.js_parsing.specs.Stands.{StandsHere}
-use Rattle.js_parsing.specs.States.{At}
+use Rattle.js_parsing_laws.specs.Lexemes.{Lex, other_goals, signs}
+use Rattle.js_parsing_laws.specs.Stands.{StandsHere}
+use Rattle.js_parsing_laws.specs.States.{At}
 use Rattle.js_operand_laws.specs.Functions.{FunctionNext, NoFunctionHere}
-use Rattle.js_parsing.proofs.Here.{escaped_here, kind_here, settled_kind, told, uncut, unsettled}
-use Rattle.js_parsing.proofs.Paths.{Path}
-use Rattle.js_parsing.proofs.Signs.{none_seen, stands_not}
-use Rattle.js_parsing.proofs.Verdicts.{verdict_of}
+use Rattle.js_parsing_laws.proofs.Here.{escaped_here, kind_here, settled_kind, told, uncut, unsettled}
+use Rattle.js_parsing_laws.proofs.Paths.{Path}
+use Rattle.js_parsing_laws.proofs.Signs.{none_seen, stands_not}
+use Rattle.js_parsing_laws.proofs.Verdicts.{verdict_of}
 use Rattle.js_statement_laws.specs.LetStatements.{behind_let, LetIsName}
 
 -- ---- choices that look one lexeme further

@@ -40,27 +40,27 @@ use Rattle.js_cursor.specs.Parsers.{Parser}
 use Rattle.js_cursor.specs.Places.{goal}
 use Rattle.js_cursor.specs.declared.stop.Stop.{Stop}
 use Rattle.js_cursor.specs.declared.stop.Stop.TheVariants.{Fatal, NoMemory}
-use Rattle.js_parsing.specs.Answers.{Grown, Underived, Numbered, Stops, unclean}
-use Rattle.js_parsing.specs.Lexemes.{Lex, Walked, name_kinds, read_kinds, read_word, nowhere, spot, may_name}
-use Rattle.js_parsing.specs.Stands.{NameHere, StandsHere}
-use Rattle.js_parsing.proofs.NamedFirsts.{fails_unnamed}
-use Rattle.js_parsing.proofs.NameKinds.{listed_here, name_at, a_name}
-use Rattle.js_parsing.specs.Moves.{IsWholeHere, LeafTaken, Moved, MadeHere, plain_label}
-use Rattle.js_parsing.specs.States.{At, Same}
-use Rattle.js_parsing.specs.Statements.{placed, no_link, after_statement, NoStatement, Statement, EndsStatement, NoEnd}
+use Rattle.js_parsing_laws.specs.Answers.{Grown, Underived, Numbered, Stops, unclean}
+use Rattle.js_parsing_laws.specs.Lexemes.{Lex, Walked, name_kinds, read_kinds, read_word, nowhere, spot, may_name}
+use Rattle.js_parsing_laws.specs.Stands.{NameHere, StandsHere}
+use Rattle.js_parsing_laws.proofs.NamedFirsts.{fails_unnamed}
+use Rattle.js_parsing_laws.proofs.NameKinds.{listed_here, name_at, a_name}
+use Rattle.js_parsing_laws.specs.Moves.{IsWholeHere, LeafTaken, Moved, MadeHere, plain_label}
+use Rattle.js_parsing_laws.specs.States.{At, Same}
+use Rattle.js_parsing_laws.specs.Statements.{placed, no_link, after_statement, NoStatement, Statement, EndsStatement, NoEnd}
 use Rattle.js_statement_laws.specs.WordStatements.{ChecksOperand, JumpsHere, TakesLabel, late_operand}
-use Rattle.js_parsing.proofs.Giving.{kept_one, gives_up_here}
-use Rattle.js_parsing.proofs.Here.{found, newline_here, uncut}
+use Rattle.js_parsing_laws.proofs.Giving.{kept_one, gives_up_here}
+use Rattle.js_parsing_laws.proofs.Here.{found, newline_here, uncut}
 use Rattle.js_statement_laws.proofs.Labels.{path_made}
 use Rattle.js_operand_laws.proofs.Members.{word_whole}
-use Rattle.js_parsing.proofs.MadeNodes.{leaf_held, node_held, one_held, one_lies, made_lies}
-use Rattle.js_parsing.proofs.Moving.{moves, same_both, same_itself, same_with, stops_behind}
+use Rattle.js_parsing_laws.proofs.MadeNodes.{leaf_held, node_held, one_held, one_lies, made_lies}
+use Rattle.js_parsing_laws.proofs.Moving.{moves, same_both, same_itself, same_with, stops_behind}
 use Rattle.js_operand_laws.proofs.Operands.{name_leaf}
-use Rattle.js_parsing.proofs.Paths.{Path, ◌⟼◌, ◌⟶◌, ◌⟶✗◌, at_kind, token, last_token, noded, noded_by, by_symbol_as, label_here, walked_both, walked_from, walked_one}
+use Rattle.js_parsing_laws.proofs.Paths.{Path, ◌⟼◌, ◌⟶◌, ◌⟶✗◌, at_kind, token, last_token, noded, noded_by, by_symbol_as, label_here, walked_both, walked_from, walked_one}
 use Rattle.js_statement_laws.proofs.Statements.{◌⟝◌, by_statement, by_such_statement, closes_or_line, either_of, end_path, ended_so, expression_path, never_open, no_close, no_semicolon, no_symbol, omits_at_end, omitted_so, semicolon_closes, semicolon_look, semicolon_path, to_semicolon_of, unended, whole_semicolon}
-use Rattle.js_parsing.proofs.Ahead.{pass_over}
-use Rattle.js_parsing.proofs.Told.{told_at, told_same}
-use Rattle.js_parsing.proofs.Verdicts.{after as grown_behind, grown_both, grown_first, grown_on, grown_then, verdict_of}
+use Rattle.js_parsing_laws.proofs.Ahead.{pass_over}
+use Rattle.js_parsing_laws.proofs.Told.{told_at, told_same}
+use Rattle.js_parsing_laws.proofs.Verdicts.{after as grown_behind, grown_both, grown_first, grown_on, grown_then, verdict_of}
 
 -- ---- a statement of one nonterminal alone
 

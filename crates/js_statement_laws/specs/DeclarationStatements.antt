@@ -12,10 +12,10 @@ use Rattle.js_tree.specs.Holding.{Holds, Keeps}
 use Rattle.js_tree.specs.Labels.{declaration_kind}
 use Rattle.js_cursor.specs.Parsers.{Parser}
 use Rattle.js_cursor.specs.declared.stop.Stop.{Stop}
-use Rattle.js_parsing.specs.Answers.{Verdict, Stretch, Stops}
-use Rattle.js_parsing.specs.Lexemes.{Lex, Walked, spot}
-use Rattle.js_parsing.specs.States.{At, Same}
-use Rattle.js_parsing.specs.Statements.{no_link}
+use Rattle.js_parsing_laws.specs.Answers.{Verdict, Stretch, Stops}
+use Rattle.js_parsing_laws.specs.Lexemes.{Lex, Walked, spot}
+use Rattle.js_parsing_laws.specs.States.{At, Same}
+use Rattle.js_parsing_laws.specs.Statements.{no_link}
 
 -- the right side of its line
 abbrev pub declaration : DeclarationKind → Flags → G

@@ -15,11 +15,11 @@ use Rattle.js_tree.specs.declared.kind.NodeKind.TheVariants as node
 use Rattle.js_tree.specs.Holding.{HoldsAll, Keeps}
 use Rattle.js_cursor.specs.Parsers.{Parser}
 use Rattle.js_cursor.specs.declared.stop.Stop.{Stop}
-use Rattle.js_parsing.specs.Answers.{Grown, Verdict, Stretch, Stops}
-use Rattle.js_parsing.specs.Lexemes.{Lex, Walked, spot}
-use Rattle.js_parsing.specs.Stands.{StandsHere}
-use Rattle.js_parsing.specs.States.{At, Same}
-use Rattle.js_parsing.proofs.Paths.{Path}
+use Rattle.js_parsing_laws.specs.Answers.{Grown, Verdict, Stretch, Stops}
+use Rattle.js_parsing_laws.specs.Lexemes.{Lex, Walked, spot}
+use Rattle.js_parsing_laws.specs.Stands.{StandsHere}
+use Rattle.js_parsing_laws.specs.States.{At, Same}
+use Rattle.js_parsing_laws.proofs.Paths.{Path}
 use Rattle.js_statement_laws.specs.declared.forms.Ending.{Ending}
 use Rattle.js_statement_laws.specs.declared.forms.Ending.TheVariants as ending
 

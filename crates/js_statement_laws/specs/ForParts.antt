@@ -6,7 +6,7 @@ use Rattle.js_base.specs.declared.diagnostic.DiagnosticKind.TheVariants as fault
 use Rattle.js_base.specs.declared.kind.Kind.{Kind}
 use Rattle.js_base.specs.declared.span.Span.{Span}
 use Rattle.js_base.specs.declared.token.Token.{Token}
-use Rattle.js_parsing.specs.Told.{unrelated_at}
+use Rattle.js_parsing_laws.specs.Told.{unrelated_at}
 use Rattle.js_base.specs.declared.kind.Kind.TheVariants as kind
 use Rattle.js_grammar.specs.Trees.{Label, Slots, tree}
 use Rattle.js_grammar.specs.Grammar.{nothing}
@@ -19,11 +19,11 @@ use Rattle.js_tree.specs.Holding.{Holds, Keeps}
 use Rattle.js_cursor.specs.Moves.{Keeps as KeepsOne}
 use Rattle.js_cursor.specs.Parsers.{Parser}
 use Rattle.js_cursor.specs.declared.stop.Stop.{Stop}
-use Rattle.js_parsing.specs.Answers.{Numbered, Stops}
-use Rattle.js_parsing.specs.Classes.{IsEarly}
-use Rattle.js_parsing.specs.Stands.{StandsHere}
-use Rattle.js_parsing.specs.States.{At, Same}
-use Rattle.js_parsing.proofs.Paths.{Path}
+use Rattle.js_parsing_laws.specs.Answers.{Numbered, Stops}
+use Rattle.js_parsing_laws.specs.Classes.{IsEarly}
+use Rattle.js_parsing_laws.specs.Stands.{StandsHere}
+use Rattle.js_parsing_laws.specs.States.{At, Same}
+use Rattle.js_parsing_laws.proofs.Paths.{Path}
 use Rattle.js_targets.specs.Taken.{goes_through}
 use Rattle.js_expression_laws.specs.HeadOperands.{HeadOperand, NoTargetPart}
 use Rattle.js_declarations.specs.HeadDeclarators.{ThroughHere}

@@ -11,9 +11,9 @@ use Rattle.js_tree.specs.declared.kind.NodeKind.{NodeKind}
 use Rattle.js_tree.specs.declared.op.Op.TheVariants as op
 use Rattle.js_cursor.specs.Moves.{Keeps}
 use Rattle.js_cursor.specs.Parsers.{Parser}
-use Rattle.js_parsing.specs.Moves.{Moves, plain_label}
-use Rattle.js_parsing.specs.Stands.{StandsHere}
-use Rattle.js_parsing.specs.Told.{unrelated_at}
+use Rattle.js_parsing_laws.specs.Moves.{Moves, plain_label}
+use Rattle.js_parsing_laws.specs.Stands.{StandsHere}
+use Rattle.js_parsing_laws.specs.Told.{unrelated_at}
 use Rattle.js_statement_laws.specs.declared.forms.Ending.{Ending}
 use Rattle.js_statement_laws.specs.declared.forms.Ending.TheVariants as ending
 

@@ -6,7 +6,7 @@ use Rattle.js_base.specs.declared.diagnostic.DiagnosticKind.TheVariants.{AsyncFu
 use Rattle.js_base.specs.declared.span.Span.{Span}
 use Rattle.js_cursor.specs.Moves.{Keeps}
 use Rattle.js_cursor.specs.Parsers.{Parser}
-use Rattle.js_parsing.specs.Told.{unrelated_at}
+use Rattle.js_parsing_laws.specs.Told.{unrelated_at}
 
 -- what is told of an asynchronous function that stands so, or else of a generator
 abbrev pub fault_of_body : Bool → DiagnosticKind

@@ -13,11 +13,11 @@ use Rattle.js_tree.specs.declared.op.DeclarationKind.{DeclarationKind}
 use Rattle.js_tree.specs.declared.op.DeclarationKind.TheVariants as declared
 use Rattle.js_cursor.specs.Parsers.{Parser}
 use Rattle.js_cursor.specs.declared.stop.Stop.{Stop}
-use Rattle.js_parsing.specs.Lexemes.{Lex}
-use Rattle.js_parsing.specs.Stands.{StandsHere}
-use Rattle.js_parsing.specs.States.{At}
-use Rattle.js_parsing.specs.Statements.{TakesStatement, placed}
-use Rattle.js_parsing.specs.Told.{unrelated_at}
+use Rattle.js_parsing_laws.specs.Lexemes.{Lex}
+use Rattle.js_parsing_laws.specs.Stands.{StandsHere}
+use Rattle.js_parsing_laws.specs.States.{At}
+use Rattle.js_parsing_laws.specs.Statements.{TakesStatement, placed}
+use Rattle.js_parsing_laws.specs.Told.{unrelated_at}
 
 -- Before these `let` begins a declaration: in a list of statements a word that may be bound, `[` and `{`; as the body of another one `[` alone.
 abbrev pub behind_let : Bool → Kind → Bool

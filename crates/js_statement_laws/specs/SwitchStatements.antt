@@ -18,10 +18,10 @@ use Rattle.js_cursor.specs.Moves.{Keeps as KeepsOne}
 use Rattle.js_cursor.specs.Parsers.{Parser}
 use Rattle.js_cursor.specs.Places.{goal}
 use Rattle.js_cursor.specs.declared.stop.Stop.{Stop}
-use Rattle.js_parsing.specs.Answers.{Grown, Verdict, Stretch, Stops}
-use Rattle.js_parsing.specs.Lexemes.{Lex, Walked, spot}
-use Rattle.js_parsing.specs.Stands.{StandsHere}
-use Rattle.js_parsing.specs.States.{At, Same}
+use Rattle.js_parsing_laws.specs.Answers.{Grown, Verdict, Stretch, Stops}
+use Rattle.js_parsing_laws.specs.Lexemes.{Lex, Walked, spot}
+use Rattle.js_parsing_laws.specs.Stands.{StandsHere}
+use Rattle.js_parsing_laws.specs.States.{At, Same}
 use Rattle.js_statement_laws.specs.StatementLists.{NoList, OneTaken, Taken, at_end, statements}
 use Rattle.js_statement_laws.specs.declared.forms.StatementList.TheVariants.{Block, Clause}
 use Rattle.js_statement_laws.specs.declared.forms.Defaults.{Defaults}

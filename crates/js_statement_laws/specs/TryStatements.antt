@@ -16,11 +16,11 @@ use Rattle.js_tree.specs.Holding.{Holds, HoldsAll, Keeps}
 use Rattle.js_cursor.specs.Parsers.{Parser}
 use Rattle.js_cursor.specs.declared.stop.Stop.{Stop}
 use Rattle.js_cursor.specs.declared.stop.Stop.TheVariants.{Fatal, NoMemory}
-use Rattle.js_parsing.specs.Answers.{Verdict, Stretch, Stops}
-use Rattle.js_parsing.specs.Lexemes.{Lex, Walked, spot}
-use Rattle.js_parsing.specs.Stands.{StandsHere}
-use Rattle.js_parsing.specs.States.{At, Same}
-use Rattle.js_parsing.specs.Told.{unrelated_at}
+use Rattle.js_parsing_laws.specs.Answers.{Verdict, Stretch, Stops}
+use Rattle.js_parsing_laws.specs.Lexemes.{Lex, Walked, spot}
+use Rattle.js_parsing_laws.specs.Stands.{StandsHere}
+use Rattle.js_parsing_laws.specs.States.{At, Same}
+use Rattle.js_parsing_laws.specs.Told.{unrelated_at}
 
 -- a CatchParameter in its parentheses
 abbrev pub parameter_of : Flags → G

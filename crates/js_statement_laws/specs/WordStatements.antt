@@ -14,11 +14,11 @@ use Rattle.js_cursor.specs.Moves.{GivesUp, IsUnexpected, Keeps, MayEnd}
 use Rattle.js_cursor.specs.Parsers.{Parser}
 use Rattle.js_cursor.specs.declared.stop.Stop.{Stop}
 use Rattle.js_cursor.specs.declared.stop.Stop.TheVariants.{Fatal, NoMemory}
-use Rattle.js_parsing.specs.Answers.{Numbered, Stops, Underived}
-use Rattle.js_parsing.specs.States.{At}
-use Rattle.js_parsing.specs.Told.{unrelated_at}
-use Rattle.js_parsing.specs.Stands.{NameHere, StandsHere}
-use Rattle.js_parsing.specs.Moves.{TakesLeaf}
+use Rattle.js_parsing_laws.specs.Answers.{Numbered, Stops, Underived}
+use Rattle.js_parsing_laws.specs.States.{At}
+use Rattle.js_parsing_laws.specs.Told.{unrelated_at}
+use Rattle.js_parsing_laws.specs.Stands.{NameHere, StandsHere}
+use Rattle.js_parsing_laws.specs.Moves.{TakesLeaf}
 
 -- the word stands here that such a node begins with
 abbrev pub JumpsHere : NodeKind → Parser → Type 0

@@ -1,7 +1,7 @@
 //! Where lists of statements stand, and what parts of statements were read (ECMA-262, chapter 14).
 
 ghost use Rattle.std.specs.Prelude.{◌≡◌, true, false};
-ghost use Rattle.js_parsing.specs.NodeTexts.{is_textual};
+ghost use Rattle.js_parsing_laws.specs.NodeTexts.{is_textual};
 ghost use Rattle.js_statement_laws.specs.ForHeads.{node_of};
 ghost use Rattle.js_statement_laws.specs.ForWords.{is_of};
 ghost use Rattle.js_statement_laws.specs.StatementLists.{ends_at, has_directives};

@@ -2,13 +2,13 @@
 
 ghost use Rattle.js_grammar.specs.Productions.{at, Expression};
 ghost use Rattle.js_expression_laws.specs.HeadOperands.{TellsOperand};
-ghost use Rattle.js_parsing.specs.Answers.{Answers};
-ghost use Rattle.js_parsing.specs.Nesting.{CanNest, room};
-ghost use Rattle.js_parsing.specs.States.{Standing};
+ghost use Rattle.js_parsing_laws.specs.Answers.{Answers};
+ghost use Rattle.js_parsing_laws.specs.Nesting.{CanNest, room};
+ghost use Rattle.js_parsing_laws.specs.States.{Standing};
 
 use js_cursor::{ParserImpl, Stop};
 use js_lex::ParserConfig;
-use js_parsing::nested::Nested;
+use js_parsing_laws::nested::Nested;
 use js_tree::NodeId;
 
 /// What may be read deeper, and an Expression in place: statements are proved beside expressions, and not over them.

@@ -6,9 +6,9 @@ ghost use Rattle.js_grammar.specs.Marks.{Mark};
 ghost use Rattle.js_grammar.specs.Productions.{at, ListItem, Sub};
 ghost use Rattle.js_cursor.specs.Places.{IsAt, goal};
 ghost use Rattle.js_operand_laws.specs.Functions.{BeginsFunction};
-ghost use Rattle.js_parsing.specs.Nesting.{CanNest, room};
-ghost use Rattle.js_parsing.specs.States.{Standing};
-ghost use Rattle.js_parsing.specs.Statements.{TakesStatement};
+ghost use Rattle.js_parsing_laws.specs.Nesting.{CanNest, room};
+ghost use Rattle.js_parsing_laws.specs.States.{Standing};
+ghost use Rattle.js_parsing_laws.specs.Statements.{TakesStatement};
 ghost use Rattle.js_statement_laws.specs.FunctionStatements.{ChecksPlain, fault_of_body, told_of_body};
 
 use js_base::{DiagnosticKind, NoMemory, Span};
@@ -17,7 +17,7 @@ use js_lex::ParserConfig;
 use js_literals::function::{make_function, parse_function_parts};
 use js_operand_laws::forms::FunctionForm;
 use js_parsing::diagnostics::diagnostic_at;
-use js_parsing::nested::Nested;
+use js_parsing_laws::nested::Nested;
 use js_tree::{NodeId, NodeKind};
 
 /// A FunctionDeclaration or its kin in a list of statements (ECMA-262, sections 15.2, 15.5, 15.6 and 15.8).

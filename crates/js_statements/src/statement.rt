@@ -6,13 +6,13 @@ ghost use Rattle.js_base.specs.Contexts.{has_flag, in_flag};
 ghost use Rattle.js_base.specs.declared.kind.Kind.TheVariants.{Colon, Const, Semicolon};
 ghost use Rattle.js_grammar.specs.Productions.{at, ListItem, Sub};
 ghost use Rattle.js_operand_laws.specs.Functions.{NoFunctionHere};
-ghost use Rattle.js_parsing.specs.Answers.{Stops};
-ghost use Rattle.js_parsing.specs.Lexemes.{keyword_kind};
-ghost use Rattle.js_parsing.specs.Nesting.{CanNest, room};
-ghost use Rattle.js_parsing.specs.NodeTexts.{SpellsName};
-ghost use Rattle.js_parsing.specs.Stands.{StandsHere};
-ghost use Rattle.js_parsing.specs.States.{Standing};
-ghost use Rattle.js_parsing.specs.Statements.{EndsStatement, IsLabel, LabelsStatement, NoEnd, TakesAnywhere, TakesStatement, link_kinds, statement_kinds};
+ghost use Rattle.js_parsing_laws.specs.Answers.{Stops};
+ghost use Rattle.js_parsing_laws.specs.Lexemes.{keyword_kind};
+ghost use Rattle.js_parsing_laws.specs.Nesting.{CanNest, room};
+ghost use Rattle.js_parsing_laws.specs.NodeTexts.{SpellsName};
+ghost use Rattle.js_parsing_laws.specs.Stands.{StandsHere};
+ghost use Rattle.js_parsing_laws.specs.States.{Standing};
+ghost use Rattle.js_parsing_laws.specs.Statements.{EndsStatement, IsLabel, LabelsStatement, NoEnd, TakesAnywhere, TakesStatement, link_kinds, statement_kinds};
 ghost use Rattle.js_statement_laws.specs.LetStatements.{TakesUndeclared};
 
 use crate::block::parse_block_statement;
@@ -36,8 +36,8 @@ use js_loops::declaration_statement::{
 };
 use js_loops::for_statement::parse_for_statement;
 use js_parsing::lexemes::{advance, escaped_word_stands, is_name_here};
-use js_parsing::nested::Nested;
 use js_parsing::nodes::{make_name, make_one, make_two};
+use js_parsing_laws::nested::Nested;
 use js_statement_laws::sequences::Sequences;
 use js_tree::{NodeId, NodeKind, Op};
 

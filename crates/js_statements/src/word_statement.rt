@@ -6,11 +6,11 @@ ghost use Rattle.js_base.specs.Contexts.{has_flag, in_flag};
 ghost use Rattle.js_base.specs.declared.kind.Kind.TheVariants.{Break, Continue, Debugger, Return, Throw};
 ghost use Rattle.js_grammar.specs.Marks.{Mark};
 ghost use Rattle.js_cursor.specs.Places.{IsAt, goal};
-ghost use Rattle.js_parsing.specs.Stands.{StandsHere};
-ghost use Rattle.js_parsing.specs.Nesting.{CanNest, room};
-ghost use Rattle.js_parsing.specs.NodeTexts.{is_textual};
-ghost use Rattle.js_parsing.specs.States.{Standing};
-ghost use Rattle.js_parsing.specs.Statements.{TakesAnywhere};
+ghost use Rattle.js_parsing_laws.specs.Stands.{StandsHere};
+ghost use Rattle.js_parsing_laws.specs.Nesting.{CanNest, room};
+ghost use Rattle.js_parsing_laws.specs.NodeTexts.{is_textual};
+ghost use Rattle.js_parsing_laws.specs.States.{Standing};
+ghost use Rattle.js_parsing_laws.specs.Statements.{TakesAnywhere};
 ghost use Rattle.js_statement_laws.specs.WordStatements.{ChecksOperand, ChecksReturn, JumpsHere, TakesArgument, TakesLabel, late_operand, stray_return};
 
 use js_base::{DiagnosticKind, Kind, NoMemory, Span};

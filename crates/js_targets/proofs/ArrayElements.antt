@@ -10,7 +10,7 @@ use Rattle.js_grammar.specs.Insertion.{assign_operators}
 use Rattle.js_grammar.specs.Productions.{G, Flags, Name, Symbol, at, tok, op, branches, plus_in, Argument, Assignment, Conditional, Short, Coalesce, Or, And, BitOr, BitXor, BitAnd, Equality, Relational, Shift, Additive, Multiply, Exponent, Unary, Update, LeftHandSide, New, Member, Call, Chain, Primary, IdentifierReference, Object, FuncExpr, ClassExpr, Template, Arrow', Yield, SimpleTarget, ArrayTarget, ObjectTarget, Target}
 use Rattle.js_grammar.specs.Productions.{sym as symbol}
 use Rattle.js_grammar.specs.Table.{rule, rule_of}
-use Rattle.js_parsing.specs.ArrayLiterals.{elements}
+use Rattle.js_parsing_laws.specs.ArrayLiterals.{elements}
 use Rattle.js_targets.specs.Targets.{is_elision, is_spread, is_property, is_assignment, is_equals, is_wide}
 
 -- ---- no operand is a gap, a spread, a property or an assignment

@@ -15,7 +15,7 @@ use Rattle.js_grammar.specs.Insertion.{is_word, may_bind, other_operators}
 use Rattle.js_grammar.proofs.Frame.{framed}
 use Rattle.js_grammar.proofs.Looks.{covers, covered}
 use Rattle.js_targets.specs.Targets.{is_array}
-use Rattle.js_parsing.proofs.FreeOfIn.{any_in}
+use Rattle.js_parsing_laws.proofs.FreeOfIn.{any_in}
 use Rattle.js_targets.proofs.Targets.{by_primary, of_assignment, target_left_hand_side}
 
 -- a tree of the symbol

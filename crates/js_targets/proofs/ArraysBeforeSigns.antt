@@ -18,13 +18,13 @@ use Rattle.js_grammar.proofs.Calculus.{ends, here_at, label_is}
 use Rattle.js_grammar.proofs.FollowLaws.{admits}
 use Rattle.js_grammar.proofs.Looks.{covers, covered}
 use Rattle.js_cursor.specs.Parsers.{Parser}
-use Rattle.js_parsing.specs.Answers.{Answer, Stretch, Underived}
-use Rattle.js_parsing.specs.Lexemes.{Lex}
-use Rattle.js_parsing.specs.States.{At}
+use Rattle.js_parsing_laws.specs.Answers.{Answer, Stretch, Underived}
+use Rattle.js_parsing_laws.specs.Lexemes.{Lex}
+use Rattle.js_parsing_laws.specs.States.{At}
 use Rattle.js_targets.specs.Targets.{is_array, is_literal, is_object, target_of}
 use Rattle.js_targets.proofs.ArrayTargets.{array_up, object_up}
 use Rattle.js_targets.proofs.Targets.{by_primary, of_short}
-use Rattle.js_parsing.proofs.Verdicts.{either_way}
+use Rattle.js_parsing_laws.proofs.Verdicts.{either_way}
 
 -- the slots of an assignment to an array or object target
 abbrev pub array_slots : Flags → G

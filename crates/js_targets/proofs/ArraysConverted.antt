@@ -19,14 +19,14 @@ use Rattle.js_grammar.proofs.Looks.{covers, covered}
 use Rattle.js_grammar.specs.Marks.{loose}
 use Rattle.js_grammar.proofs.Loose.{strict_is_loose}
 use Rattle.js_grammar.proofs.Calculus.{ends, label_is, slots_are}
-use Rattle.js_parsing.specs.Answers.{Stretch, Underived}
-use Rattle.js_parsing.specs.Lexemes.{Lex, other_goals}
+use Rattle.js_parsing_laws.specs.Answers.{Stretch, Underived}
+use Rattle.js_parsing_laws.specs.Lexemes.{Lex, other_goals}
 use Rattle.js_targets.specs.Taken.{behind_target, target_name}
 use Rattle.js_targets.specs.Targets.{Each, Fits, Narrow, Shut, Spotted, in_literal, is_array, literal_kind, relabelled, pattern_kind, elements_in, places_in}
 use Rattle.js_targets.specs.declared.widening.Widening.{Widening}
 use Rattle.js_targets.specs.declared.widening.Widening.TheVariants.{Rest, RestTarget, Operator}
 use Rattle.js_targets.proofs.Spots.{literal_spots}
-use Rattle.js_parsing.proofs.Here.{alike_plain}
+use Rattle.js_parsing_laws.proofs.Here.{alike_plain}
 use Rattle.js_targets.proofs.LiteralsAsTargets.{Targeted, literal_target, bracket_plain}
 use Rattle.js_targets.proofs.Targets.{by_primary, is_literal_kind, may_literal, of_short}
 use Rattle.js_targets.proofs.TargetsAsLiterals.{literal_back}

@@ -22,20 +22,20 @@ use Rattle.js_grammar.proofs.Calculus.{Between, inside_full, ◌▹◌, both, st
 use Rattle.js_grammar.proofs.FollowLaws.{admits, passes_on, same_read}
 use Rattle.js_cursor.specs.Parsers.{Parser}
 use Rattle.js_cursor.specs.Moves.{is_last}
-use Rattle.js_parsing.proofs.Giving.{fails_unescaped}
-use Rattle.js_parsing.specs.Answers.{Underived, Answer}
-use Rattle.js_parsing.specs.States.{At}
-use Rattle.js_parsing.specs.Lexemes.{Lex, other_goals, read_kinds}
+use Rattle.js_parsing_laws.proofs.Giving.{fails_unescaped}
+use Rattle.js_parsing_laws.specs.Answers.{Underived, Answer}
+use Rattle.js_parsing_laws.specs.States.{At}
+use Rattle.js_parsing_laws.specs.Lexemes.{Lex, other_goals, read_kinds}
 use Rattle.js_targets.specs.Others.{NoYield, OnlyOthers}
 use Rattle.js_targets.specs.Targets.{target_of}
 use Rattle.js_targets.proofs.Covers.{row_of_target, target_path, target_fails, target_unread}
 use Rattle.js_targets.proofs.ArraysBeforeSigns.{array_part, no_array_part, no_array_unread}
 use Rattle.js_targets.specs.Targets.{is_literal}
-use Rattle.js_parsing.proofs.Dead.{live, lives}
-use Rattle.js_parsing.proofs.Paths.{Path, fails_at, ◌⟶✗◌}
-use Rattle.js_parsing.proofs.Signs.{other_kind}
+use Rattle.js_parsing_laws.proofs.Dead.{live, lives}
+use Rattle.js_parsing_laws.proofs.Paths.{Path, fails_at, ◌⟶✗◌}
+use Rattle.js_parsing_laws.proofs.Signs.{other_kind}
 use Rattle.js_targets.proofs.Targets.{of_short}
-use Rattle.js_parsing.proofs.Verdicts.{verdict_of}
+use Rattle.js_parsing_laws.proofs.Verdicts.{verdict_of}
 
 abbrev pub an_assign : Look
 an_assign k w e = one_of_kinds assign_operators k && not e

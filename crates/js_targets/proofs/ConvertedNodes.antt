@@ -15,7 +15,7 @@ use Rattle.js_tree.specs.Labels.{kind_of}
 use Rattle.js_tree.specs.Nodes.{Node, label, node_at, empty_program}
 use Rattle.js_tree.specs.Holding.{Stands, StandsAll, no_slots, next_child, next_hole, AreDistinct, AreWithin, Holds, Keeps}
 use Rattle.js_tree.proofs.HoldingLemmas.{Stands-kept, Stands-within, Keeps-refl, Keeps-trans, Keeps-made, Keeps-longer, AreWithin-wider, StandsAll-wider}
-use Rattle.js_parsing.specs.Moves.{plain_label}
+use Rattle.js_parsing_laws.specs.Moves.{plain_label}
 use Rattle.js_targets.specs.Targets.{Within, in_literal, in_property, within, is_parens, is_elision, is_spread, is_property, is_assignment, operator_places, literal_places, argument_places, property_places, is_object, is_literal, is_target, is_pattern, pattern_kind, target_of, target_in, Stood, Only, relabelled, literal_tree, target_by, slot_of, rest_slot, reference_slot, behind_first, shorthand_slot, named_slot, property_slot, element_slot, are_none, followed, before_all, elements_in, places_of, places_in, made_span, Noted, unnoted, Blames, IsIn, Slotted, Converts, Refuses, Converted, converts, refuses, one_slot, one_node, OfNode, Noded}
 use Rattle.js_targets.specs.declared.widening.Widening.{Widening}
 use Rattle.js_targets.specs.declared.widening.Widening.TheVariants.{Rest}
@@ -25,10 +25,10 @@ use Rattle.js_targets.proofs.TargetsAsLiterals.{target_kind}
 use Rattle.js_targets.proofs.CoveredNodes.{empty_parens}
 use Rattle.js_targets.proofs.ReusedNodes.{Children, children_of, in_left, in_right, distinct_left, distinct_right, distinct_apart, slotted_on, slotted_none, slotted_hole, slotted_wider, slotted_old, slotted_node, reused_own}
 use Rattle.js_tree.specs.Sources.{text_of}
-use Rattle.js_parsing.specs.NodeTexts.{NodeFits}
-use Rattle.js_parsing.proofs.NodeTexts.{untextual}
-use Rattle.js_parsing.specs.States.{NodesLie}
-use Rattle.js_parsing.proofs.MadeNodes.{LabelLies}
+use Rattle.js_parsing_laws.specs.NodeTexts.{NodeFits}
+use Rattle.js_parsing_laws.proofs.NodeTexts.{untextual}
+use Rattle.js_parsing_laws.specs.States.{NodesLie}
+use Rattle.js_parsing_laws.proofs.MadeNodes.{LabelLies}
 use Rattle.js_base.specs.Spans.{LiesIn}
 use Rattle.std.proofs.lemmas.List.Elements.{All-same, All-push, All-get_or}
 

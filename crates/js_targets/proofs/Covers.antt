@@ -14,14 +14,14 @@ use Rattle.js_grammar.specs.Follow.{edge_of, row_of, follow, after}
 use Rattle.js_grammar.proofs.Calculus.{ends, here_at, label_is, slots_are}
 use Rattle.js_grammar.proofs.FollowLaws.{admits}
 use Rattle.js_cursor.specs.Parsers.{Parser}
-use Rattle.js_parsing.specs.Answers.{Answer, Stretch}
-use Rattle.js_parsing.specs.Lexemes.{Lex, Walked, Spot, nowhere, one_more, read_again, more_faults}
-use Rattle.js_parsing.specs.States.{At}
+use Rattle.js_parsing_laws.specs.Answers.{Answer, Stretch}
+use Rattle.js_parsing_laws.specs.Lexemes.{Lex, Walked, Spot, nowhere, one_more, read_again, more_faults}
+use Rattle.js_parsing_laws.specs.States.{At}
 use Rattle.js_targets.specs.Targets.{target_of}
-use Rattle.js_parsing.proofs.Here.{begins_here}
-use Rattle.js_parsing.proofs.Paths.{Path}
+use Rattle.js_parsing_laws.proofs.Here.{begins_here}
+use Rattle.js_parsing_laws.proofs.Paths.{Path}
 use Rattle.js_targets.proofs.Targets.{Passes, may_target, left_hand_side_target, target_left_hand_side}
-use Rattle.js_parsing.proofs.Verdicts.{verdict_of, either_way}
+use Rattle.js_parsing_laws.proofs.Verdicts.{verdict_of, either_way}
 
 is_the : {a b : Tree} → Some a ≡ Some b → a ≡ b
 is_the e = cc

@@ -15,10 +15,10 @@ use Rattle.js_grammar.proofs.FollowLaws.{admits}
 use Rattle.js_grammar.proofs.Looks.{covers, covered}
 use Rattle.js_tree.specs.declared.id.NodeId.{NodeId}
 use Rattle.js_cursor.specs.Parsers.{Parser}
-use Rattle.js_parsing.specs.Answers.{Answer, Underived}
-use Rattle.js_parsing.specs.Lexemes.{Lex}
-use Rattle.js_parsing.proofs.Paths.{Path, ◌⟼◌, by_symbol_as}
-use Rattle.js_parsing.proofs.Verdicts.{either_way}
+use Rattle.js_parsing_laws.specs.Answers.{Answer, Underived}
+use Rattle.js_parsing_laws.specs.Lexemes.{Lex}
+use Rattle.js_parsing_laws.proofs.Paths.{Path, ◌⟼◌, by_symbol_as}
+use Rattle.js_parsing_laws.proofs.Verdicts.{either_way}
 use Rattle.js_targets.specs.Taken.{NoTargetFrom, TargetTaken, behind_target, goes_through, target_name}
 use Rattle.js_targets.specs.Targets.{is_literal, is_object, target_of}
 use Rattle.js_targets.proofs.ArraysBeforeSigns.{is_cover, target_no_literal}

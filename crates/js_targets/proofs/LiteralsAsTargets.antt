@@ -16,9 +16,9 @@ use Rattle.js_grammar.specs.Productions.{sym as symbol}
 use Rattle.js_grammar.specs.Table.{rule, rule_of, rest_of, name}
 use Rattle.js_grammar.proofs.Behind.{lexed_behind}
 use Rattle.js_cursor.proofs.Moving.{reached_next}
-use Rattle.js_parsing.specs.ArrayLiterals.{elements}
-use Rattle.js_parsing.specs.Lexemes.{Lex, other_goals}
-use Rattle.js_parsing.proofs.Characters.{characters}
+use Rattle.js_parsing_laws.specs.ArrayLiterals.{elements}
+use Rattle.js_parsing_laws.specs.Lexemes.{Lex, other_goals}
+use Rattle.js_parsing_laws.proofs.Characters.{characters}
 use Rattle.js_grammar.proofs.Looks.{apart, not_both}
 use Rattle.std.specs.Prelude.{IsUtf8, IsCharBoundary}
 use Rattle.js_targets.specs.Taken.{target_name}
@@ -28,7 +28,7 @@ use Rattle.js_targets.specs.declared.widening.Widening.TheVariants.{Rest, RestTa
 use Rattle.js_targets.proofs.ArrayTargets.{with_operator}
 use Rattle.js_targets.proofs.ArrayElements.{a_slots, a_part, operated_line, gap_label, no_gap, Initialised, initialised, Step, closes, gap, item, final, step_of, Element, an_expression, a_spread, element_of}
 use Rattle.js_targets.proofs.Properties.{property_label, shorthand_line, PropertyOf, a_shorthand, a_value, a_method, a_spread as a_spread_property, property_of, properties_on, PropertyStep, shuts, property, last_property, property_step}
-use Rattle.js_parsing.proofs.FreeOfIn.{any_in}
+use Rattle.js_parsing_laws.proofs.FreeOfIn.{any_in}
 use Rattle.js_targets.proofs.Targets.{may_literal, is_literal_kind, Literal, of_array, of_object, literal_shape, of_assignment, may_target, left_hand_side_target}
 
 -- ---- what stands behind a rest

@@ -16,29 +16,29 @@ use Rattle.js_base.proofs.KindLemmas.{kind_of_same}
 use Rattle.js_grammar.specs.Grammar.{Lexeme}
 use Rattle.js_grammar.specs.Lexemes.{division, is_word, is_escaped}
 use Rattle.js_grammar.specs.Marks.{Mark, a_lexeme, the_start, the_end}
-use Rattle.js_parsing.specs.Told.{unrelated_at}
+use Rattle.js_parsing_laws.specs.Told.{unrelated_at}
 use Rattle.js_grammar.specs.Productions.{Flags}
 use Rattle.js_grammar.specs.Settings.{Goal}
 use Rattle.js_lex.specs.Reading.{cut, is_right_angle, Tells, GivesLexeme, GivesNone, GivesBehind, Outcome}
 use Rattle.js_lex.proofs.Again.{cut_same}
 use Rattle.js_cursor.specs.Parsers.{Parser}
-use Rattle.js_parsing.specs.Answers.{Grown, Verdict, clean, unclean, wider}
-use Rattle.js_parsing.specs.Lexemes.{Lex, other_goals}
+use Rattle.js_parsing_laws.specs.Answers.{Grown, Verdict, clean, unclean, wider}
+use Rattle.js_parsing_laws.specs.Lexemes.{Lex, other_goals}
 use Rattle.js_base.specs.Diagnostics.{class_of}
-use Rattle.js_parsing.specs.Classes.{IsEarly}
+use Rattle.js_parsing_laws.specs.Classes.{IsEarly}
 use Rattle.js_targets.specs.Taken.{PlaceTold, PlacesTold, TellsOf}
-use Rattle.js_parsing.specs.States.{At, Same}
+use Rattle.js_parsing_laws.specs.States.{At, Same}
 use Rattle.js_targets.specs.declared.widening.Widening.{Widening}
 use Rattle.js_targets.specs.declared.widening.Widening.TheVariants.{Rest, RestTarget, Operator}
 use Rattle.js_targets.specs.Targets.{Each, Open, Closed, Followed, Ended, Narrow, Fits, Spanned, Spotted}
-use Rattle.js_parsing.proofs.Giving.{kept_one}
-use Rattle.js_parsing.proofs.Here.{alike_plain, plainly, one_plain}
+use Rattle.js_parsing_laws.proofs.Giving.{kept_one}
+use Rattle.js_parsing_laws.proofs.Here.{alike_plain, plainly, one_plain}
 use Rattle.js_targets.proofs.LiteralsAsTargets.{lexeme_between, bracket_plain}
-use Rattle.js_parsing.proofs.Moving.{same_both, same_itself}
-use Rattle.js_parsing.proofs.Paths.{read_of}
-use Rattle.js_parsing.proofs.Signs.{plain_of}
-use Rattle.js_parsing.proofs.Told.{told_at, told_same}
-use Rattle.js_parsing.proofs.Verdicts.{grown_both, grown_then}
+use Rattle.js_parsing_laws.proofs.Moving.{same_both, same_itself}
+use Rattle.js_parsing_laws.proofs.Paths.{read_of}
+use Rattle.js_parsing_laws.proofs.Signs.{plain_of}
+use Rattle.js_parsing_laws.proofs.Told.{told_at, told_same}
+use Rattle.js_parsing_laws.proofs.Verdicts.{grown_both, grown_then}
 
 -- it is told of by an early diagnostic
 told_early : (w : Widening) (d : Diagnostic) → TellsOf w d → IsEarly d

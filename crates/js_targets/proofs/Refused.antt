@@ -8,12 +8,12 @@ use Rattle.js_grammar.specs.Follow.{looser}
 use Rattle.js_grammar.proofs.Looks.{covers}
 use Rattle.js_cursor.specs.Parsers.{Parser}
 use Rattle.js_cursor.specs.declared.stop.Stop.{Stop}
-use Rattle.js_parsing.specs.Answers.{Verdict, Stops}
-use Rattle.js_parsing.specs.States.{At, Same}
+use Rattle.js_parsing_laws.specs.Answers.{Verdict, Stops}
+use Rattle.js_parsing_laws.specs.States.{At, Same}
 use Rattle.js_targets.specs.Targets.{target_of}
-use Rattle.js_parsing.proofs.Giving.{gives_up}
-use Rattle.js_parsing.proofs.Moving.{stops_behind}
-use Rattle.js_parsing.proofs.Verdicts.{after as grown_behind}
+use Rattle.js_parsing_laws.proofs.Giving.{gives_up}
+use Rattle.js_parsing_laws.proofs.Moving.{stops_behind}
+use Rattle.js_parsing_laws.proofs.Verdicts.{after as grown_behind}
 use Rattle.js_grammar.specs.Trees.{NodeKind, Op, Label, Slots, end, tree, Tree, array_expression, object_expression}
 use Rattle.js_grammar.specs.Grammar.{Takes, is_such}
 use Rattle.js_grammar.specs.Table.{rule}
@@ -24,7 +24,7 @@ use Rattle.js_grammar.specs.Productions.{sym as symbol}
 use Rattle.js_grammar.specs.Table.{rule_of}
 use Rattle.js_targets.proofs.Assigned.{an_assign}
 use Rattle.js_cursor.specs.Moves.{GivesUp}
-use Rattle.js_parsing.specs.Classes.{EndsParse}
+use Rattle.js_parsing_laws.specs.Classes.{EndsParse}
 
 -- what is said where a call gave up
 pub refused : {text : List ℕ} {f : Flags} {p q : Parser} {W C B F : Type 0} (r : Parser) (e : Stop) → At text f q → Same p q → Verdict W p.errors q.errors C B → GivesUp EndsParse q r e → F → Stops p r e F

@@ -14,7 +14,7 @@ use Rattle.js_grammar.specs.Parsing.{always}
 use Rattle.js_grammar.specs.Productions.{Flags, at, tok, has_flag, shorthand_flag, plus_in, Assignment, LeftHandSide, SimpleTarget}
 use Rattle.js_grammar.specs.Table.{rule, rule_of}
 use Rattle.js_grammar.proofs.Behind.{lexed_behind}
-use Rattle.js_parsing.specs.Lexemes.{Lex}
+use Rattle.js_parsing_laws.specs.Lexemes.{Lex}
 use Rattle.js_targets.specs.declared.widening.Widening.{Widening}
 use Rattle.js_targets.specs.declared.widening.Widening.TheVariants.{Rest, RestTarget, Operator}
 use Rattle.js_targets.specs.Targets.{Each, Spanned, Spotted, in_literal, within, is_elision, is_spread, is_property, is_assignment, is_object, is_literal, literal_kind, is_equals, made_span, operator_places, literal_places, argument_places, property_places, places_of, places_in}

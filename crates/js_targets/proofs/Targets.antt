@@ -8,9 +8,9 @@ use Rattle.js_grammar.specs.Parsing.{always}
 use Rattle.js_grammar.specs.Productions.{G, Flags, Name, Symbol, at, mk, parens, plus_in, with_pife, Expression, Assignment, Conditional, Short, Coalesce, Or, And, BitOr, BitXor, BitAnd, Equality, Relational, Shift, Additive, Multiply, Exponent, Unary, Update, LeftHandSide, New, Member, Call, Chain, Primary, IdentifierReference, SimpleTarget, Arrow', Yield, Object, FuncExpr, ClassExpr, Template}
 use Rattle.js_grammar.specs.Table.{rule, rule_of, member_access, call_access, paren_expression}
 use Rattle.js_grammar.proofs.Calculus.{slots_are}
-use Rattle.js_parsing.specs.ArrayLiterals.{array_of}
+use Rattle.js_parsing_laws.specs.ArrayLiterals.{array_of}
 use Rattle.js_targets.specs.Targets.{is_parens, is_member, is_name, is_array, is_object, is_literal, literal_kind, target_in, target_of}
-use Rattle.js_parsing.proofs.FreeOfIn.{any_in}
+use Rattle.js_parsing_laws.proofs.FreeOfIn.{any_in}
 
 -- ---- what may be a target
 

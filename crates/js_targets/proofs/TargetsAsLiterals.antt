@@ -15,14 +15,14 @@ use Rattle.js_grammar.specs.Productions.{sym as symbol}
 use Rattle.js_grammar.specs.Table.{rule, rule_of, name}
 use Rattle.js_grammar.proofs.Behind.{lexed_behind}
 use Rattle.js_grammar.proofs.Calculus.{label_is, slots_are}
-use Rattle.js_parsing.specs.Lexemes.{Lex}
+use Rattle.js_parsing_laws.specs.Lexemes.{Lex}
 use Rattle.js_targets.specs.declared.widening.Widening.{Widening}
 use Rattle.js_targets.specs.declared.widening.Widening.TheVariants.{Rest}
 use Rattle.js_targets.specs.Taken.{target_name}
 use Rattle.js_targets.specs.Targets.{Each, Closed, Shut, in_literal, within, is_literal, literal_kind, is_pattern, is_target, is_parens, target_in, target_of, relabelled, pattern_kind, before_all, before_value, followed, named_slot, elements_in, argument_places, places_of, places_in}
 use Rattle.js_targets.proofs.ArrayElements.{gap_label}
 use Rattle.js_targets.proofs.ArrayTargets.{target_step, target_last, literal_items, with_operator, default_label, assigned_label, by_other, more_items, left_line, target_property, last_property, properties, bound_word, deep}
-use Rattle.js_parsing.proofs.FreeOfIn.{any_in}
+use Rattle.js_parsing_laws.proofs.FreeOfIn.{any_in}
 use Rattle.js_targets.proofs.LiteralsAsTargets.{all_of, rest_before, literal_before, simple_before, element_before}
 use Rattle.js_targets.proofs.Properties.{property_label, named}
 use Rattle.js_targets.proofs.Targets.{by_braces, by_brackets, by_primary, of_assignment, target_left_hand_side}

@@ -26,16 +26,16 @@ use Rattle.js_tree.proofs.HoldingLemmas.{Keeps-trans, Keeps-longer}
 use Rattle.js_cursor.specs.Parsers.{Parser}
 use Rattle.js_cursor.specs.Places.{goal}
 use Rattle.js_cursor.specs.declared.stop.Stop.{Stop}
-use Rattle.js_parsing.specs.Answers.{Grown, Numbered, Stops, Stretch, Underived, Verdict, clean, unclean, wider}
-use Rattle.js_parsing.specs.Lexemes.{Lex, read_kinds, spot}
-use Rattle.js_parsing.specs.Stands.{StandsHere}
+use Rattle.js_parsing_laws.specs.Answers.{Grown, Numbered, Stops, Stretch, Underived, Verdict, clean, unclean, wider}
+use Rattle.js_parsing_laws.specs.Lexemes.{Lex, read_kinds, spot}
+use Rattle.js_parsing_laws.specs.Stands.{StandsHere}
 use Rattle.js_targets.specs.Taken.{EndsTarget, PlacesTold, TargetTaken, behind_target, target_name, no_target_at, refusal_at}
-use Rattle.js_parsing.specs.States.{At, Same, NodesLie}
+use Rattle.js_parsing_laws.specs.States.{At, Same, NodesLie}
 use Rattle.js_targets.specs.declared.widening.Widening.{Widening}
 use Rattle.js_targets.specs.declared.widening.Widening.TheVariants.{Rest}
 use Rattle.js_targets.specs.Targets.{Each, IsIn, Narrow, Fits, Spotted, Noted, unnoted, Blames, Reused, Slotted, Converts, Converted, converts, refuses, in_literal, is_object, is_literal, literal_kind, pattern_kind, relabelled, literal_tree, slot_of, elements_in, places_in, target_of}
 use Rattle.js_base.specs.declared.diagnostic.DiagnosticKind.TheVariants.{SpreadLastElement}
-use Rattle.js_parsing.specs.Told.{unrelated_at}
+use Rattle.js_parsing_laws.specs.Told.{unrelated_at}
 use Rattle.js_targets.proofs.LiteralsAsTargets.{one_of_each}
 use Rattle.js_targets.proofs.PlacesTold.{spread_marked}
 use Rattle.js_targets.proofs.Refused.{literal_no_target}
@@ -46,15 +46,15 @@ use Rattle.js_targets.proofs.Refused.{no_target}
 use Rattle.js_targets.proofs.ConvertedNodes.{LiteralAnswer}
 use Rattle.js_targets.proofs.Covers.{lexed_there, no_simple_there, row_of_target, underived_there}
 use Rattle.js_cursor.specs.Moves.{is_last}
-use Rattle.js_parsing.proofs.Here.{found}
-use Rattle.js_parsing.proofs.Moving.{beside_nodes, same_both, same_itself, same_with}
-use Rattle.js_parsing.proofs.Paths.{read_of, walked_to}
-use Rattle.js_parsing.proofs.Signs.{none_kept, plain_of}
+use Rattle.js_parsing_laws.proofs.Here.{found}
+use Rattle.js_parsing_laws.proofs.Moving.{beside_nodes, same_both, same_itself, same_with}
+use Rattle.js_parsing_laws.proofs.Paths.{read_of, walked_to}
+use Rattle.js_parsing_laws.proofs.Signs.{none_kept, plain_of}
 use Rattle.js_targets.proofs.Refused.{refused}
 use Rattle.js_targets.proofs.ReusedNodes.{below_in}
 use Rattle.js_targets.proofs.Targets.{kind_of_literal, of_short}
-use Rattle.js_parsing.proofs.Verdicts.{either_way, grown_both, grown_then}
-use Rattle.js_parsing.specs.Classes.{EndsParse}
+use Rattle.js_parsing_laws.proofs.Verdicts.{either_way, grown_both, grown_then}
+use Rattle.js_parsing_laws.specs.Classes.{EndsParse}
 use Rattle.js_cursor.specs.Moves.{GivesUp}
 
 -- ---- what the conversion says

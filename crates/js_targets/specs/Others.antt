@@ -6,8 +6,8 @@ use Rattle.js_grammar.specs.Follow.{after}
 use Rattle.js_grammar.specs.Parsing.{Fails}
 use Rattle.js_grammar.specs.Productions.{Flags, at, sym, Arrow', Assignment, Yield}
 use Rattle.js_grammar.specs.Table.{rule}
-use Rattle.js_parsing.specs.Answers.{Underived}
-use Rattle.js_parsing.specs.Lexemes.{Lex}
+use Rattle.js_parsing_laws.specs.Answers.{Underived}
+use Rattle.js_parsing_laws.specs.Lexemes.{Lex}
 
 -- no YieldExpression begins at the place, or Yield isn't in force
 abbrev pub NoYield : List ℕ → Flags → ℕ → Type 0

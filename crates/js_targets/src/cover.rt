@@ -4,9 +4,9 @@ ghost use Rattle.std.specs.Prelude.{◌≡◌, ◌<◌, ◌≤◌, ℕ, length, 
 ghost use Rattle.js_grammar.specs.Marks.{Mark};
 ghost use Rattle.js_cursor.specs.Places.{IsAt, goal};
 ghost use Rattle.js_cursor.specs.Moves.{GivesUp};
-ghost use Rattle.js_parsing.specs.Classes.{EndsParse};
+ghost use Rattle.js_parsing_laws.specs.Classes.{EndsParse};
 ghost use Rattle.js_targets.specs.Taken.{TellsOnce, no_target_at, not_simple_at};
-ghost use Rattle.js_parsing.specs.States.{Standing};
+ghost use Rattle.js_parsing_laws.specs.States.{Standing};
 ghost use Rattle.js_grammar.specs.Trees.{Label, Slots};
 ghost use Rattle.js_tree.specs.Holding.{Holds};
 ghost use Rattle.js_tree.specs.Labels.{kind_of};

@@ -5,8 +5,8 @@ ghost use Rattle.js_base.specs.declared.diagnostic.DiagnosticKind.TheVariants as
 ghost use Rattle.js_grammar.specs.Marks.{Mark};
 ghost use Rattle.js_cursor.specs.Moves.{Keeps};
 ghost use Rattle.js_cursor.specs.Places.{goal};
-ghost use Rattle.js_parsing.specs.States.{Standing};
-ghost use Rattle.js_parsing.specs.Told.{unrelated_at};
+ghost use Rattle.js_parsing_laws.specs.States.{Standing};
+ghost use Rattle.js_parsing_laws.specs.Told.{unrelated_at};
 ghost use Rattle.js_targets.specs.Taken.{PlaceTold, PlacesTold};
 ghost use Rattle.js_targets.specs.Targets.{Each, Ended, Fits, Spotted};
 ghost use Rattle.js_targets.specs.declared.widening.Widening.TheVariants as widening;

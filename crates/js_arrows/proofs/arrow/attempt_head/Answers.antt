@@ -1,8 +1,8 @@
 use Rattle.std.proofs.Common.{ap, refl, sym, arith, ◌∙◌}
 use Rattle.js_cursor.specs.Tokens.{may_be_read_again}
 use Rattle.js_cursor.proofs.Changing.{may_return}
-use Rattle.js_parsing.proofs.Moving.{standing}
-use Rattle.js_parsing.proofs.Nesting.{later_room, nests_later}
+use Rattle.js_parsing_laws.proofs.Moving.{standing}
+use Rattle.js_parsing_laws.proofs.Nesting.{later_room, nests_later}
 use Rattle.js_expression_laws.proofs.Arrows.{went_back}
 use Rattle.js_expression_laws.proofs.SlashedHeads.{attempts_there, excluded_so, head_between, head_settled, head_stands, head_went_on, none_told, none_tried, some_tried, stands_there, stood_here}
 use Rattle.js_arrows.proofs.arrow.attempt_head.Goals as goal

@@ -1,8 +1,8 @@
 use Rattle.std.proofs.Common.{ap, refl, arith, ◌∙◌}
 use Rattle.js_cursor.specs.Tokens.{may_be_read_again}
 use Rattle.js_cursor.proofs.Changing.{may_return}
-use Rattle.js_parsing.proofs.Moving.{standing}
-use Rattle.js_parsing.proofs.Nesting.{later_room, nests_later}
+use Rattle.js_parsing_laws.proofs.Moving.{standing}
+use Rattle.js_parsing_laws.proofs.Nesting.{later_room, nests_later}
 use Rattle.js_expression_laws.proofs.Arrows.{went_back}
 use Rattle.js_expression_laws.proofs.NotedHeads.{operand_noted_here}
 use Rattle.js_expression_laws.proofs.SlashedHeads.{never_stands, none_here, told_from, told_so, told_went_on, tries_there, unmoved_both}

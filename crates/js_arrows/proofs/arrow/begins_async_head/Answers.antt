@@ -2,7 +2,7 @@ use Rattle.std.proofs.Common.{refl, sym, ap, ◌∙◌}
 use Rattle.js_base.specs.declared.kind.Kind.TheVariants.{Async, LParen}
 use Rattle.js_base.specs.Kinds.{one_of_kinds}
 use Rattle.std.proofs.Common.{◌∷◌}
-use Rattle.js_parsing.specs.Lexemes.{name_kinds}
+use Rattle.js_parsing_laws.specs.Lexemes.{name_kinds}
 use Rattle.js_operand_laws.proofs.Members.{stands_so}
 use Rattle.js_expression_laws.proofs.AsyncHeads.{async_begins, async_on_new_line, no_async_word}
 use Rattle.js_arrows.proofs.arrow.begins_async_head.Goals as goal

@@ -3,9 +3,9 @@ use Rattle.std.proofs.Common.{arith, refl, ap, ◌∙◌}
 use Rattle.std.proofs.lemmas.Result.{err_from_is_err_and}
 use Rattle.js_base.specs.declared.kind.Kind.TheVariants.{Arrow}
 use Rattle.js_expression_laws.proofs.Arrows.{before_answers, before_at, before_stops, line_at, line_place, line_same, line_token}
-use Rattle.js_parsing.proofs.Signs.{whole_sign}
-use Rattle.js_parsing.proofs.Moving.{standing}
-use Rattle.js_parsing.proofs.Nesting.{nests_later, nested_room, later_room}
+use Rattle.js_parsing_laws.proofs.Signs.{whole_sign}
+use Rattle.js_parsing_laws.proofs.Moving.{standing}
+use Rattle.js_parsing_laws.proofs.Nesting.{nests_later, nested_room, later_room}
 use Rattle.js_arrows.proofs.arrow.parse_arrow_function_expression.Goals as goal
 
 pub advance-requires-clause-at : goal.advance-requires-clause-at

@@ -1,11 +1,11 @@
 use Rattle.std.proofs.Common.{arith, refl, sym, subst, ◌∙◌}
 use Rattle.js_base.specs.declared.kind.Kind.TheVariants.{Async}
 use Rattle.js_cursor.specs.Parsers.{Parser}
-use Rattle.js_parsing.specs.Moves.{IsWholeHere}
-use Rattle.js_parsing.specs.States.{Standing}
-use Rattle.js_parsing.proofs.Moving.{standing}
-use Rattle.js_parsing.proofs.Nesting.{nested_room, nests_later}
-use Rattle.js_parsing.proofs.Signs.{whole_sign}
+use Rattle.js_parsing_laws.specs.Moves.{IsWholeHere}
+use Rattle.js_parsing_laws.specs.States.{Standing}
+use Rattle.js_parsing_laws.proofs.Moving.{standing}
+use Rattle.js_parsing_laws.proofs.Nesting.{nested_room, nests_later}
+use Rattle.js_parsing_laws.proofs.Signs.{whole_sign}
 use Rattle.js_expression_laws.proofs.Arrows.{unmoved}
 use Rattle.js_expression_laws.proofs.AsyncHeads.{async_read, async_unread, back_to_word, begins_so, may_go_to_word, moves_from, none_behind, some_behind}
 use Rattle.js_arrows.proofs.arrow.parse_async_head.Goals as goal

@@ -1,8 +1,8 @@
 use Rattle.std.proofs.Common.{◌≡◌, ◌<◌, ap, subst, sym, ◌∙◌}
 use Rattle.js_base.specs.declared.kind.Kind.TheVariants.{LParen}
 use Rattle.js_cursor.specs.Parsers.{Parser}
-use Rattle.js_parsing.specs.Nesting.{room}
-use Rattle.js_parsing.specs.States.{Standing}
+use Rattle.js_parsing_laws.specs.Nesting.{room}
+use Rattle.js_parsing_laws.specs.States.{Standing}
 use Rattle.js_operand_laws.proofs.Members.{stands_so}
 use Rattle.js_expression_laws.proofs.AsyncHeads.{lists_behind, no_list_behind}
 use Rattle.js_expression_laws.proofs.Lookaheads.{maybe_seen, none_seen}

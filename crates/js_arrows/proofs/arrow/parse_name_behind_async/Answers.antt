@@ -1,4 +1,4 @@
-use Rattle.js_parsing.proofs.NameKinds.{name_so}
+use Rattle.js_parsing_laws.proofs.NameKinds.{name_so}
 use Rattle.js_expression_laws.proofs.HeadContexts.{head_stands_at, name_missing, name_read}
 use Rattle.std.proofs.Common.{true}
 use Rattle.js_arrows.proofs.arrow.parse_name_behind_async.Goals as goal

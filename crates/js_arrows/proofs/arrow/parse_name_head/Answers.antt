@@ -1,4 +1,4 @@
-use Rattle.js_parsing.proofs.NameKinds.{listed_here}
+use Rattle.js_parsing_laws.proofs.NameKinds.{listed_here}
 use Rattle.js_expression_laws.proofs.Arrows.{behind_so, name_found, no_arrow_behind, unmoved}
 use Rattle.js_arrows.proofs.arrow.parse_name_head.Goals as goal
 

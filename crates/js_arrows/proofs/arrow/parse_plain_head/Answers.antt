@@ -2,7 +2,7 @@ use Rattle.js_base.specs.declared.kind.Kind.TheVariants.{LParen}
 use Rattle.std.proofs.Common.{refl}
 use Rattle.js_expression_laws.proofs.Arrows.{name_finds, neither, unmoved}
 use Rattle.js_operand_laws.proofs.Members.{stands_so}
-use Rattle.js_parsing.proofs.NameKinds.{name_so}
+use Rattle.js_parsing_laws.proofs.NameKinds.{name_so}
 use Rattle.js_arrows.proofs.arrow.parse_plain_head.Goals as goal
 
 pub parse_name_head-requires-clause-name : goal.parse_name_head-requires-clause-name

@@ -1,7 +1,7 @@
 use Rattle.std.proofs.Common.{true, ap, ◌∙◌}
 use Rattle.js_base.specs.declared.token.Token.{Token}
-use Rattle.js_parsing.proofs.NodeTexts.{name_word}
-use Rattle.js_parsing.proofs.NameKinds.{listed_here, name_at, name_whole}
+use Rattle.js_parsing_laws.proofs.NodeTexts.{name_word}
+use Rattle.js_parsing_laws.proofs.NameKinds.{listed_here, name_at, name_whole}
 use Rattle.js_expression_laws.proofs.Arrows.{single_head, single_place}
 use Rattle.js_arrows.proofs.arrow.parse_single_parameter.Goals as goal
 

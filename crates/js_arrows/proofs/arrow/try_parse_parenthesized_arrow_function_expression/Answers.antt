@@ -1,7 +1,7 @@
 use Rattle.std.proofs.Common.{arith}
 use Rattle.std.proofs.lemmas.Result.{err_from_is_err_and}
-use Rattle.js_parsing.proofs.Moving.{standing}
-use Rattle.js_parsing.proofs.Nesting.{later_room, nests_later}
+use Rattle.js_parsing_laws.proofs.Moving.{standing}
+use Rattle.js_parsing_laws.proofs.Nesting.{later_room, nests_later}
 use Rattle.js_expression_laws.proofs.Arrows.{before_at, before_further, before_same}
 use Rattle.js_expression_laws.proofs.Lists.{list_so}
 use Rattle.js_arrows.proofs.arrow.try_parse_parenthesized_arrow_function_expression.Goals as goal

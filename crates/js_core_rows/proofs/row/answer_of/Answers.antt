@@ -1,6 +1,6 @@
 use Rattle.std.proofs.Common.{sym, ◌∙◌}
 use Rattle.std.proofs.lemmas.Bool.{false≢true}
-use Rattle.js_parsing.proofs.Beginning.{begins}
+use Rattle.js_parsing_laws.proofs.Beginning.{begins}
 use Rattle.js_core_rows.proofs.row.answer_of.Goals as goal
 
 pub called-requires-clause-at : goal.called-requires-clause-at

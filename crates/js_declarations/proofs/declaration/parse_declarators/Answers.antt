@@ -1,6 +1,6 @@
 use Rattle.std.proofs.Common.{[], ◌≡◌}
 use Rattle.std.proofs.lemmas.Result.{err_from_is_err_and}
-use Rattle.js_parsing.proofs.Nesting.{nests_later}
+use Rattle.js_parsing_laws.proofs.Nesting.{nests_later}
 use Rattle.js_declarations.proofs.DeclaratorLists.{loop_end, loop_less, loop_more, loop_start, loop_stops}
 use Rattle.js_declarations.proofs.declaration.parse_declarators.Goals as goal
 

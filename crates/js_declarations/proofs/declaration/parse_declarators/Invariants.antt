@@ -1,4 +1,4 @@
-use Rattle.js_parsing.specs.Nesting.{room}
+use Rattle.js_parsing_laws.specs.Nesting.{room}
 use Rattle.js_declarations.specs.Declarations.{is_constant}
 use Rattle.js_declarations.proofs.DeclaratorLists.{DeclaratorLoop}
 use Rattle.js_declarations.proofs.declaration.parse_declarators.Given as goal

@@ -2,10 +2,10 @@ use Rattle.std.proofs.Common.{arith, refl, sym, ◌∙◌}
 use Rattle.std.proofs.lemmas.Bool.{false≢true}
 use Rattle.std.proofs.lemmas.Result.{err_from_is_err_and}
 use Rattle.js_base.specs.declared.kind.Kind.TheVariants.{Eq}
-use Rattle.js_parsing.proofs.Giving.{gives_up_here}
-use Rattle.js_parsing.proofs.Moving.{standing, stops_so}
-use Rattle.js_parsing.proofs.Nesting.{later_room, nested_room}
-use Rattle.js_parsing.proofs.Signs.{whole_sign}
+use Rattle.js_parsing_laws.proofs.Giving.{gives_up_here}
+use Rattle.js_parsing_laws.proofs.Moving.{standing, stops_so}
+use Rattle.js_parsing_laws.proofs.Nesting.{later_room, nested_room}
+use Rattle.js_parsing_laws.proofs.Signs.{whole_sign}
 use Rattle.js_declarations.proofs.Declarators.{declared_bare, declared_with, initialiser_stops, none_at, unbound}
 use Rattle.js_declarations.proofs.SpansMarked.{missing_marked}
 use Rattle.js_declarations.proofs.declaration.parse_variable_declarator.Goals as goal

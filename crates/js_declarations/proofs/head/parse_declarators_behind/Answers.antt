@@ -3,10 +3,10 @@ use Rattle.std.proofs.lemmas.Bool.{false≢true}
 use Rattle.std.proofs.lemmas.Result.{err_from_is_err_and}
 use Rattle.js_base.specs.declared.kind.Kind.TheVariants.{Comma}
 use Rattle.js_tree.specs.declared.id.NodeId.{NodeId}
-use Rattle.js_parsing.proofs.Giving.{memory_stops}
-use Rattle.js_parsing.proofs.Moving.{standing}
-use Rattle.js_parsing.proofs.Nesting.{nested_room, nests_later}
-use Rattle.js_parsing.proofs.Signs.{whole_sign}
+use Rattle.js_parsing_laws.proofs.Giving.{memory_stops}
+use Rattle.js_parsing_laws.proofs.Moving.{standing}
+use Rattle.js_parsing_laws.proofs.Nesting.{nested_room, nests_later}
+use Rattle.js_parsing_laws.proofs.Signs.{whole_sign}
 use Rattle.js_declarations.proofs.HeadDeclarators.{list_alone, list_more, list_stops}
 use Rattle.js_declarations.proofs.head.parse_declarators_behind.Goals as goal
 

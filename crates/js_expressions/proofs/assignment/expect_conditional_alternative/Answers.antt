@@ -3,9 +3,9 @@ use Rattle.std.proofs.lemmas.Bool.{false≢true}
 use Rattle.js_base.specs.Diagnostics.{class_of}
 use Rattle.js_base.specs.declared.diagnostic.Diagnostic.{Diagnostic}
 use Rattle.js_base.specs.declared.kind.Kind.TheVariants.{Colon}
-use Rattle.js_parsing.specs.Classes.{ends_parse}
-use Rattle.js_parsing.proofs.Classes.{gives_up_by, unexpected_ends}
-use Rattle.js_parsing.proofs.Signs.{whole_sign}
+use Rattle.js_parsing_laws.specs.Classes.{ends_parse}
+use Rattle.js_parsing_laws.proofs.Classes.{gives_up_by, unexpected_ends}
+use Rattle.js_parsing_laws.proofs.Signs.{whole_sign}
 use Rattle.js_expression_laws.proofs.Conditionals.{alternative_marked}
 use Rattle.js_expressions.proofs.assignment.expect_conditional_alternative.Goals as goal
 

@@ -6,8 +6,8 @@ use Rattle.std.specs.Prelude.{Ok, Err}
 use Rattle.js_tree.proofs.HoldingLemmas.{Holds-below}
 use Rattle.js_grammar.specs.Productions.{at, Assignment}
 use Rattle.js_expression_laws.proofs.Arrows.{before_at, before_further, before_same, from_unmoved, none_found, only_operand, some_found}
-use Rattle.js_parsing.proofs.Moving.{standing}
-use Rattle.js_parsing.proofs.Nesting.{nests_later, later_room}
+use Rattle.js_parsing_laws.proofs.Moving.{standing}
+use Rattle.js_parsing_laws.proofs.Nesting.{nests_later, later_room}
 use Rattle.js_expression_laws.proofs.Yields.{yield_no_target}
 use Rattle.js_expressions.proofs.assignment.parse_any_assignment.Goals as goal
 

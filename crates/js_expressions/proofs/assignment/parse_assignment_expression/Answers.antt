@@ -1,10 +1,10 @@
 use Rattle.std.proofs.Common.{ap, arith, sym, subst}
 use Rattle.js_cursor.specs.Parsers.{Parser}
 use Rattle.js_grammar.specs.Productions.{at, Assignment}
-use Rattle.js_parsing.specs.Answers.{Answers}
-use Rattle.js_parsing.specs.Nesting.{room}
-use Rattle.js_parsing.specs.States.{Standing}
-use Rattle.js_parsing.proofs.Nesting.{nests_later}
+use Rattle.js_parsing_laws.specs.Answers.{Answers}
+use Rattle.js_parsing_laws.specs.Nesting.{room}
+use Rattle.js_parsing_laws.specs.States.{Standing}
+use Rattle.js_parsing_laws.proofs.Nesting.{nests_later}
 use Rattle.js_expression_laws.specs.HeadOperands.{TellsOperand}
 use Rattle.js_expression_laws.proofs.ClosedOperands.{closed_answers, closed_operand, none_closed, some_closed}
 use Rattle.js_expressions.proofs.assignment.parse_assignment_expression.Goals as goal

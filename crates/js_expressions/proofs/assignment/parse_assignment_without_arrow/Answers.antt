@@ -6,11 +6,11 @@ use Rattle.js_expression_laws.proofs.ArraysAssigned.{not_simple_marked}
 use Rattle.js_expression_laws.proofs.Assignments.{shifted, assign_listed, row_assign, assign_answers, assign_marked, assign_refused, assign_whole, right_fails}
 use Rattle.js_targets.proofs.ArraysBeforeSigns.{is_cover}
 use Rattle.js_expression_laws.proofs.Conditionals.{test_none}
-use Rattle.js_parsing.proofs.Moving.{standing, stops_so, stops_behind, same_both}
-use Rattle.js_parsing.proofs.Nesting.{nests_later, later_room, nested_room}
+use Rattle.js_parsing_laws.proofs.Moving.{standing, stops_so, stops_behind, same_both}
+use Rattle.js_parsing_laws.proofs.Nesting.{nests_later, later_room, nested_room}
 use Rattle.js_targets.proofs.Refused.{refused}
 use Rattle.js_expression_laws.proofs.Refusals.{stood}
-use Rattle.js_parsing.proofs.Verdicts.{after, grown_then}
+use Rattle.js_parsing_laws.proofs.Verdicts.{after, grown_then}
 use Rattle.js_expressions.proofs.assignment.parse_assignment_without_arrow.Goals as goal
 
 pub returns-in_err-left-clause-answers : goal.returns-in_err-left-clause-answers

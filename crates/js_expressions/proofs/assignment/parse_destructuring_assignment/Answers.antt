@@ -4,10 +4,10 @@ use Rattle.std.proofs.lemmas.Result.{err_from_is_err_and}
 use Rattle.js_base.specs.declared.token.Token.{Token}
 use Rattle.js_cursor.specs.Moves.{is_last}
 use Rattle.js_expression_laws.proofs.ArrayAnswers.{array_answers, right_unread, room_same, without_target}
-use Rattle.js_parsing.proofs.Giving.{memory_stops}
-use Rattle.js_parsing.proofs.Moving.{same_both, standing, stops_behind, stops_so}
-use Rattle.js_parsing.proofs.Nesting.{nested_room}
-use Rattle.js_parsing.proofs.Verdicts.{after, grown_then}
+use Rattle.js_parsing_laws.proofs.Giving.{memory_stops}
+use Rattle.js_parsing_laws.proofs.Moving.{same_both, standing, stops_behind, stops_so}
+use Rattle.js_parsing_laws.proofs.Nesting.{nested_room}
+use Rattle.js_parsing_laws.proofs.Verdicts.{after, grown_then}
 use Rattle.js_expressions.proofs.assignment.parse_destructuring_assignment.Goals as goal
 
 pub returns-in_err-target-clause-answers : goal.returns-in_err-target-clause-answers

@@ -1,13 +1,13 @@
 use Rattle.js_expression_laws.proofs.HeadOperands.{made_no_target}
 use Rattle.std.proofs.Common.{ap, arith, ◌∙◌, refl}
-use Rattle.js_parsing.specs.Moves.{unpassable}
+use Rattle.js_parsing_laws.specs.Moves.{unpassable}
 use Rattle.std.proofs.lemmas.Result.{err_from_is_err_and}
 use Rattle.js_expression_laws.proofs.ArraysAssigned.{array_assigned, array_stops, no_equals, once_at, once_cut, once_kind, once_place, once_room}
 use Rattle.js_targets.proofs.Assigned.{assign_some_at, assigns}
 use Rattle.js_expression_laws.proofs.Assignments.{row_assign}
-use Rattle.js_parsing.proofs.Giving.{memory_stops}
-use Rattle.js_parsing.proofs.Moving.{standing}
-use Rattle.js_parsing.proofs.Nesting.{nested_room}
+use Rattle.js_parsing_laws.proofs.Giving.{memory_stops}
+use Rattle.js_parsing_laws.proofs.Moving.{standing}
+use Rattle.js_parsing_laws.proofs.Nesting.{nested_room}
 use Rattle.js_expressions.proofs.assignment.parse_literal_assignment.Goals as goal
 
 pub returns-then-at-clause-answers : goal.returns-then-at-clause-answers

@@ -2,10 +2,10 @@ use Rattle.std.proofs.Common.{sym, arith, subst, ℕ, ◌+◌, ◌-◌, ◌≤�
 use Rattle.std.proofs.lemmas.Result.{err_from_is_err_and}
 use Rattle.js_grammar.specs.Levels.{level_at}
 use Rattle.js_base.specs.declared.kind.Kind.{Kind}
-use Rattle.js_parsing.specs.Operators.{power_of}
-use Rattle.js_parsing.specs.Answers.{Underived}
-use Rattle.js_parsing.proofs.Moving.{standing, stops_so, stops_behind}
-use Rattle.js_parsing.proofs.Nesting.{nests_later}
+use Rattle.js_parsing_laws.specs.Operators.{power_of}
+use Rattle.js_parsing_laws.specs.Answers.{Underived}
+use Rattle.js_parsing_laws.proofs.Moving.{standing, stops_so, stops_behind}
+use Rattle.js_parsing_laws.proofs.Nesting.{nests_later}
 use Rattle.js_expression_laws.proofs.Operations.{fails_at_level, operand_init, next_level, as_next, right_less, smaller, made_link, small, is_operator, not_last, same_so, grown_so, step_fails, start_before, operand_step, operands_answer}
 use Rattle.js_expressions.proofs.operators.+parse_operators.Goals as goal
 

@@ -5,10 +5,10 @@ use Rattle.js_base.specs.declared.span.Span.{Span}
 use Rattle.js_grammar.specs.Marks.{Mark}
 use Rattle.js_cursor.specs.Moves.{Keeps}
 use Rattle.js_cursor.specs.Places.{goal as goal_of}
-use Rattle.js_parsing.specs.Stands.{ReadsHere}
+use Rattle.js_parsing_laws.specs.Stands.{ReadsHere}
 use Rattle.js_expression_laws.proofs.Exponents.{same_span}
 use Rattle.js_expressions.proofs.operators.check_mixed.Goals as goal
-use Rattle.js_parsing.proofs.Classes.{gives_up_by, unexpected_ends}
+use Rattle.js_parsing_laws.proofs.Classes.{gives_up_by, unexpected_ends}
 
 pub error-requires-clause-mark : goal.error-requires-clause-mark
 error-requires-clause-mark g c =

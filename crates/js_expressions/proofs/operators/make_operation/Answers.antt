@@ -1,7 +1,7 @@
 use Rattle.std.proofs.Common.{[], ◌∷◌, Some, ap, subst}
 use Rattle.std.specs.Prelude.{IfOk}
 use Rattle.js_grammar.specs.Trees.{Label, of}
-use Rattle.js_parsing.specs.Moves.{MadeHere}
+use Rattle.js_parsing_laws.specs.Moves.{MadeHere}
 use Rattle.js_expression_laws.proofs.BinaryOperators.{kind_found, no_logical}
 use Rattle.js_expressions.proofs.operators.make_operation.Goals as goal
 

@@ -1,6 +1,6 @@
 use Rattle.std.proofs.Common.{ℕ, List, ◌+◌, ◌-◌, length}
 use Rattle.js_grammar.specs.Productions.{Flags}
-use Rattle.js_parsing.specs.States.{At}
+use Rattle.js_parsing_laws.specs.States.{At}
 use Rattle.js_expression_laws.proofs.CoalesceOperands.{Operands}
 use Rattle.js_expressions.proofs.operators.parse_binary_expression_or_higher.Given as goal
 

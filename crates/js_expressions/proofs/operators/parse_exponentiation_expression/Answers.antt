@@ -4,9 +4,9 @@ use Rattle.std.proofs.lemmas.Result.{err_from_is_err_and}
 use Rattle.js_expression_laws.proofs.Exponents.{power_alone, power_none, base_marked, base_checked, exponent_fails, power_answers, still_star, star_whole}
 use Rattle.js_expression_laws.specs.Exponents.{begins_by_unary}
 use Rattle.js_grammar.specs.Productions.{Flags}
-use Rattle.js_parsing.proofs.Moving.{standing, stops_so, stops_behind, same_both}
-use Rattle.js_parsing.proofs.Nesting.{nested_room, later_room}
-use Rattle.js_parsing.proofs.Verdicts.{after, grown_then}
+use Rattle.js_parsing_laws.proofs.Moving.{standing, stops_so, stops_behind, same_both}
+use Rattle.js_parsing_laws.proofs.Nesting.{nested_room, later_room}
+use Rattle.js_parsing_laws.proofs.Verdicts.{after, grown_then}
 use Rattle.js_expressions.proofs.operators.parse_exponentiation_expression.Goals as goal
 
 pub returns-in_err-base : goal.returns-in_err-base

@@ -7,10 +7,10 @@ use Rattle.js_base.specs.declared.kind.Kind.TheVariants.{Comma}
 use Rattle.js_tree.specs.declared.id.NodeId.{NodeId}
 use Rattle.js_tree.specs.declared.kind.NodeKind.TheVariants as node
 use Rattle.js_tree.specs.declared.op.Op.TheVariants as op
-use Rattle.js_parsing.specs.Moves.{MadeHere, plain_label}
-use Rattle.js_parsing.proofs.Moving.{standing, stops_so, stops_behind}
-use Rattle.js_parsing.proofs.Nesting.{nested_room}
-use Rattle.js_parsing.proofs.Signs.{whole_sign}
+use Rattle.js_parsing_laws.specs.Moves.{MadeHere, plain_label}
+use Rattle.js_parsing_laws.proofs.Moving.{standing, stops_so, stops_behind}
+use Rattle.js_parsing_laws.proofs.Nesting.{nested_room}
+use Rattle.js_parsing_laws.proofs.Signs.{whole_sign}
 use Rattle.js_expression_laws.proofs.Sequences.{Listing, alone_result, alone_fails, listing_init, listing_step, listing_end, listing_same, listing_grown, operand_fails, less_left, start_before, listing_room}
 use Rattle.js_expressions.proofs.sequence.parse_sequence_expression.Goals as goal
 

@@ -1,7 +1,7 @@
 use Rattle.std.specs.Prelude.{ℕ, List}
 use Rattle.js_grammar.specs.Productions.{Flags}
-use Rattle.js_parsing.specs.Nesting.{room}
-use Rattle.js_parsing.specs.States.{At}
+use Rattle.js_parsing_laws.specs.Nesting.{room}
+use Rattle.js_parsing_laws.specs.States.{At}
 use Rattle.js_expression_laws.proofs.Sequences.{Listing}
 use Rattle.js_expressions.proofs.sequence.parse_sequence_expression.Given as goal
 

@@ -1,9 +1,9 @@
 use Rattle.std.proofs.Common.{◌∙◌, ap, arith}
 use Rattle.std.proofs.lemmas.Result.{err_from_is_err_and}
-use Rattle.js_parsing.specs.Lexemes.{read_word}
-use Rattle.js_parsing.proofs.Moving.{standing, stops_behind}
-use Rattle.js_parsing.proofs.Nesting.{nested_room}
-use Rattle.js_parsing.proofs.Verdicts.{grown_then}
+use Rattle.js_parsing_laws.specs.Lexemes.{read_word}
+use Rattle.js_parsing_laws.proofs.Moving.{standing, stops_behind}
+use Rattle.js_parsing_laws.proofs.Nesting.{nested_room}
+use Rattle.js_parsing_laws.proofs.Verdicts.{grown_then}
 use Rattle.js_operand_laws.proofs.Members.{word_whole}
 use Rattle.js_expression_laws.proofs.Awaits.{await_answers, await_fails, awaits_at}
 use Rattle.js_expressions.proofs.unary.parse_await_expression.Goals as goal

@@ -1,9 +1,9 @@
 use Rattle.std.proofs.Common.{refl, sym, ◌∙◌}
 use Rattle.js_base.specs.Kinds.{one_of_kinds}
-use Rattle.js_parsing.specs.Operators.{unary_kinds}
-use Rattle.js_parsing.proofs.Escapes.{no_name_where, plain_here, word_plain}
+use Rattle.js_parsing_laws.specs.Operators.{unary_kinds}
+use Rattle.js_parsing_laws.proofs.Escapes.{no_name_where, plain_here, word_plain}
 use Rattle.js_operand_laws.proofs.Operands.{unary_listed}
-use Rattle.js_parsing.proofs.Phrases.{unary_escaped, unary_result}
+use Rattle.js_parsing_laws.proofs.Phrases.{unary_escaped, unary_result}
 use Rattle.js_expression_laws.proofs.Awaits.{not_awaiting}
 use Rattle.std.proofs.lemmas.Bool.{false≢true, and_parts}
 use Rattle.js_expressions.proofs.unary.parse_unary_expression_or_higher.Goals as goal

@@ -1,12 +1,12 @@
 use Rattle.std.proofs.Common.{arith, refl, ◌∙◌}
 use Rattle.std.proofs.lemmas.Result.{err_from_is_err_and}
-use Rattle.js_parsing.proofs.Signs.{plain_sign, whole_sign}
-use Rattle.js_parsing.proofs.Giving.{gives_up_here}
-use Rattle.js_parsing.proofs.Moving.{standing, stops_behind, same_both}
-use Rattle.js_parsing.proofs.Nesting.{nested_room}
+use Rattle.js_parsing_laws.proofs.Signs.{plain_sign, whole_sign}
+use Rattle.js_parsing_laws.proofs.Giving.{gives_up_here}
+use Rattle.js_parsing_laws.proofs.Moving.{standing, stops_behind, same_both}
+use Rattle.js_parsing_laws.proofs.Nesting.{nested_room}
 use Rattle.js_expression_laws.proofs.Refusals.{prefix_marked, refused_behind, stood, row_update}
 use Rattle.js_expression_laws.proofs.Updates.{no_operand, wrong_operand, prefix_answers, update_plain}
-use Rattle.js_parsing.proofs.Verdicts.{after, grown_then}
+use Rattle.js_parsing_laws.proofs.Verdicts.{after, grown_then}
 use Rattle.js_expressions.proofs.update.parse_prefix_update.Goals as goal
 
 pub unary-requires : goal.unary-requires

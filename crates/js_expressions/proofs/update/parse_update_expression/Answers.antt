@@ -1,10 +1,10 @@
 use Rattle.std.proofs.Common.{arith, refl, ◌∙◌}
 use Rattle.std.proofs.lemmas.Result.{err_from_is_err_and}
-use Rattle.js_parsing.proofs.Moving.{standing, stops_so}
+use Rattle.js_parsing_laws.proofs.Moving.{standing, stops_so}
 use Rattle.js_expression_laws.proofs.Refusals.{postfix_marked, update_listed, stood, update_some_at, both_of, none_behind, row_update}
 use Rattle.js_targets.proofs.Refused.{refused}
 use Rattle.js_expression_laws.proofs.Updates.{nothing_read, left_alone, postfix_answers, postfix_fails, update_plain}
-use Rattle.js_parsing.proofs.Here.{uncut}
+use Rattle.js_parsing_laws.proofs.Here.{uncut}
 use Rattle.js_expressions.proofs.update.parse_update_expression.Goals as goal
 
 pub parse_prefix_update-requires-clause-operator : goal.parse_prefix_update-requires-clause-operator

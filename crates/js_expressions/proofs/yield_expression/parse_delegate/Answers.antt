@@ -2,12 +2,12 @@ use Rattle.std.proofs.Common.{ap, refl, arith, ◌∙◌}
 use Rattle.std.proofs.lemmas.Result.{err_from_is_err_and}
 use Rattle.js_base.specs.declared.kind.Kind.TheVariants.{RAngle}
 use Rattle.js_base.specs.Kinds.{same_kind}
-use Rattle.js_parsing.specs.Moves.{unpassable}
-use Rattle.js_parsing.proofs.Giving.{memory_stops}
-use Rattle.js_parsing.proofs.Here.{uncut}
-use Rattle.js_parsing.proofs.Moving.{same_both, standing, stops_behind}
-use Rattle.js_parsing.proofs.Nesting.{nested_room}
-use Rattle.js_parsing.proofs.Verdicts.{grown_then}
+use Rattle.js_parsing_laws.specs.Moves.{unpassable}
+use Rattle.js_parsing_laws.proofs.Giving.{memory_stops}
+use Rattle.js_parsing_laws.proofs.Here.{uncut}
+use Rattle.js_parsing_laws.proofs.Moving.{same_both, standing, stops_behind}
+use Rattle.js_parsing_laws.proofs.Nesting.{nested_room}
+use Rattle.js_parsing_laws.proofs.Verdicts.{grown_then}
 use Rattle.js_expression_laws.proofs.HeadOperands.{made_no_target}
 use Rattle.js_expression_laws.proofs.Yields.{delegate_answers, delegate_none}
 use Rattle.js_expressions.proofs.yield_expression.parse_delegate.Goals as goal

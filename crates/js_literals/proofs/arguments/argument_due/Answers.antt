@@ -1,6 +1,6 @@
 use Rattle.std.proofs.Common.{Bool, ap, subst}
 use Rattle.std.proofs.lemmas.Result.{err_from_is_err_and}
-use Rattle.js_parsing.specs.Arguments.{Due}
+use Rattle.js_parsing_laws.specs.Arguments.{Due}
 use Rattle.js_operand_laws.proofs.ArgumentLists.{due_step, due_stops, is_due, not_due}
 use Rattle.js_literals.proofs.arguments.argument_due.Goals as goal
 

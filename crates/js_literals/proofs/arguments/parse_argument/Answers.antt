@@ -1,6 +1,6 @@
 use Rattle.std.proofs.Common.{Bool, sym, subst}
 use Rattle.js_base.specs.declared.kind.Kind.TheVariants.{Dot3}
-use Rattle.js_parsing.specs.Arguments.{TakesItem}
+use Rattle.js_parsing_laws.specs.Arguments.{TakesItem}
 use Rattle.js_operand_laws.proofs.Members.{stands_so}
 use Rattle.js_operand_laws.proofs.Spreads.{plain_item, spread_item}
 use Rattle.js_literals.proofs.arguments.parse_argument.Goals as goal

@@ -1,8 +1,8 @@
 use Rattle.std.proofs.Common.{◌≡◌, Bool, Ok, refl, arith, subst}
 use Rattle.std.proofs.lemmas.Result.{err_from_is_err_and}
-use Rattle.js_parsing.specs.Arguments.{FindsDue}
+use Rattle.js_parsing_laws.specs.Arguments.{FindsDue}
 use Rattle.js_operand_laws.proofs.ArgumentLists.{closing_moved, closing_stops, due_found, item_less, item_stops, loop_item, loop_start, part_due, part_end, rest_stops}
-use Rattle.js_parsing.proofs.Nesting.{nests_later}
+use Rattle.js_parsing_laws.proofs.Nesting.{nests_later}
 use Rattle.js_literals.proofs.arguments.parse_call_arguments.Goals as goal
 
 pub arguments-init : goal.arguments-init

@@ -1,4 +1,4 @@
-use Rattle.js_parsing.specs.Nesting.{room}
+use Rattle.js_parsing_laws.specs.Nesting.{room}
 use Rattle.js_operand_laws.proofs.ArgumentLists.{ArgumentLoop}
 use Rattle.js_literals.proofs.arguments.parse_call_arguments.Given as goal
 

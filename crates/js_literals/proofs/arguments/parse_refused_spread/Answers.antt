@@ -1,10 +1,10 @@
 use Rattle.std.proofs.Common.{ap, arith, refl}
 use Rattle.js_cursor.specs.Parsers.{Parser}
-use Rattle.js_parsing.specs.Nesting.{room}
-use Rattle.js_parsing.proofs.Moving.{standing}
-use Rattle.js_parsing.proofs.Nesting.{nests_later}
+use Rattle.js_parsing_laws.specs.Nesting.{room}
+use Rattle.js_parsing_laws.proofs.Moving.{standing}
+use Rattle.js_parsing_laws.proofs.Nesting.{nests_later}
 use Rattle.js_operand_laws.proofs.Spreads.{spread_item, told_dots, told_outcome}
-use Rattle.js_parsing.proofs.Told.{told_at}
+use Rattle.js_parsing_laws.proofs.Told.{told_at}
 use Rattle.js_literals.proofs.arguments.parse_refused_spread.Goals as goal
 
 pub parse_spread_element-requires-clause-at : goal.parse_spread_element-requires-clause-at

@@ -1,13 +1,13 @@
 use Rattle.std.proofs.Common.{◌∙◌, ap, arith}
-use Rattle.js_parsing.specs.Moves.{unpassable}
+use Rattle.js_parsing_laws.specs.Moves.{unpassable}
 use Rattle.std.proofs.lemmas.Result.{err_from_is_err_and}
 use Rattle.js_base.specs.declared.kind.Kind.TheVariants.{RAngle}
 use Rattle.js_base.specs.Kinds.{same_kind}
-use Rattle.js_parsing.proofs.Here.{uncut}
-use Rattle.js_parsing.proofs.Moving.{standing, stops_behind}
-use Rattle.js_parsing.proofs.Nesting.{nested_room, nests_later}
+use Rattle.js_parsing_laws.proofs.Here.{uncut}
+use Rattle.js_parsing_laws.proofs.Moving.{standing, stops_behind}
+use Rattle.js_parsing_laws.proofs.Nesting.{nested_room, nests_later}
 use Rattle.js_operand_laws.proofs.Spreads.{spread_fails, spread_taken}
-use Rattle.js_parsing.proofs.Verdicts.{grown_then}
+use Rattle.js_parsing_laws.proofs.Verdicts.{grown_then}
 use Rattle.js_literals.proofs.arguments.parse_spread_element.Goals as goal
 
 pub advance-requires-clause-whole : goal.advance-requires-clause-whole

@@ -1,12 +1,12 @@
 use Rattle.std.proofs.Common.{[], refl, ap, arith}
-use Rattle.js_parsing.specs.Moves.{unpassable}
+use Rattle.js_parsing_laws.specs.Moves.{unpassable}
 use Rattle.std.proofs.lemmas.Result.{err_from_is_err_and}
 use Rattle.js_base.specs.declared.kind.Kind.TheVariants.{RAngle, Comma}
 use Rattle.js_base.specs.Kinds.{same_kind}
 use Rattle.js_operand_laws.proofs.Arrays.{gap_outcome, item_stops, item_taken, step_stops, step_taken}
-use Rattle.js_parsing.proofs.Bracketed.{opened_later}
-use Rattle.js_parsing.proofs.Here.{uncut}
-use Rattle.js_parsing.proofs.Signs.{stands_not}
+use Rattle.js_parsing_laws.proofs.Bracketed.{opened_later}
+use Rattle.js_parsing_laws.proofs.Here.{uncut}
+use Rattle.js_parsing_laws.proofs.Signs.{stands_not}
 use Rattle.js_operand_laws.proofs.Members.{stands_so}
 use Rattle.js_literals.proofs.array.parse_array_element.Goals as goal
 

@@ -1,7 +1,7 @@
 use Rattle.std.proofs.Common.{◌≡◌, arith}
 use Rattle.std.proofs.lemmas.Result.{err_from_is_err_and}
 use Rattle.js_operand_laws.proofs.Arrays.{element_less, loop_element, loop_end, loop_start, loop_stops}
-use Rattle.js_parsing.proofs.Nesting.{nests_later}
+use Rattle.js_parsing_laws.proofs.Nesting.{nests_later}
 use Rattle.js_literals.proofs.array.parse_array_elements.Goals as goal
 
 pub elements-init : goal.elements-init

@@ -1,4 +1,4 @@
-use Rattle.js_parsing.specs.Nesting.{room}
+use Rattle.js_parsing_laws.specs.Nesting.{room}
 use Rattle.js_operand_laws.proofs.Arrays.{ElementLoop}
 use Rattle.js_literals.proofs.array.parse_array_elements.Given as goal
 

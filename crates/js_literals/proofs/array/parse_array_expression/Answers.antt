@@ -1,7 +1,7 @@
 use Rattle.std.proofs.Common.{◌∙◌, arith}
 use Rattle.std.proofs.lemmas.Result.{err_from_is_err_and}
 use Rattle.js_operand_laws.proofs.Arrays.{array_answers, no_array}
-use Rattle.js_parsing.proofs.Moving.{stops_so}
+use Rattle.js_parsing_laws.proofs.Moving.{stops_so}
 use Rattle.js_literals.proofs.array.parse_array_expression.Goals as goal
 
 pub returns-in_err-elements : goal.returns-in_err-elements

@@ -1,6 +1,6 @@
 use Rattle.std.proofs.Common.{arith, ◌∙◌}
 use Rattle.std.proofs.lemmas.Result.{err_from_is_err_and}
-use Rattle.js_parsing.proofs.Moving.{stops_so}
+use Rattle.js_parsing_laws.proofs.Moving.{stops_so}
 use Rattle.js_operand_laws.proofs.Functions.{function_answers, no_function}
 use Rattle.js_literals.proofs.function.parse_function_expression.Goals as goal
 

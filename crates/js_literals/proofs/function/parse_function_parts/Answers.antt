@@ -1,9 +1,9 @@
 use Rattle.std.proofs.Common.{arith, refl}
 use Rattle.js_base.specs.declared.kind.Kind.TheVariants.{Function}
-use Rattle.js_parsing.proofs.Signs.{whole_sign}
+use Rattle.js_parsing_laws.proofs.Signs.{whole_sign}
 use Rattle.std.proofs.lemmas.Result.{err_from_is_err_and}
-use Rattle.js_parsing.proofs.Moving.{standing}
-use Rattle.js_parsing.proofs.Nesting.{nests_later}
+use Rattle.js_parsing_laws.proofs.Moving.{standing}
+use Rattle.js_parsing_laws.proofs.Nesting.{nests_later}
 use Rattle.js_operand_laws.proofs.Functions.{word_at, word_here, body_stops, headed_at, headed_further, headed_same, name_stops, named_at, named_further, named_same, parameters_stop, parts_taken, room_less, star_at}
 use Rattle.js_literals.proofs.function.parse_function_parts.Goals as goal
 

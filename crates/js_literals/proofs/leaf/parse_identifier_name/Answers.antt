@@ -1,6 +1,6 @@
 use Rattle.std.proofs.Common.{ap, sym, ◌∙◌}
-use Rattle.js_parsing.specs.Lexemes.{read_word}
-use Rattle.js_parsing.proofs.Giving.{gives_up_here}
+use Rattle.js_parsing_laws.specs.Lexemes.{read_word}
+use Rattle.js_parsing_laws.proofs.Giving.{gives_up_here}
 use Rattle.js_operand_laws.proofs.Members.{no_name, word_whole, name_taken}
 use Rattle.js_literals.proofs.leaf.parse_identifier_name.Goals as goal
 

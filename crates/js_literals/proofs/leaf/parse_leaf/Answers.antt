@@ -1,6 +1,6 @@
 use Rattle.std.proofs.Common.{◌≡◌, [], subst}
 use Rattle.js_base.specs.declared.span.Span.{Span}
-use Rattle.js_parsing.specs.Moves.{MadeHere, plain_label}
+use Rattle.js_parsing_laws.specs.Moves.{MadeHere, plain_label}
 use Rattle.js_literals.proofs.leaf.parse_leaf.Goals as goal
 
 pub returns : goal.returns

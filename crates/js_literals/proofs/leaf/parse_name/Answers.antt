@@ -1,8 +1,8 @@
 use Rattle.std.proofs.Common.{◌≡◌, [], subst}
 use Rattle.js_base.specs.declared.token.Token.{Token}
 use Rattle.js_tree.specs.declared.op.Op.TheVariants as op
-use Rattle.js_parsing.specs.Moves.{MadeHere, plain_label}
-use Rattle.js_parsing.proofs.NodeTexts.{spells_later}
+use Rattle.js_parsing_laws.specs.Moves.{MadeHere, plain_label}
+use Rattle.js_parsing_laws.proofs.NodeTexts.{spells_later}
 use Rattle.js_literals.proofs.leaf.parse_name.Goals as goal
 
 pub make_name-requires-clause-spells : goal.make_name-requires-clause-spells

@@ -5,9 +5,9 @@ use Rattle.js_tree.specs.declared.kind.NodeKind.TheVariants as node
 use Rattle.js_tree.specs.declared.op.Op.TheVariants as op
 use Rattle.std.proofs.Common.{ap}
 use Rattle.js_base.specs.declared.kind.Kind.TheVariants.{RAngle}
-use Rattle.js_parsing.specs.Moves.{MadeHere, plain_label, unpassable}
-use Rattle.js_parsing.proofs.Here.{uncut}
-use Rattle.js_parsing.proofs.NodeTexts.{string_later}
+use Rattle.js_parsing_laws.specs.Moves.{MadeHere, plain_label, unpassable}
+use Rattle.js_parsing_laws.proofs.Here.{uncut}
+use Rattle.js_parsing_laws.proofs.NodeTexts.{string_later}
 use Rattle.js_literals.proofs.leaf.parse_string.Goals as goal
 
 pub advance-requires-clause-whole : goal.advance-requires-clause-whole

@@ -1,8 +1,8 @@
 use Rattle.std.proofs.Common.{arith}
 use Rattle.std.proofs.lemmas.Result.{err_from_is_err_and}
-use Rattle.js_parsing.proofs.Moving.{standing, stops_behind}
-use Rattle.js_parsing.proofs.Nesting.{later_room, nests_later}
-use Rattle.js_parsing.proofs.Verdicts.{grown_then}
+use Rattle.js_parsing_laws.proofs.Moving.{standing, stops_behind}
+use Rattle.js_parsing_laws.proofs.Nesting.{later_room, nests_later}
+use Rattle.js_parsing_laws.proofs.Verdicts.{grown_then}
 use Rattle.js_operand_laws.proofs.PropertyForms.{accessor_read, no_accessor_named}
 use Rattle.js_literals.proofs.object.parse_accessor.Goals as goal
 

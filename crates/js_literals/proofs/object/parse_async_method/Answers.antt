@@ -1,9 +1,9 @@
 use Rattle.std.proofs.Common.{arith, ◌∙◌}
 use Rattle.std.proofs.lemmas.Result.{err_from_is_err_and}
-use Rattle.js_parsing.proofs.Giving.{memory_stops}
-use Rattle.js_parsing.proofs.Moving.{same_both, standing, stops_behind}
-use Rattle.js_parsing.proofs.Nesting.{later_room, nests_later}
-use Rattle.js_parsing.proofs.Verdicts.{grown_then}
+use Rattle.js_parsing_laws.proofs.Giving.{memory_stops}
+use Rattle.js_parsing_laws.proofs.Moving.{same_both, standing, stops_behind}
+use Rattle.js_parsing_laws.proofs.Nesting.{later_room, nests_later}
+use Rattle.js_parsing_laws.proofs.Verdicts.{grown_then}
 use Rattle.js_operand_laws.proofs.AsyncMethods.{async_part, eaten_at, eaten_further, eaten_kept, eaten_room, eaten_same, methods_only, no_methods_named}
 use Rattle.js_operand_laws.proofs.Wholes.{part_by}
 use Rattle.js_literals.proofs.object.parse_async_method.Goals as goal

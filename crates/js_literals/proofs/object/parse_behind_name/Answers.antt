@@ -2,10 +2,10 @@ use Rattle.std.proofs.Common.{◌≡◌, [], ◌∷◌, sym, ap, ◌∙◌}
 use Rattle.js_base.specs.declared.kind.Kind.TheVariants.{Colon, LParen}
 use Rattle.js_base.specs.Kinds.{one_of_kinds}
 use Rattle.js_grammar.proofs.Calculus.{left, right}
-use Rattle.js_parsing.proofs.Giving.{gives_up_here}
-use Rattle.js_parsing.proofs.Moving.{stops_behind}
-use Rattle.js_parsing.proofs.Signs.{other_kind}
-use Rattle.js_parsing.proofs.Verdicts.{after}
+use Rattle.js_parsing_laws.proofs.Giving.{gives_up_here}
+use Rattle.js_parsing_laws.proofs.Moving.{stops_behind}
+use Rattle.js_parsing_laws.proofs.Signs.{other_kind}
+use Rattle.js_parsing_laws.proofs.Verdicts.{after}
 use Rattle.js_operand_laws.proofs.Properties.{method_part, name_part, no_method_behind, no_named, no_value_behind}
 use Rattle.js_operand_laws.proofs.Wholes.{part_by}
 use Rattle.js_literals.proofs.object.parse_behind_name.Goals as goal

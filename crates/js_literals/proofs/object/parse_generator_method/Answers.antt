@@ -3,11 +3,11 @@ use Rattle.std.proofs.lemmas.Result.{err_from_is_err_and}
 use Rattle.js_base.specs.declared.kind.Kind.TheVariants.{RAngle}
 use Rattle.js_base.specs.Kinds.{same_kind}
 use Rattle.js_grammar.specs.Productions.{at, Property}
-use Rattle.js_parsing.specs.Moves.{unpassable}
-use Rattle.js_parsing.proofs.Here.{uncut}
-use Rattle.js_parsing.proofs.Moving.{standing, stops_behind}
-use Rattle.js_parsing.proofs.Nesting.{later_room, nested_room, nests_later}
-use Rattle.js_parsing.proofs.Verdicts.{grown_then}
+use Rattle.js_parsing_laws.specs.Moves.{unpassable}
+use Rattle.js_parsing_laws.proofs.Here.{uncut}
+use Rattle.js_parsing_laws.proofs.Moving.{standing, stops_behind}
+use Rattle.js_parsing_laws.proofs.Nesting.{later_room, nested_room, nests_later}
+use Rattle.js_parsing_laws.proofs.Verdicts.{grown_then}
 use Rattle.js_operand_laws.proofs.PropertyForms.{no_starred_name, starred_only, starred_part}
 use Rattle.js_operand_laws.proofs.Wholes.{item_by}
 use Rattle.js_literals.proofs.object.parse_generator_method.Goals as goal

@@ -1,8 +1,8 @@
 use Rattle.std.proofs.Common.{[], refl, arith}
 use Rattle.std.proofs.lemmas.Result.{err_from_is_err_and}
 use Rattle.js_operand_laws.proofs.PropertyLists.{property_stops, property_taken, step_stops, step_taken}
-use Rattle.js_parsing.proofs.Bracketed.{opened_later}
-use Rattle.js_parsing.proofs.Signs.{stands_not}
+use Rattle.js_parsing_laws.proofs.Bracketed.{opened_later}
+use Rattle.js_parsing_laws.proofs.Signs.{stands_not}
 use Rattle.js_literals.proofs.object.parse_listed_property.Goals as goal
 
 pub returns-in_err-property : goal.returns-in_err-property

@@ -1,7 +1,7 @@
 use Rattle.std.proofs.Common.{arith}
 use Rattle.std.proofs.lemmas.Result.{err_from_is_err_and}
-use Rattle.js_parsing.proofs.Moving.{standing, stops_so}
-use Rattle.js_parsing.proofs.Nesting.{later_room, nests_later}
+use Rattle.js_parsing_laws.proofs.Moving.{standing, stops_so}
+use Rattle.js_parsing_laws.proofs.Nesting.{later_room, nests_later}
 use Rattle.js_operand_laws.proofs.Methods.{body_stops, function_taken, no_params}
 use Rattle.js_literals.proofs.object.parse_method_function.Goals as goal
 

@@ -1,8 +1,8 @@
 use Rattle.std.proofs.Common.{arith}
 use Rattle.std.proofs.lemmas.Result.{err_from_is_err_and}
 use Rattle.js_grammar.specs.Productions.{at, Property}
-use Rattle.js_parsing.proofs.Moving.{standing, stops_so}
-use Rattle.js_parsing.proofs.Nesting.{later_room, nests_later}
+use Rattle.js_parsing_laws.proofs.Moving.{standing, stops_so}
+use Rattle.js_parsing_laws.proofs.Nesting.{later_room, nests_later}
 use Rattle.js_operand_laws.proofs.PropertyForms.{no_other_name, other_async, other_named, other_star}
 use Rattle.js_operand_laws.proofs.Wholes.{item_by}
 use Rattle.js_literals.proofs.object.parse_other_property.Goals as goal

@@ -1,4 +1,4 @@
-use Rattle.js_parsing.specs.Nesting.{room}
+use Rattle.js_parsing_laws.specs.Nesting.{room}
 use Rattle.js_operand_laws.proofs.PropertyLists.{PropertyLoop}
 use Rattle.js_literals.proofs.object.parse_properties.Given as goal
 

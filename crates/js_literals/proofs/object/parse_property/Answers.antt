@@ -1,8 +1,8 @@
 use Rattle.std.proofs.Common.{[], ◌∷◌, ap, sym, refl, ◌∙◌}
 use Rattle.js_base.specs.declared.kind.Kind.TheVariants.{Dot3, Star}
 use Rattle.js_grammar.specs.Productions.{at, Property}
-use Rattle.js_parsing.specs.Lexemes.{read_word}
-use Rattle.js_parsing.proofs.NameKinds.{or_kind}
+use Rattle.js_parsing_laws.specs.Lexemes.{read_word}
+use Rattle.js_parsing_laws.proofs.NameKinds.{or_kind}
 use Rattle.js_operand_laws.proofs.PropertyForms.{dots_only, dots_stand, star_stands}
 use Rattle.js_operand_laws.proofs.Wholes.{item_by}
 use Rattle.js_literals.proofs.object.parse_property.Goals as goal

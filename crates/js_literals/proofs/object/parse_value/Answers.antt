@@ -4,10 +4,10 @@ use Rattle.js_base.specs.declared.kind.Kind.TheVariants.{RAngle}
 use Rattle.js_base.specs.Kinds.{same_kind}
 use Rattle.js_grammar.specs.Trees.{init}
 use Rattle.js_grammar.specs.Productions.{computed_flag, flag}
-use Rattle.js_parsing.specs.Moves.{unpassable}
-use Rattle.js_parsing.proofs.Here.{uncut}
-use Rattle.js_parsing.proofs.Moving.{standing}
-use Rattle.js_parsing.proofs.Nesting.{nested_room, nests_later}
+use Rattle.js_parsing_laws.specs.Moves.{unpassable}
+use Rattle.js_parsing_laws.proofs.Here.{uncut}
+use Rattle.js_parsing_laws.proofs.Moving.{standing}
+use Rattle.js_parsing_laws.proofs.Nesting.{nested_room, nests_later}
 use Rattle.js_operand_laws.proofs.Methods.{value_made, value_stops, value_taken}
 use Rattle.js_literals.proofs.object.parse_value.Goals as goal
 

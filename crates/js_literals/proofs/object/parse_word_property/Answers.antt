@@ -5,16 +5,16 @@ use Rattle.js_base.specs.declared.token.Token.{Token}
 use Rattle.js_grammar.specs.Productions.{at, Property}
 use Rattle.js_operand_laws.proofs.Members.{word_whole}
 use Rattle.js_operand_laws.proofs.PropertyForms.{accessor_only, async_only, begins_plain, leaf_at, no_form, no_shorthand_here, no_value_or_method, one_form, shorthand_only, word_name, word_only}
-use Rattle.js_parsing.proofs.Escapes.{keyword_is}
+use Rattle.js_parsing_laws.proofs.Escapes.{keyword_is}
 use Rattle.js_operand_laws.proofs.WordProperties.{name_async, no_star}
 use Rattle.js_operand_laws.proofs.AsyncMethods.{async_is, async_so}
 use Rattle.js_base.specs.declared.kind.Kind.TheVariants.{Colon, LParen}
-use Rattle.js_parsing.specs.Lexemes.{may_name, keyword_kind}
-use Rattle.js_parsing.proofs.NameKinds.{names_at}
+use Rattle.js_parsing_laws.specs.Lexemes.{may_name, keyword_kind}
+use Rattle.js_parsing_laws.proofs.NameKinds.{names_at}
 use Rattle.js_operand_laws.proofs.Wholes.{item_by}
-use Rattle.js_parsing.proofs.Moving.{standing}
-use Rattle.js_parsing.proofs.Nesting.{nested_room, nests_later}
-use Rattle.js_parsing.proofs.NodeTexts.{spells_later}
+use Rattle.js_parsing_laws.proofs.Moving.{standing}
+use Rattle.js_parsing_laws.proofs.Nesting.{nested_room, nests_later}
+use Rattle.js_parsing_laws.proofs.NodeTexts.{spells_later}
 use Rattle.js_literals.proofs.object.parse_word_property.Goals as goal
 
 pub advance-requires-clause-whole : goal.advance-requires-clause-whole

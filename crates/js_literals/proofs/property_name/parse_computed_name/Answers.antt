@@ -6,10 +6,10 @@ use Rattle.js_base.specs.declared.span.Span.{Span}
 use Rattle.js_base.specs.declared.token.Token.{Token}
 use Rattle.js_base.specs.Kinds.{one_of_kinds}
 use Rattle.js_cursor.specs.Moves.{Opened}
-use Rattle.js_parsing.proofs.Bracketed.{opened_here, opened_later}
-use Rattle.js_parsing.proofs.Moving.{standing}
-use Rattle.js_parsing.proofs.Nesting.{nested_room, nests_later}
-use Rattle.js_parsing.proofs.Signs.{whole_sign}
+use Rattle.js_parsing_laws.proofs.Bracketed.{opened_here, opened_later}
+use Rattle.js_parsing_laws.proofs.Moving.{standing}
+use Rattle.js_parsing_laws.proofs.Nesting.{nested_room, nests_later}
+use Rattle.js_parsing_laws.proofs.Signs.{whole_sign}
 use Rattle.js_operand_laws.proofs.PropertyNames.{close_stops, computed_named, key_stops}
 use Rattle.js_literals.proofs.property_name.parse_computed_name.Goals as goal
 

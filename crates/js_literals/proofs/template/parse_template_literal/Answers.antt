@@ -1,7 +1,7 @@
 use Rattle.std.proofs.Common.{arith, ◌∙◌}
 use Rattle.std.proofs.lemmas.Result.{err_from_is_err_and}
-use Rattle.js_parsing.proofs.Moving.{standing}
-use Rattle.js_parsing.proofs.Nesting.{nests_later}
+use Rattle.js_parsing_laws.proofs.Moving.{standing}
+use Rattle.js_parsing_laws.proofs.Nesting.{nests_later}
 use Rattle.js_operand_laws.proofs.Templates.{is_not, is_so, part_here, part_less, part_standing, parts_first, parts_next, parts_room, parts_stop, parts_stop_later, template_made}
 use Rattle.js_literals.proofs.template.parse_template_literal.Goals as goal
 

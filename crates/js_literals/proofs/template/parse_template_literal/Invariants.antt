@@ -1,4 +1,4 @@
-use Rattle.js_parsing.specs.Nesting.{room}
+use Rattle.js_parsing_laws.specs.Nesting.{room}
 use Rattle.js_operand_laws.proofs.Templates.{PartsLoop}
 use Rattle.js_literals.proofs.template.parse_template_literal.Given as goal
 

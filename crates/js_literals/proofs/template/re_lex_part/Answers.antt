@@ -1,6 +1,6 @@
 use Rattle.std.proofs.Common.{sym, ◌∙◌}
 use Rattle.std.proofs.lemmas.Bool.{false≢true}
-use Rattle.js_parsing.proofs.Giving.{gives_up_here}
+use Rattle.js_parsing_laws.proofs.Giving.{gives_up_here}
 use Rattle.js_operand_laws.proofs.Templates.{no_brace, part_begun, unended_stops}
 use Rattle.js_literals.proofs.template.re_lex_part.Goals as goal
 

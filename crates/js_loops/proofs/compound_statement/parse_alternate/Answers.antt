@@ -3,8 +3,8 @@ use Rattle.std.proofs.lemmas.Result.{err_from_is_err_and}
 use Rattle.js_base.specs.Contexts.{has_flag, in_flag}
 use Rattle.js_base.specs.declared.kind.Kind.TheVariants.{Else}
 use Rattle.js_operand_laws.proofs.Members.{stands_so}
-use Rattle.js_parsing.proofs.Moving.{standing}
-use Rattle.js_parsing.proofs.Nesting.{nested_room}
+use Rattle.js_parsing_laws.proofs.Moving.{standing}
+use Rattle.js_parsing_laws.proofs.Nesting.{nested_room}
 use Rattle.js_statement_laws.proofs.CompoundStatements.{alternate_memory, alternate_refused}
 use Rattle.js_statement_laws.proofs.WordStatements.{word_here}
 use Rattle.js_loops.proofs.compound_statement.parse_alternate.Goals as goal

@@ -7,10 +7,10 @@ use Rattle.js_base.specs.declared.token.Token.{Token}
 use Rattle.js_base.specs.Kinds.{one_of_kinds}
 use Rattle.js_cursor.specs.Moves.{Opened}
 use Rattle.js_operand_laws.proofs.Parentheses.{unclosed}
-use Rattle.js_parsing.proofs.Bracketed.{opened_here, opened_later}
-use Rattle.js_parsing.proofs.Moving.{same_both, standing, stops_behind}
-use Rattle.js_parsing.proofs.Nesting.{nested_room}
-use Rattle.js_parsing.proofs.Verdicts.{after, grown_then}
+use Rattle.js_parsing_laws.proofs.Bracketed.{opened_here, opened_later}
+use Rattle.js_parsing_laws.proofs.Moving.{same_both, standing, stops_behind}
+use Rattle.js_parsing_laws.proofs.Nesting.{nested_room}
+use Rattle.js_parsing_laws.proofs.Verdicts.{after, grown_then}
 use Rattle.js_statement_laws.proofs.CompoundStatements.{expected, no_parens, parens_taken, parens_unclosed, parens_unread, unexpected}
 use Rattle.js_loops.proofs.compound_statement.parse_paren_expression.Goals as goal
 

@@ -1,8 +1,8 @@
 use Rattle.std.proofs.Common.{arith, ◌∙◌}
 use Rattle.std.proofs.lemmas.Result.{err_from_is_err_and}
-use Rattle.js_parsing.proofs.Moving.{standing, stops_behind}
-use Rattle.js_parsing.proofs.Nesting.{later_room, nests_later}
-use Rattle.js_parsing.proofs.Verdicts.{grown_then}
+use Rattle.js_parsing_laws.proofs.Moving.{standing, stops_behind}
+use Rattle.js_parsing_laws.proofs.Nesting.{later_room, nests_later}
+use Rattle.js_parsing_laws.proofs.Verdicts.{grown_then}
 use Rattle.js_statement_laws.proofs.Statements.{ended_so, in_of}
 use Rattle.js_statement_laws.proofs.DeclarationStatements.{declaration_answers, declaration_grown, declaration_none, declaration_same, declaration_unended, declaration_whole}
 use Rattle.js_loops.proofs.declaration_statement.parse_declaration.Goals as goal

@@ -4,7 +4,7 @@ use Rattle.js_base.specs.declared.diagnostic.Diagnostic.{Diagnostic}
 use Rattle.js_base.specs.declared.diagnostic.DiagnosticKind.TheVariants.{LexicalDeclarationSingleStatement}
 use Rattle.js_base.specs.Diagnostics.{class_of}
 use Rattle.js_cursor.specs.Moves.{Keeps}
-use Rattle.js_parsing.proofs.Moving.{stops_so}
+use Rattle.js_parsing_laws.proofs.Moving.{stops_so}
 use Rattle.js_declarations.proofs.SpansMarked.{span_marked}
 use Rattle.js_statement_laws.proofs.LetStatements.{a_word_stands, lexical_last, lexical_told, lexical_word, no_lexical_body}
 use Rattle.js_loops.proofs.declaration_statement.parse_lexical_body.Goals as goal

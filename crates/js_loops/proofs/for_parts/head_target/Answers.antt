@@ -1,5 +1,5 @@
 use Rattle.std.proofs.Common.{Bool, None, Some, subst, sym, ◌∙◌}
-use Rattle.js_parsing.proofs.Classes.{unexpected_ends}
+use Rattle.js_parsing_laws.proofs.Classes.{unexpected_ends}
 use Rattle.js_operand_laws.proofs.NewTargets.{ends_so}
 use Rattle.js_expression_laws.proofs.Refusals.{stood}
 use Rattle.js_statement_laws.specs.ForParts.{HeadExpressionRead}

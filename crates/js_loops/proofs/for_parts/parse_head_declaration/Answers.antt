@@ -1,8 +1,8 @@
 use Rattle.std.proofs.Common.{arith, sym, ◌∙◌}
 use Rattle.std.proofs.lemmas.Bool.{false≢true}
 use Rattle.std.proofs.lemmas.Result.{err_from_is_err_and}
-use Rattle.js_parsing.proofs.Moving.{standing}
-use Rattle.js_parsing.proofs.Nesting.{later_room, nests_later}
+use Rattle.js_parsing_laws.proofs.Moving.{standing}
+use Rattle.js_parsing_laws.proofs.Nesting.{later_room, nests_later}
 use Rattle.js_statement_laws.proofs.DeclarationStatements.{declaration_whole}
 use Rattle.js_statement_laws.proofs.ForDeclarations.{fault_marked, first_of_several, head_stops, list_reached, one_first, one_reached, others_stop, several_first, word_stands}
 use Rattle.js_statement_laws.proofs.ForParts.{without_in}

@@ -4,8 +4,8 @@ use Rattle.std.proofs.lemmas.Result.{err_from_is_err_and}
 use Rattle.js_base.specs.Contexts.{has_flag, in_flag}
 use Rattle.js_base.specs.declared.kind.Kind.TheVariants.{Let}
 use Rattle.js_declarations.proofs.HeadDeclarators.{through_so}
-use Rattle.js_parsing.specs.Stands.{StandsHere}
-use Rattle.js_parsing.proofs.Moving.{standing}
+use Rattle.js_parsing_laws.specs.Stands.{StandsHere}
+use Rattle.js_parsing_laws.proofs.Moving.{standing}
 use Rattle.js_statement_laws.proofs.ForParts.{async_marked, checked_first, expression_alone, head_unread, let_checked, let_marked, marked_behind, target_unread, through_uncut, without_in}
 use Rattle.js_loops.proofs.for_parts.parse_head_expression.Goals as goal
 

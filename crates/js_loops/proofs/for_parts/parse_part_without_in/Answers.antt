@@ -1,9 +1,9 @@
 use Rattle.std.proofs.Common.{ap, arith, subst, sym, ◌∙◌}
 use Rattle.js_base.specs.Contexts.{has_flag, in_flag}
 use Rattle.js_cursor.specs.Parsers.{Parser}
-use Rattle.js_parsing.specs.Nesting.{room}
-use Rattle.js_parsing.specs.States.{Standing}
-use Rattle.js_parsing.proofs.Nesting.{nests_later}
+use Rattle.js_parsing_laws.specs.Nesting.{room}
+use Rattle.js_parsing_laws.specs.States.{Standing}
+use Rattle.js_parsing_laws.proofs.Nesting.{nests_later}
 use Rattle.js_statement_laws.specs.ForParts.{BeginsHead, NoneBegins}
 use Rattle.js_statement_laws.proofs.ForParts.{found_head, none_in_head, part_from}
 use Rattle.js_loops.proofs.for_parts.parse_part_without_in.Goals as goal

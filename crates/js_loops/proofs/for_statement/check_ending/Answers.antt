@@ -3,7 +3,7 @@ use Rattle.js_base.specs.declared.diagnostic.Diagnostic.{Diagnostic}
 use Rattle.js_base.specs.declared.diagnostic.DiagnosticKind.TheVariants as fault
 use Rattle.js_grammar.specs.Marks.{Mark}
 use Rattle.js_cursor.specs.Places.{goal as goal_at}
-use Rattle.js_parsing.specs.Told.{unrelated_at}
+use Rattle.js_parsing_laws.specs.Told.{unrelated_at}
 use Rattle.js_statement_laws.specs.ForWords.{no_of_from}
 use Rattle.js_loops.proofs.for_statement.check_ending.Goals as goal
 

@@ -1,9 +1,9 @@
 use Rattle.std.proofs.Common.{ap, arith, sym, ◌∙◌}
 use Rattle.std.proofs.lemmas.Result.{err_from_is_err_and}
-use Rattle.js_parsing.specs.Nesting.{room}
-use Rattle.js_parsing.proofs.Contexts.{no_in_at}
-use Rattle.js_parsing.proofs.Moving.{standing}
-use Rattle.js_parsing.proofs.Nesting.{nests_later}
+use Rattle.js_parsing_laws.specs.Nesting.{room}
+use Rattle.js_parsing_laws.proofs.Contexts.{no_in_at}
+use Rattle.js_parsing_laws.proofs.Moving.{standing}
+use Rattle.js_parsing_laws.proofs.Nesting.{nests_later}
 use Rattle.js_base.specs.declared.kind.Kind.TheVariants.{Semicolon}
 use Rattle.js_cursor.specs.Parsers.{Parser}
 use Rattle.js_statement_laws.proofs.ForHeads.{at_end_so, first_empty}

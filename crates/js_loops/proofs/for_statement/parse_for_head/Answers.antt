@@ -1,8 +1,8 @@
 use Rattle.std.proofs.Common.{◌∙◌, List, [], ◌∷◌, ◌++◌, Option, ap}
 use Rattle.std.proofs.lemmas.Result.{err_from_is_err_and}
 use Rattle.js_tree.specs.declared.id.NodeId.{NodeId}
-use Rattle.js_parsing.proofs.Moving.{standing, stops_so}
-use Rattle.js_parsing.proofs.Nesting.{later_room, nests_later}
+use Rattle.js_parsing_laws.proofs.Moving.{standing, stops_so}
+use Rattle.js_parsing_laws.proofs.Nesting.{later_room, nests_later}
 use Rattle.js_statement_laws.proofs.ForHeads.{head_answers, no_head_from}
 use Rattle.js_loops.proofs.for_statement.parse_for_head.Goals as goal
 

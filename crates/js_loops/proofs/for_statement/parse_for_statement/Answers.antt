@@ -2,8 +2,8 @@ use Rattle.std.proofs.Common.{ap, arith, refl, ◌∙◌}
 use Rattle.std.proofs.lemmas.Result.{err_from_is_err_and}
 use Rattle.js_base.specs.Contexts.{has_flag, in_flag}
 use Rattle.js_base.specs.declared.kind.Kind.TheVariants.{For}
-use Rattle.js_parsing.proofs.Moving.{standing}
-use Rattle.js_parsing.proofs.Nesting.{later_room, nests_later}
+use Rattle.js_parsing_laws.proofs.Moving.{standing}
+use Rattle.js_parsing_laws.proofs.Nesting.{later_room, nests_later}
 use Rattle.js_statement_laws.proofs.ForStatements.{begun, body_stops, ending_at, ending_marked, ending_room, ending_same, for_answers, for_further, for_stops, head_edge, head_further, head_same}
 use Rattle.js_statement_laws.proofs.WordStatements.{word_here}
 use Rattle.js_loops.proofs.for_statement.parse_for_statement.Goals as goal

@@ -2,8 +2,8 @@ use Rattle.std.proofs.Common.{arith, refl}
 use Rattle.std.proofs.lemmas.Result.{err_from_is_err_and}
 use Rattle.js_base.specs.declared.kind.Kind.TheVariants.{In, Of, Semicolon}
 use Rattle.js_operand_laws.proofs.Members.{stands_so}
-use Rattle.js_parsing.proofs.Moving.{standing}
-use Rattle.js_parsing.proofs.Nesting.{later_room, nested_room, nests_later}
+use Rattle.js_parsing_laws.proofs.Moving.{standing}
+use Rattle.js_parsing_laws.proofs.Nesting.{later_room, nested_room, nests_later}
 use Rattle.js_statement_laws.proofs.CompoundStatements.{expected}
 use Rattle.js_statement_laws.proofs.ForHeads.{in_stops, in_taken, of_stops, of_taken, second_stops, semicolon_missing, semicolons_taken, test_stops, update_stops}
 use Rattle.js_statement_laws.proofs.WordStatements.{word_here}

@@ -6,9 +6,9 @@ use Rattle.js_base.specs.declared.token.Token.{Token}
 use Rattle.js_base.specs.Kinds.{one_of_kinds}
 use Rattle.js_cursor.specs.Moves.{Opened}
 use Rattle.js_operand_laws.proofs.Parentheses.{unclosed}
-use Rattle.js_parsing.proofs.Bracketed.{opened_here, opened_later}
-use Rattle.js_parsing.proofs.Moving.{same_both, standing, stops_behind}
-use Rattle.js_parsing.proofs.Nesting.{nested_room, nests_later}
+use Rattle.js_parsing_laws.proofs.Bracketed.{opened_here, opened_later}
+use Rattle.js_parsing_laws.proofs.Moving.{same_both, standing, stops_behind}
+use Rattle.js_parsing_laws.proofs.Nesting.{nested_room, nests_later}
 use Rattle.js_statement_laws.proofs.CompoundStatements.{expected, unexpected}
 use Rattle.js_statement_laws.proofs.ForHeads.{head_grown, head_stops, paren_missing, parens_head, unclosed_all}
 use Rattle.js_loops.proofs.for_statement.parse_paren_for_head.Goals as goal

@@ -1,6 +1,6 @@
 use Rattle.std.proofs.Common.{arith}
 use Rattle.std.proofs.lemmas.Result.{err_from_is_err_and}
-use Rattle.js_parsing.proofs.Moving.{stops_so}
+use Rattle.js_parsing_laws.proofs.Moving.{stops_so}
 use Rattle.js_statement_laws.proofs.ForHeads.{at_end_so, part_empty, part_some, part_unread}
 use Rattle.js_loops.proofs.for_statement.parse_part_before.Goals as goal
 

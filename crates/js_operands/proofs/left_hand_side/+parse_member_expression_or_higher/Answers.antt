@@ -2,16 +2,16 @@ use Rattle.std.proofs.Common.{◌∙◌, ap, arith, refl}
 use Rattle.js_base.specs.declared.kind.Kind.TheVariants.{Dot, New, QuestionDot, LParen, Super}
 use Rattle.std.proofs.lemmas.Result.{err_from_is_err_and}
 use Rattle.js_cursor.specs.Parsers.{Parser}
-use Rattle.js_parsing.specs.Nesting.{room}
-use Rattle.js_parsing.proofs.Giving.{gives_up}
+use Rattle.js_parsing_laws.specs.Nesting.{room}
+use Rattle.js_parsing_laws.proofs.Giving.{gives_up}
 use Rattle.js_operand_laws.proofs.Members.{at_callee, callee_room, entered_stops, member_init, new_arguments_stop, new_same, new_grown, new_refused, new_taken, no_head, stands_so, start_before, taken_room}
 use Rattle.js_operand_laws.proofs.NewTargets.{behind_new}
 use Rattle.js_operand_laws.proofs.Supers.{arguments_at, arguments_before, arguments_checked, arguments_marked, bare_before, bare_checked, bare_marked, callee_node}
-use Rattle.js_parsing.proofs.Moving.{deeper, left_at, standing, stops_behind, stops_so}
-use Rattle.js_parsing.proofs.Signs.{whole_sign}
-use Rattle.js_parsing.proofs.Nesting.{nested_room, nests_later, later_room}
+use Rattle.js_parsing_laws.proofs.Moving.{deeper, left_at, standing, stops_behind, stops_so}
+use Rattle.js_parsing_laws.proofs.Signs.{whole_sign}
+use Rattle.js_parsing_laws.proofs.Nesting.{nested_room, nests_later, later_room}
 use Rattle.js_operands.proofs.left_hand_side.+parse_member_expression_or_higher.Goals as goal
-use Rattle.js_parsing.specs.Classes.{ends_parse}
+use Rattle.js_parsing_laws.specs.Classes.{ends_parse}
 use Rattle.js_base.specs.Diagnostics.{class_of}
 use Rattle.js_base.specs.declared.diagnostic.DiagnosticKind.{DiagnosticKind}
 

@@ -5,7 +5,7 @@ use Rattle.std.proofs.Common.{ap, sym, ◌∙◌}
 use Rattle.js_base.specs.Kinds.{one_of_kinds}
 use Rattle.js_operand_laws.specs.Templates.{heads}
 use Rattle.js_operand_laws.proofs.Members.{call_closed, call_first, call_first_stops, call_linked, call_sign, call_stops, call_tag_stops, call_tagged, goes_on_so, head_closed, link_left, link_less, next_loop, next_tagged, stands_so, start_loop, tagged_less}
-use Rattle.js_parsing.proofs.Nesting.{nests_later}
+use Rattle.js_parsing_laws.proofs.Nesting.{nests_later}
 use Rattle.js_operands.proofs.left_hand_side.parse_call_expression_rest.Goals as goal
 
 pub returns-then-not-stands : goal.returns-then-not-stands

@@ -1,8 +1,8 @@
 use Rattle.std.proofs.Common.{arith}
 use Rattle.std.proofs.lemmas.Result.{err_from_is_err_and}
 use Rattle.js_operand_laws.proofs.Links.{no_lhs_here}
-use Rattle.js_parsing.proofs.Moving.{standing, stops_so}
-use Rattle.js_parsing.proofs.Nesting.{nests_later, later_room}
+use Rattle.js_parsing_laws.proofs.Moving.{standing, stops_so}
+use Rattle.js_parsing_laws.proofs.Nesting.{nests_later, later_room}
 use Rattle.js_operands.proofs.left_hand_side.parse_lhs_expression_or_higher.Goals as goal
 
 pub returns-in_err-member : goal.returns-in_err-member

@@ -4,7 +4,7 @@ use Rattle.js_base.specs.Kinds.{one_of_kinds}
 use Rattle.js_operand_laws.specs.declared.forms.LinkBase.TheVariants.{Member}
 use Rattle.js_operand_laws.specs.Templates.{heads}
 use Rattle.js_operand_laws.proofs.Members.{first_loop, goes_on_so, link_left, link_less, member_closed, member_linked, member_stops, member_tag_stops, member_tagged, member_too, next_loop, next_tagged, tagged_less}
-use Rattle.js_parsing.proofs.Nesting.{nests_later}
+use Rattle.js_parsing_laws.proofs.Nesting.{nests_later}
 use Rattle.js_operands.proofs.left_hand_side.parse_member_expression_rest.Goals as goal
 
 pub links-init : goal.links-init

@@ -1,10 +1,10 @@
 use Rattle.std.proofs.Common.{arith, ap}
-use Rattle.js_parsing.specs.Moves.{unpassable}
+use Rattle.js_parsing_laws.specs.Moves.{unpassable}
 use Rattle.std.proofs.lemmas.Result.{err_from_is_err_and}
 use Rattle.js_base.specs.declared.kind.Kind.TheVariants.{RAngle}
 use Rattle.js_base.specs.Kinds.{same_kind}
-use Rattle.js_parsing.proofs.Here.{uncut}
-use Rattle.js_parsing.proofs.Moving.{standing}
+use Rattle.js_parsing_laws.proofs.Here.{uncut}
+use Rattle.js_parsing_laws.proofs.Moving.{standing}
 use Rattle.js_operand_laws.proofs.Members.{name_link, no_name_link}
 use Rattle.js_operands.proofs.left_hand_side.parse_named_link.Goals as goal
 

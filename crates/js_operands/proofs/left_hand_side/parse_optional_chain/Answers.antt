@@ -3,7 +3,7 @@ use Rattle.js_base.specs.declared.kind.Kind.TheVariants.{QuestionDot}
 use Rattle.std.proofs.lemmas.Result.{err_from_is_err_and}
 use Rattle.js_operand_laws.proofs.Members.{chain_begun, chain_done, chain_first_stops, chain_less, chain_on, chain_stops, goes_on_so, lhs_callee, next_chain, stands_so, start_loop}
 use Rattle.js_operand_laws.specs.declared.forms.LinkBase.TheVariants as base
-use Rattle.js_parsing.proofs.Nesting.{nests_later}
+use Rattle.js_parsing_laws.proofs.Nesting.{nests_later}
 use Rattle.js_operands.proofs.left_hand_side.parse_optional_chain.Goals as goal
 
 pub returns-then-not-stands : goal.returns-then-not-stands

@@ -1,18 +1,18 @@
 use Rattle.std.proofs.Common.{arith, ap, inl, sym, ◌∙◌, subst, refl}
-use Rattle.js_parsing.specs.Moves.{unpassable}
+use Rattle.js_parsing_laws.specs.Moves.{unpassable}
 use Rattle.std.proofs.lemmas.Result.{err_from_is_err_and}
 use Rattle.js_base.specs.declared.kind.Kind.TheVariants.{LBrack, LParen, RAngle}
 use Rattle.js_base.specs.Kinds.{one_of_kinds, same_kind}
 use Rattle.js_base.specs.declared.token.Token.{Token}
-use Rattle.js_parsing.specs.Lexemes.{read_word}
-use Rattle.js_parsing.proofs.Giving.{gives_up}
-use Rattle.js_parsing.proofs.Here.{uncut}
-use Rattle.js_parsing.proofs.Moving.{standing}
-use Rattle.js_parsing.proofs.Nesting.{nested_room, nests_later}
+use Rattle.js_parsing_laws.specs.Lexemes.{read_word}
+use Rattle.js_parsing_laws.proofs.Giving.{gives_up}
+use Rattle.js_parsing_laws.proofs.Here.{uncut}
+use Rattle.js_parsing_laws.proofs.Moving.{standing}
+use Rattle.js_parsing_laws.proofs.Nesting.{nested_room, nests_later}
 use Rattle.js_operand_laws.proofs.Members.{link_is, link_marked, no_name, no_optional_name, optional_name, optional_outcome, optional_tagged, stands_so, optional_index_outcome}
 use Rattle.js_operand_laws.specs.Templates.{heads}
 use Rattle.js_operands.proofs.left_hand_side.parse_optional_link.Goals as goal
-use Rattle.js_parsing.specs.Classes.{EndsParse}
+use Rattle.js_parsing_laws.specs.Classes.{EndsParse}
 
 pub advance-requires-clause-whole : goal.advance-requires-clause-whole
 advance-requires-clause-whole t c = (uncut c.requires.at (ap (same_kind RAngle) c.requires.sign.0), ap unpassable c.requires.sign.0)

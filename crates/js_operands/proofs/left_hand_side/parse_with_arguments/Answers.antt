@@ -1,6 +1,6 @@
 use Rattle.std.proofs.Common.{◌∙◌, ◌∷◌, ◌++◌, [], Bool, List, Option, Some, ap, arith, subst}
 use Rattle.js_tree.specs.declared.id.NodeId.{NodeId}
-use Rattle.js_parsing.specs.Arguments.{Arguments}
+use Rattle.js_parsing_laws.specs.Arguments.{Arguments}
 use Rattle.js_operands.proofs.left_hand_side.parse_with_arguments.Goals as goal
 
 pub make_with_arguments-requires-clause-start : goal.make_with_arguments-requires-clause-start

@@ -2,10 +2,10 @@ use Rattle.std.proofs.Common.{ap, ◌∙◌}
 use Rattle.std.proofs.lemmas.Result.{err_from_is_err_and}
 use Rattle.js_base.specs.Kinds.{same_kind}
 use Rattle.js_base.specs.declared.kind.Kind.TheVariants.{RAngle, Target}
-use Rattle.js_parsing.specs.Moves.{unpassable}
-use Rattle.js_parsing.proofs.Giving.{memory_stops}
-use Rattle.js_parsing.proofs.Here.{uncut}
-use Rattle.js_parsing.proofs.Moving.{standing}
+use Rattle.js_parsing_laws.specs.Moves.{unpassable}
+use Rattle.js_parsing_laws.proofs.Giving.{memory_stops}
+use Rattle.js_parsing_laws.proofs.Here.{uncut}
+use Rattle.js_parsing_laws.proofs.Moving.{standing}
 use Rattle.js_operand_laws.proofs.Members.{stands_so}
 use Rattle.js_operand_laws.proofs.NewTargets.{behind_dot, outside_marked, start_before, target_stops, target_taken}
 use Rattle.js_operands.proofs.new_target.parse_new_target.Goals as goal

@@ -5,7 +5,7 @@ use Rattle.js_base.specs.declared.diagnostic.Diagnostic.{Diagnostic}
 use Rattle.js_base.specs.declared.span.Span.{Span}
 use Rattle.js_grammar.specs.Marks.{Mark}
 use Rattle.js_cursor.specs.Places.{goal as goal_of}
-use Rattle.js_parsing.proofs.Classes.{unexpected_ends}
+use Rattle.js_parsing_laws.proofs.Classes.{unexpected_ends}
 use Rattle.js_operand_laws.proofs.NewTargets.{before_word, ends_so, other_ends, other_marked}
 use Rattle.js_operands.proofs.new_target.refuse_target.Goals as goal
 

@@ -5,14 +5,14 @@ use Rattle.js_tree.specs.declared.kind.NodeKind.TheVariants as node
 use Rattle.js_tree.specs.declared.op.Op.TheVariants as op
 use Rattle.js_cursor.specs.Moves.{OnlyMemory}
 use Rattle.js_cursor.specs.Parsers.{Parser}
-use Rattle.js_parsing.specs.Answers.{Outcome}
-use Rattle.js_parsing.specs.Lexemes.{read_word}
-use Rattle.js_parsing.specs.Moves.{IsWholeHere, TakesLeaf}
-use Rattle.js_parsing.specs.Nesting.{room}
-use Rattle.js_parsing.proofs.Nesting.{nests_later}
-use Rattle.js_parsing.specs.States.{At, Standing}
-use Rattle.js_parsing.proofs.NameKinds.{listed_here, name_at, name_whole}
-use Rattle.js_parsing.proofs.NodeTexts.{name_word}
+use Rattle.js_parsing_laws.specs.Answers.{Outcome}
+use Rattle.js_parsing_laws.specs.Lexemes.{read_word}
+use Rattle.js_parsing_laws.specs.Moves.{IsWholeHere, TakesLeaf}
+use Rattle.js_parsing_laws.specs.Nesting.{room}
+use Rattle.js_parsing_laws.proofs.Nesting.{nests_later}
+use Rattle.js_parsing_laws.specs.States.{At, Standing}
+use Rattle.js_parsing_laws.proofs.NameKinds.{listed_here, name_at, name_whole}
+use Rattle.js_parsing_laws.proofs.NodeTexts.{name_word}
 use Rattle.js_operand_laws.proofs.AsyncWords.{begun_at, found_so}
 use Rattle.js_operand_laws.proofs.Operands.{name_outcome}
 use Rattle.js_operands.proofs.primary.parse_name_or_function.Goals as goal

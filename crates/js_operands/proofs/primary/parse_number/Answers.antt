@@ -1,5 +1,5 @@
 use Rattle.std.proofs.Common.{refl}
-use Rattle.js_parsing.proofs.Signs.{whole_sign}
+use Rattle.js_parsing_laws.proofs.Signs.{whole_sign}
 use Rattle.js_operand_laws.proofs.Operands.{number_outcome, number_passable}
 use Rattle.js_operands.proofs.primary.parse_number.Goals as goal
 

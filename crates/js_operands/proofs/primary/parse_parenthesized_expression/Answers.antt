@@ -6,15 +6,15 @@ use Rattle.js_base.specs.declared.kind.Kind.TheVariants.{LParen, LBrack, LCurly,
 use Rattle.js_base.specs.Kinds.{one_of_kinds}
 use Rattle.std.specs.Prelude.{◌∷◌, []}
 use Rattle.js_cursor.specs.Moves.{Opened}
-use Rattle.js_parsing.proofs.Bracketed.{opened_here, opened_later}
-use Rattle.js_parsing.proofs.Moving.{standing, stops_behind, same_both}
-use Rattle.js_parsing.proofs.Nesting.{nested_room, nests_later}
+use Rattle.js_parsing_laws.proofs.Bracketed.{opened_here, opened_later}
+use Rattle.js_parsing_laws.proofs.Moving.{standing, stops_behind, same_both}
+use Rattle.js_parsing_laws.proofs.Nesting.{nested_room, nests_later}
 use Rattle.js_operand_laws.proofs.Parentheses.{expression_fails, close_fails, paren_answers, unclosed, paren_whole}
 use Rattle.js_tree.specs.Nodes.{Node}
 use Rattle.js_cursor.specs.Parsers.{Parser}
 use Rattle.std.proofs.Common.{List, ◌<◌, length}
 use Rattle.js_tree.proofs.HoldingLemmas.{Holds-below}
-use Rattle.js_parsing.proofs.Verdicts.{after, grown_then}
+use Rattle.js_parsing_laws.proofs.Verdicts.{after, grown_then}
 use Rattle.js_operands.proofs.primary.parse_parenthesized_expression.Goals as goal
 
 pub advance-requires-clause-whole : goal.advance-requires-clause-whole

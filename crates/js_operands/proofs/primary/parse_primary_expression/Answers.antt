@@ -4,12 +4,12 @@ use Rattle.js_base.specs.Kinds.{one_of_kinds}
 use Rattle.js_base.specs.declared.kind.Kind.TheVariants.{This, Null, True, False, Str}
 use Rattle.js_tree.specs.declared.kind.NodeKind.TheVariants as node
 use Rattle.js_tree.specs.declared.op.Op.TheVariants as op
-use Rattle.js_parsing.proofs.Escapes.{plain_here, word_plain, no_name_where}
-use Rattle.js_parsing.proofs.Giving.{gives_up_here}
-use Rattle.js_parsing.proofs.NameKinds.{name_at, name_so}
-use Rattle.js_parsing.proofs.Signs.{whole_sign}
+use Rattle.js_parsing_laws.proofs.Escapes.{plain_here, word_plain, no_name_where}
+use Rattle.js_parsing_laws.proofs.Giving.{gives_up_here}
+use Rattle.js_parsing_laws.proofs.NameKinds.{name_at, name_so}
+use Rattle.js_parsing_laws.proofs.Signs.{whole_sign}
 use Rattle.js_operand_laws.proofs.Operands.{escaped_fails, leaf_outcome, this_path, null_path, true_path, false_path, string_path, primary_fails, none_of_these}
-use Rattle.js_parsing.specs.Lexemes.{slashes}
+use Rattle.js_parsing_laws.specs.Lexemes.{slashes}
 use Rattle.js_operand_laws.specs.Templates.{heads}
 use Rattle.js_operand_laws.proofs.RegularExpressions.{no_pattern_here}
 use Rattle.js_operands.proofs.primary.parse_primary_expression.Goals as goal

@@ -1,15 +1,15 @@
 use Rattle.std.proofs.Common.{◌∙◌, sym, ap, arith}
-use Rattle.js_parsing.specs.Moves.{unpassable}
+use Rattle.js_parsing_laws.specs.Moves.{unpassable}
 use Rattle.std.proofs.lemmas.Result.{err_from_is_err_and}
 use Rattle.js_base.specs.declared.kind.Kind.TheVariants.{LParen, RAngle}
 use Rattle.js_base.specs.Kinds.{same_kind}
-use Rattle.js_parsing.proofs.Giving.{gives_up_here}
-use Rattle.js_parsing.proofs.Here.{uncut}
+use Rattle.js_parsing_laws.proofs.Giving.{gives_up_here}
+use Rattle.js_parsing_laws.proofs.Here.{uncut}
 use Rattle.js_operand_laws.proofs.Intrinsics.{no_v8, v8_same, v8_grown, v8_name_fails, v8_option, v8_outcome, v8_room, v8_start, v8_unopened}
 use Rattle.js_operand_laws.proofs.Members.{stands_so}
-use Rattle.js_parsing.proofs.Moving.{standing, stops_behind}
-use Rattle.js_parsing.proofs.Nesting.{nests_later}
-use Rattle.js_parsing.proofs.Verdicts.{grown_then}
+use Rattle.js_parsing_laws.proofs.Moving.{standing, stops_behind}
+use Rattle.js_parsing_laws.proofs.Nesting.{nests_later}
+use Rattle.js_parsing_laws.proofs.Verdicts.{grown_then}
 use Rattle.js_operands.proofs.primary.parse_v8_intrinsic_expression.Goals as goal
 
 pub returns-then-not-allows_v8 : goal.returns-then-not-allows_v8

@@ -5,7 +5,7 @@ use Rattle.js_grammar.specs.Marks.{Mark}
 use Rattle.js_cursor.specs.Places.{goal as goal_at}
 use Rattle.js_operand_laws.specs.Supers.{callee_from}
 use Rattle.js_operands.proofs.super_word.check_new_callee.Goals as goal
-use Rattle.js_parsing.specs.Told.{unrelated_at}
+use Rattle.js_parsing_laws.specs.Told.{unrelated_at}
 
 pub error-requires-clause-mark : goal.error-requires-clause-mark
 error-requires-clause-mark g c =

@@ -2,8 +2,8 @@ use Rattle.std.proofs.Common.{ap, ◌∙◌}
 use Rattle.js_base.specs.Kinds.{same_kind}
 use Rattle.js_base.specs.declared.kind.Kind.TheVariants.{RAngle}
 use Rattle.js_base.specs.declared.token.Token.{Token}
-use Rattle.js_parsing.specs.Moves.{unpassable}
-use Rattle.js_parsing.proofs.Here.{uncut}
+use Rattle.js_parsing_laws.specs.Moves.{unpassable}
+use Rattle.js_parsing_laws.proofs.Here.{uncut}
 use Rattle.js_operand_laws.proofs.Supers.{alone_marked, super_taken}
 use Rattle.js_operands.proofs.super_word.parse_super.Goals as goal
 

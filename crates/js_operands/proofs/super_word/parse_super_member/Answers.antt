@@ -1,8 +1,8 @@
 use Rattle.std.proofs.Common.{arith}
 use Rattle.std.proofs.lemmas.Result.{err_from_is_err_and}
 use Rattle.js_base.specs.declared.kind.Kind.TheVariants.{LParen}
-use Rattle.js_parsing.proofs.Moving.{standing}
-use Rattle.js_parsing.proofs.Nesting.{nests_later}
+use Rattle.js_parsing_laws.proofs.Moving.{standing}
+use Rattle.js_parsing_laws.proofs.Nesting.{nests_later}
 use Rattle.js_operand_laws.proofs.Members.{stands_so, taken_room}
 use Rattle.js_operand_laws.proofs.Supers.{super_before, super_headed}
 use Rattle.js_operands.proofs.super_word.parse_super_member.Goals as goal

@@ -1,6 +1,6 @@
 use Rattle.std.proofs.Common.{sym, ◌∙◌}
 use Rattle.std.proofs.lemmas.Bool.{false≢true}
-use Rattle.js_parsing.proofs.Beginning.{begins}
+use Rattle.js_parsing_laws.proofs.Beginning.{begins}
 use Rattle.js_parser.proofs.Readings.{program_answers}
 use Rattle.js_parser.proofs.program.parse_program.Goals as goal
 

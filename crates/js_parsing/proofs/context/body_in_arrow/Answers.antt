@@ -1,10 +1,10 @@
 use Rattle.std.proofs.Common.{ap, arith, refl}
 use Rattle.std.proofs.lemmas.Result.{err_from_is_err_and}
 use Rattle.js_grammar.specs.Productions.{Flags, at, Body}
-use Rattle.js_parsing.specs.Contexts.{braced_body}
-use Rattle.js_parsing.specs.Nesting.{room}
-use Rattle.js_parsing.proofs.Contexts.{braces_at, out_of_context, stops_in_context}
-use Rattle.js_parsing.proofs.Moving.{standing}
+use Rattle.js_parsing_laws.specs.Contexts.{braced_body}
+use Rattle.js_parsing_laws.specs.Nesting.{room}
+use Rattle.js_parsing_laws.proofs.Contexts.{braces_at, out_of_context, stops_in_context}
+use Rattle.js_parsing_laws.proofs.Moving.{standing}
 use Rattle.js_parsing.proofs.context.body_in_arrow.Goals as goal
 
 pub body-requires : goal.body-requires

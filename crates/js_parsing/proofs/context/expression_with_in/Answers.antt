@@ -1,9 +1,9 @@
 use Rattle.std.proofs.Common.{ap, arith, refl}
 use Rattle.std.proofs.lemmas.Result.{err_from_is_err_and}
 use Rattle.js_grammar.specs.Productions.{at, plus_in, Expression}
-use Rattle.js_parsing.specs.Nesting.{room}
-use Rattle.js_parsing.proofs.Contexts.{in_at, out_of_context, stops_in_context}
-use Rattle.js_parsing.proofs.Moving.{standing}
+use Rattle.js_parsing_laws.specs.Nesting.{room}
+use Rattle.js_parsing_laws.proofs.Contexts.{in_at, out_of_context, stops_in_context}
+use Rattle.js_parsing_laws.proofs.Moving.{standing}
 use Rattle.js_parsing.proofs.context.expression_with_in.Goals as goal
 
 pub expression-requires : goal.expression-requires

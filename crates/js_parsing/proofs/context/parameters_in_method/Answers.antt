@@ -1,10 +1,10 @@
 use Rattle.std.proofs.Common.{ap, arith, refl}
 use Rattle.std.proofs.lemmas.Result.{err_from_is_err_and}
 use Rattle.js_grammar.specs.Productions.{params_of}
-use Rattle.js_parsing.specs.Methods.{parameters_of}
-use Rattle.js_parsing.specs.Nesting.{room}
-use Rattle.js_parsing.proofs.Contexts.{params_at, whole_out_of_context, whole_stops_in_context}
-use Rattle.js_parsing.proofs.Moving.{standing}
+use Rattle.js_parsing_laws.specs.Methods.{parameters_of}
+use Rattle.js_parsing_laws.specs.Nesting.{room}
+use Rattle.js_parsing_laws.proofs.Contexts.{params_at, whole_out_of_context, whole_stops_in_context}
+use Rattle.js_parsing_laws.proofs.Moving.{standing}
 use Rattle.js_parsing.proofs.context.parameters_in_method.Goals as goal
 
 pub method_parameters-requires : goal.method_parameters-requires

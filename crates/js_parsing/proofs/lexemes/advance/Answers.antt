@@ -1,4 +1,4 @@
-use Rattle.js_parsing.proofs.Moving.{advances}
+use Rattle.js_parsing_laws.proofs.Moving.{advances}
 use Rattle.js_parsing.proofs.lexemes.advance.Goals as goal
 
 pub returns : goal.returns

@@ -2,8 +2,8 @@ use Rattle.std.proofs.Common.{◌≡◌, inl, inr, true, subst, refl, arith}
 use Rattle.std.proofs.lemmas.Bool.{ltb-true}
 use Rattle.js_base.specs.declared.kind.Kind.{Kind}
 use Rattle.js_base.specs.Kinds.{one_of_kinds}
-use Rattle.js_parsing.specs.Stands.{ending_kinds}
-use Rattle.js_parsing.proofs.Signs.{ended}
+use Rattle.js_parsing_laws.specs.Stands.{ending_kinds}
+use Rattle.js_parsing_laws.proofs.Signs.{ended}
 use Rattle.js_parsing.proofs.lexemes.ends_operand.Goals as goal
 
 pub returns-in-Eof : goal.returns-in-Eof

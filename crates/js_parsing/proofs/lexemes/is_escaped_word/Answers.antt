@@ -1,5 +1,5 @@
 use Rattle.std.proofs.Common.{sym, ◌∙◌}
-use Rattle.js_parsing.proofs.Escapes.{escaped_other, no_escaped_name}
+use Rattle.js_parsing_laws.proofs.Escapes.{escaped_other, no_escaped_name}
 use Rattle.js_parsing.proofs.lexemes.is_escaped_word.Goals as goal
 
 pub returns-in-Ident : goal.returns-in-Ident

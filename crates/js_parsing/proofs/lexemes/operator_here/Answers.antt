@@ -1,6 +1,6 @@
 use Rattle.std.proofs.Common.{◌≡◌, true, false, ap, ◌∙◌, refl}
 use Rattle.js_base.specs.declared.token.Token.{Token}
-use Rattle.js_parsing.proofs.Moving.{tightness, powered}
+use Rattle.js_parsing_laws.proofs.Moving.{tightness, powered}
 use Rattle.js_parsing.proofs.lexemes.operator_here.Goals as goal
 
 pub returns-then-escaped : goal.returns-then-escaped

@@ -3,8 +3,8 @@ use Rattle.std.specs.Option.{option_copied}
 use Rattle.std.specs.Prelude.{slice_get}
 use Rattle.js_base.specs.Kinds.{one_of_kinds}
 use Rattle.js_cursor.specs.Parsers.{Parser}
-use Rattle.js_parsing.specs.Lexemes.{unbuilt_kinds}
-use Rattle.js_parsing.proofs.Unbuilt.{told_so}
+use Rattle.js_parsing_laws.specs.Lexemes.{unbuilt_kinds}
+use Rattle.js_parsing_laws.proofs.Unbuilt.{told_so}
 use Rattle.js_parsing.proofs.lexemes.stopped_unbuilt.Goals as goal
 
 pub returns-in-Some : goal.returns-in-Some

@@ -1,4 +1,4 @@
-use Rattle.js_parsing.proofs.MadeNodes.{made_seen}
+use Rattle.js_parsing_laws.proofs.MadeNodes.{made_seen}
 use Rattle.js_parsing.proofs.nodes.make_list.Goals as goal
 
 pub returns : goal.returns

@@ -1,5 +1,5 @@
 use Rattle.std.proofs.Common.{Some, [], ◌∷◌}
-use Rattle.js_parsing.proofs.MadeNodes.{made_seen}
+use Rattle.js_parsing_laws.proofs.MadeNodes.{made_seen}
 use Rattle.js_parsing.proofs.nodes.make_one.Goals as goal
 
 pub returns : goal.returns

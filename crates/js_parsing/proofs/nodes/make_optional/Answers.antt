@@ -1,6 +1,6 @@
 use Rattle.std.proofs.Common.{[], ◌∷◌}
 use Rattle.js_tree.specs.declared.op.Op.TheVariants as op
-use Rattle.js_parsing.proofs.MadeNodes.{made_seen}
+use Rattle.js_parsing_laws.proofs.MadeNodes.{made_seen}
 use Rattle.js_parsing.proofs.nodes.make_optional.Goals as goal
 
 pub returns : goal.returns

@@ -2,7 +2,7 @@ use Rattle.std.proofs.Common.{◌≡◌, ◌∙◌, refl, sym, ap}
 use Rattle.std.proofs.lemmas.Bool.{false≢true}
 use Rattle.js_base.specs.declared.kind.Kind.TheVariants.{Comma}
 use Rattle.js_pattern_laws.proofs.BehindRests.{comma_marked, comma_stops, comma_told, mark_later, no_comma_here}
-use Rattle.js_parsing.proofs.Signs.{whole_sign}
+use Rattle.js_parsing_laws.proofs.Signs.{whole_sign}
 use Rattle.js_patterns.proofs.binding.check_behind_rest.Goals as goal
 use Rattle.js_base.specs.declared.diagnostic.Diagnostic.{Diagnostic}
 use Rattle.js_base.specs.Diagnostics.{class_of}

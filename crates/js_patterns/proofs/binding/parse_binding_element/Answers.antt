@@ -2,9 +2,9 @@ use Rattle.std.proofs.Common.{arith, refl, sym, ◌∙◌}
 use Rattle.std.proofs.lemmas.Bool.{false≢true}
 use Rattle.std.proofs.lemmas.Result.{err_from_is_err_and}
 use Rattle.js_base.specs.declared.kind.Kind.TheVariants.{Eq}
-use Rattle.js_parsing.proofs.Signs.{whole_sign}
-use Rattle.js_parsing.proofs.Moving.{standing, stops_so}
-use Rattle.js_parsing.proofs.Nesting.{nests_later, nested_room, later_room}
+use Rattle.js_parsing_laws.proofs.Signs.{whole_sign}
+use Rattle.js_parsing_laws.proofs.Moving.{standing, stops_so}
+use Rattle.js_parsing_laws.proofs.Nesting.{nests_later, nested_room, later_room}
 use Rattle.js_pattern_laws.proofs.Bindings.{element_alone, element_with, no_element, no_value}
 use Rattle.js_patterns.proofs.binding.parse_binding_element.Goals as goal
 

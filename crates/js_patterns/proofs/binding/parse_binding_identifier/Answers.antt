@@ -1,7 +1,7 @@
 use Rattle.js_pattern_laws.proofs.Bindings.{name_outcome, no_binding}
-use Rattle.js_parsing.proofs.Giving.{gives_up_here}
-use Rattle.js_parsing.proofs.NodeTexts.{name_word}
-use Rattle.js_parsing.proofs.NameKinds.{listed_here, name_so, name_whole}
+use Rattle.js_parsing_laws.proofs.Giving.{gives_up_here}
+use Rattle.js_parsing_laws.proofs.NodeTexts.{name_word}
+use Rattle.js_parsing_laws.proofs.NameKinds.{listed_here, name_so, name_whole}
 use Rattle.js_patterns.proofs.binding.parse_binding_identifier.Goals as goal
 
 pub returns-then-not-name_stands-clause-answers : goal.returns-then-not-name_stands-clause-answers

@@ -5,10 +5,10 @@ use Rattle.js_grammar.specs.Productions.{Binding}
 use Rattle.js_grammar.specs.Productions.{sym as symbol}
 use Rattle.js_pattern_laws.proofs.Bindings.{binding_bound, no_rest, rest_outcome}
 use Rattle.js_pattern_laws.proofs.RestInitialisers.{rest_begins}
-use Rattle.js_parsing.proofs.Signs.{whole_sign}
-use Rattle.js_parsing.proofs.Moving.{standing, stops_behind}
-use Rattle.js_parsing.proofs.Nesting.{later_room, nested_room, nests_later}
-use Rattle.js_parsing.proofs.Verdicts.{grown_then}
+use Rattle.js_parsing_laws.proofs.Signs.{whole_sign}
+use Rattle.js_parsing_laws.proofs.Moving.{standing, stops_behind}
+use Rattle.js_parsing_laws.proofs.Nesting.{later_room, nested_room, nests_later}
+use Rattle.js_parsing_laws.proofs.Verdicts.{grown_then}
 use Rattle.js_patterns.proofs.binding.parse_binding_rest.Goals as goal
 
 pub advance-requires-clause-whole : goal.advance-requires-clause-whole

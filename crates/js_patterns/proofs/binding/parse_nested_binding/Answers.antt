@@ -1,6 +1,6 @@
 use Rattle.std.proofs.Common.{arith}
 use Rattle.js_base.specs.declared.kind.Kind.TheVariants.{LBrack, LCurly}
-use Rattle.js_parsing.specs.declared.nested.Goal.TheVariants.{Binding}
+use Rattle.js_parsing_laws.specs.declared.nested.Goal.TheVariants.{Binding}
 use Rattle.js_operand_laws.proofs.Members.{stands_so}
 use Rattle.js_patterns.proofs.binding.parse_nested_binding.Goals as goal
 

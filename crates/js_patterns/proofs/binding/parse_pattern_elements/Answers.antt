@@ -3,7 +3,7 @@ use Rattle.std.proofs.lemmas.Result.{err_from_is_err_and}
 use Rattle.js_base.specs.declared.kind.Kind.TheVariants.{RBrack}
 use Rattle.js_pattern_laws.specs.Bindings.{elements_left}
 use Rattle.js_pattern_laws.proofs.Lists.{loop_end, loop_less, loop_more, loop_start, loop_stops, more_so}
-use Rattle.js_parsing.proofs.Nesting.{nests_later}
+use Rattle.js_parsing_laws.proofs.Nesting.{nests_later}
 use Rattle.js_patterns.proofs.binding.parse_pattern_elements.Goals as goal
 
 pub elements-init : goal.elements-init

@@ -1,5 +1,5 @@
 use Rattle.std.specs.Prelude.{[]}
-use Rattle.js_parsing.specs.Nesting.{room}
+use Rattle.js_parsing_laws.specs.Nesting.{room}
 use Rattle.js_pattern_laws.specs.Bindings.{elements_left}
 use Rattle.js_pattern_laws.proofs.Lists.{ListLoop}
 use Rattle.js_patterns.proofs.binding.parse_pattern_elements.Given as goal

@@ -1,6 +1,6 @@
 use Rattle.std.proofs.Common.{refl, arith}
 use Rattle.js_base.specs.declared.kind.Kind.TheVariants.{Comma}
-use Rattle.js_parsing.proofs.Signs.{whole_sign}
+use Rattle.js_parsing_laws.proofs.Signs.{whole_sign}
 use Rattle.js_pattern_laws.proofs.PatternLists.{hole_taken}
 use Rattle.js_patterns.proofs.binding.pass_hole.Goals as goal
 

@@ -2,10 +2,10 @@ use Rattle.std.proofs.Common.{[], ◌≡◌, ◌∙◌, arith, refl}
 use Rattle.std.proofs.lemmas.Result.{err_from_is_err_and}
 use Rattle.js_base.specs.declared.kind.Kind.TheVariants.{Comma}
 use Rattle.js_operand_laws.proofs.Parentheses.{unclosed}
-use Rattle.js_parsing.proofs.Bracketed.{opened_later}
-use Rattle.js_parsing.proofs.Moving.{same_both, standing}
-use Rattle.js_parsing.proofs.Nesting.{nested_room, nests_later}
-use Rattle.js_parsing.proofs.Signs.{whole_sign}
+use Rattle.js_parsing_laws.proofs.Bracketed.{opened_later}
+use Rattle.js_parsing_laws.proofs.Moving.{same_both, standing}
+use Rattle.js_parsing_laws.proofs.Nesting.{nested_room, nests_later}
+use Rattle.js_parsing_laws.proofs.Signs.{whole_sign}
 use Rattle.js_pattern_laws.proofs.FurtherParameters.{behind_first, further_early, further_marked, further_stops, further_taken, unclosed_further}
 use Rattle.js_patterns.proofs.method_parameters.parse_further_parameters.Goals as goal
 

@@ -1,5 +1,5 @@
-use Rattle.js_parsing.specs.Methods.{parameters_of}
-use Rattle.js_parsing.specs.declared.nested.MethodForm.TheVariants.{Getter}
+use Rattle.js_parsing_laws.specs.Methods.{parameters_of}
+use Rattle.js_parsing_laws.specs.declared.nested.MethodForm.TheVariants.{Getter}
 use Rattle.js_pattern_laws.proofs.Accessors.{getter_told, whole_there}
 use Rattle.js_patterns.proofs.method_parameters.parse_getter_parameters.Goals as goal
 

@@ -1,6 +1,6 @@
 use Rattle.js_base.specs.declared.kind.Kind.TheVariants.{LParen}
 use Rattle.js_operand_laws.proofs.Members.{stands_so}
-use Rattle.js_parsing.proofs.Giving.{gives_up_here}
+use Rattle.js_parsing_laws.proofs.Giving.{gives_up_here}
 use Rattle.js_pattern_laws.proofs.MethodParameters.{method_outcome, no_parameters}
 use Rattle.js_patterns.proofs.method_parameters.parse_method_parameters.Goals as goal
 

@@ -6,8 +6,8 @@ use Rattle.js_base.specs.declared.kind.Kind.TheVariants.{LParen, LBrack, LCurly,
 use Rattle.js_base.specs.Kinds.{one_of_kinds}
 use Rattle.js_cursor.specs.Moves.{Opened}
 use Rattle.js_operand_laws.proofs.Parentheses.{paren_whole, unclosed}
-use Rattle.js_parsing.proofs.Bracketed.{opened_here}
-use Rattle.js_parsing.proofs.Moving.{standing}
+use Rattle.js_parsing_laws.proofs.Bracketed.{opened_here}
+use Rattle.js_parsing_laws.proofs.Moving.{standing}
 use Rattle.js_pattern_laws.proofs.MethodParameters.{getter_unclosed, none_between, parameters_taken}
 use Rattle.js_patterns.proofs.method_parameters.parse_no_parameters.Goals as goal
 

@@ -6,9 +6,9 @@ use Rattle.js_base.specs.declared.kind.Kind.TheVariants.{LParen, LBrack, LCurly,
 use Rattle.js_base.specs.Kinds.{one_of_kinds}
 use Rattle.js_cursor.specs.Moves.{Opened}
 use Rattle.js_operand_laws.proofs.Parentheses.{paren_whole, unclosed}
-use Rattle.js_parsing.proofs.Bracketed.{opened_here, opened_later}
-use Rattle.js_parsing.proofs.Moving.{same_both, standing}
-use Rattle.js_parsing.proofs.Nesting.{later_room, nested_room, nests_later}
+use Rattle.js_parsing_laws.proofs.Bracketed.{opened_here, opened_later}
+use Rattle.js_parsing_laws.proofs.Moving.{same_both, standing}
+use Rattle.js_parsing_laws.proofs.Nesting.{later_room, nested_room, nests_later}
 use Rattle.js_pattern_laws.proofs.Accessors.{parentheses_begin}
 use Rattle.js_pattern_laws.proofs.MethodParameters.{no_parameter, one_between, parameters_taken, setter_unclosed, with_parameter}
 use Rattle.js_patterns.proofs.method_parameters.parse_one_parameter.Goals as goal

@@ -1,8 +1,8 @@
 use Rattle.std.proofs.Common.{inl, inr, ap, refl}
 use Rattle.js_base.specs.declared.diagnostic.DiagnosticKind.TheVariants.{SetterWithParameters, SetterWithRestParameter}
 use Rattle.js_base.specs.Kinds.{one_of_kinds}
-use Rattle.js_parsing.specs.Methods.{parameters_of}
-use Rattle.js_parsing.specs.declared.nested.MethodForm.TheVariants.{Setter}
+use Rattle.js_parsing_laws.specs.Methods.{parameters_of}
+use Rattle.js_parsing_laws.specs.declared.nested.MethodForm.TheVariants.{Setter}
 use Rattle.js_pattern_laws.specs.Accessors.{beside_parameters}
 use Rattle.js_pattern_laws.proofs.Accessors.{setter_told, whole_there}
 use Rattle.js_patterns.proofs.method_parameters.parse_setter_parameters.Goals as goal

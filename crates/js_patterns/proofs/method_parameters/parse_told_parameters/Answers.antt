@@ -1,6 +1,6 @@
 use Rattle.std.proofs.Common.{◌∙◌, arith}
 use Rattle.std.proofs.lemmas.Result.{err_from_is_err_and}
-use Rattle.js_parsing.proofs.Moving.{stops_so}
+use Rattle.js_parsing_laws.proofs.Moving.{stops_so}
 use Rattle.js_pattern_laws.proofs.Accessors.{kept_so, parameters_marked}
 use Rattle.js_patterns.proofs.method_parameters.parse_told_parameters.Goals as goal
 

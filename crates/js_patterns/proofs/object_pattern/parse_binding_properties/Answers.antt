@@ -3,7 +3,7 @@ use Rattle.std.proofs.lemmas.Result.{err_from_is_err_and}
 use Rattle.js_base.specs.declared.kind.Kind.TheVariants.{RCurly}
 use Rattle.js_pattern_laws.specs.ObjectPatterns.{properties_left}
 use Rattle.js_pattern_laws.proofs.Lists.{loop_end, loop_less, loop_more, loop_start, loop_stops, more_so}
-use Rattle.js_parsing.proofs.Nesting.{nests_later}
+use Rattle.js_parsing_laws.proofs.Nesting.{nests_later}
 use Rattle.js_patterns.proofs.object_pattern.parse_binding_properties.Goals as goal
 
 pub properties-init : goal.properties-init

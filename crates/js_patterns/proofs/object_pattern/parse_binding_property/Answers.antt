@@ -1,8 +1,8 @@
 use Rattle.std.proofs.Common.{arith}
 use Rattle.std.proofs.lemmas.Result.{err_from_is_err_and}
-use Rattle.js_parsing.proofs.Moving.{standing, stops_so}
-use Rattle.js_parsing.proofs.NameKinds.{name_so}
-use Rattle.js_parsing.proofs.Nesting.{nests_later, later_room}
+use Rattle.js_parsing_laws.proofs.Moving.{standing, stops_so}
+use Rattle.js_parsing_laws.proofs.NameKinds.{name_so}
+use Rattle.js_parsing_laws.proofs.Nesting.{nests_later, later_room}
 use Rattle.js_pattern_laws.proofs.ObjectPatterns.{no_property, no_shorthand_there}
 use Rattle.js_patterns.proofs.object_pattern.parse_binding_property.Goals as goal
 

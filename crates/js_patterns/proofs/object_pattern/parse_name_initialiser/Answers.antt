@@ -3,10 +3,10 @@ use Rattle.std.proofs.lemmas.Bool.{false≢true}
 use Rattle.std.proofs.lemmas.Result.{err_from_is_err_and}
 use Rattle.js_base.specs.declared.kind.Kind.TheVariants.{Eq}
 use Rattle.js_cursor.specs.Parsers.{Parser}
-use Rattle.js_parsing.proofs.Giving.{memory_stops}
-use Rattle.js_parsing.proofs.Moving.{standing}
-use Rattle.js_parsing.proofs.Nesting.{nests_later, nested_room}
-use Rattle.js_parsing.proofs.Signs.{whole_sign}
+use Rattle.js_parsing_laws.proofs.Giving.{memory_stops}
+use Rattle.js_parsing_laws.proofs.Moving.{standing}
+use Rattle.js_parsing_laws.proofs.Nesting.{nests_later, nested_room}
+use Rattle.js_parsing_laws.proofs.Signs.{whole_sign}
 use Rattle.js_pattern_laws.proofs.ObjectPatterns.{at_here, bound_alone, bound_initialised, value_stops}
 use Rattle.js_patterns.proofs.object_pattern.parse_name_initialiser.Goals as goal
 

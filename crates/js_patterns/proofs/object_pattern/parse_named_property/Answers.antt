@@ -3,11 +3,11 @@ use Rattle.std.proofs.lemmas.Bool.{false≢true}
 use Rattle.std.proofs.lemmas.Result.{err_from_is_err_and}
 use Rattle.js_base.specs.declared.span.Span.{Span}
 use Rattle.js_base.specs.declared.token.Token.{Token}
-use Rattle.js_parsing.proofs.Giving.{memory_stops}
-use Rattle.js_parsing.proofs.Moving.{standing}
-use Rattle.js_parsing.proofs.NameKinds.{listed_here, name_at, name_whole}
-use Rattle.js_parsing.proofs.Nesting.{nests_later, later_room}
-use Rattle.js_parsing.proofs.NodeTexts.{name_word, spells_later}
+use Rattle.js_parsing_laws.proofs.Giving.{memory_stops}
+use Rattle.js_parsing_laws.proofs.Moving.{standing}
+use Rattle.js_parsing_laws.proofs.NameKinds.{listed_here, name_at, name_whole}
+use Rattle.js_parsing_laws.proofs.Nesting.{nests_later, later_room}
+use Rattle.js_parsing_laws.proofs.NodeTexts.{name_word, spells_later}
 use Rattle.js_pattern_laws.proofs.ObjectPatterns.{name_named, name_place, no_shorthand_named}
 use Rattle.js_patterns.proofs.object_pattern.parse_named_property.Goals as goal
 

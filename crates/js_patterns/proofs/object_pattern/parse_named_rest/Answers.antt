@@ -5,10 +5,10 @@ use Rattle.js_base.specs.declared.kind.Kind.TheVariants.{Dot3}
 use Rattle.js_grammar.specs.Productions.{BindingIdentifier}
 use Rattle.js_grammar.specs.Productions.{sym as symbol}
 use Rattle.js_tree.proofs.HoldingLemmas.{Holds-below}
-use Rattle.js_parsing.specs.Classes.{EndsParse}
-use Rattle.js_parsing.proofs.Signs.{whole_sign}
-use Rattle.js_parsing.proofs.Moving.{standing}
-use Rattle.js_parsing.proofs.Nesting.{later_room, nested_room, nests_later}
+use Rattle.js_parsing_laws.specs.Classes.{EndsParse}
+use Rattle.js_parsing_laws.proofs.Signs.{whole_sign}
+use Rattle.js_parsing_laws.proofs.Moving.{standing}
+use Rattle.js_parsing_laws.proofs.Nesting.{later_room, nested_room, nests_later}
 use Rattle.js_pattern_laws.proofs.BehindRests.{rest_marked}
 use Rattle.js_pattern_laws.proofs.ObjectRests.{argument_stops, binds_so, named_bound, rest_further, rest_same, unnamed_marked, unnamed_stops}
 use Rattle.js_pattern_laws.proofs.RestInitialisers.{rest_begins}

@@ -8,12 +8,12 @@ use Rattle.js_base.specs.Kinds.{one_of_kinds}
 use Rattle.js_cursor.specs.Moves.{Opened}
 use Rattle.js_pattern_laws.proofs.Bindings.{pattern_moved, pattern_unclosed}
 use Rattle.js_pattern_laws.proofs.ObjectLists.{no_object, object_answers, object_opened, unclosed_object}
-use Rattle.js_parsing.proofs.Bracketed.{opened_here, opened_later}
-use Rattle.js_parsing.proofs.Signs.{whole_sign}
+use Rattle.js_parsing_laws.proofs.Bracketed.{opened_here, opened_later}
+use Rattle.js_parsing_laws.proofs.Signs.{whole_sign}
 use Rattle.js_pattern_laws.proofs.Lists.{list_goes_on, list_stops}
-use Rattle.js_parsing.proofs.Moving.{standing, stops_behind, stops_so}
-use Rattle.js_parsing.proofs.Nesting.{nested_room, nests_later}
-use Rattle.js_parsing.proofs.Verdicts.{after}
+use Rattle.js_parsing_laws.proofs.Moving.{standing, stops_behind, stops_so}
+use Rattle.js_parsing_laws.proofs.Nesting.{nested_room, nests_later}
+use Rattle.js_parsing_laws.proofs.Verdicts.{after}
 use Rattle.js_patterns.proofs.object_pattern.parse_object_pattern.Goals as goal
 
 pub advance-requires-clause-whole : goal.advance-requires-clause-whole

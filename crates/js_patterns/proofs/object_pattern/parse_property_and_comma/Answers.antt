@@ -2,8 +2,8 @@ use Rattle.std.proofs.Common.{arith, refl, sym, ◌∙◌}
 use Rattle.std.proofs.lemmas.Bool.{false≢true}
 use Rattle.std.proofs.lemmas.Result.{err_from_is_err_and}
 use Rattle.js_base.specs.declared.kind.Kind.TheVariants.{Comma}
-use Rattle.js_parsing.proofs.Signs.{whole_sign}
-use Rattle.js_parsing.proofs.Moving.{standing}
+use Rattle.js_parsing_laws.proofs.Signs.{whole_sign}
+use Rattle.js_parsing_laws.proofs.Moving.{standing}
 use Rattle.js_pattern_laws.proofs.ObjectLists.{property_comma, property_last, property_stops}
 use Rattle.js_patterns.proofs.object_pattern.parse_property_and_comma.Goals as goal
 

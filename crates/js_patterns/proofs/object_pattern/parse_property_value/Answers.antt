@@ -1,9 +1,9 @@
 use Rattle.std.proofs.Common.{arith, refl, ◌∙◌}
 use Rattle.std.proofs.lemmas.Result.{err_from_is_err_and}
 use Rattle.js_base.specs.declared.kind.Kind.TheVariants.{Colon}
-use Rattle.js_parsing.proofs.Expected.{expected}
-use Rattle.js_parsing.proofs.Moving.{standing}
-use Rattle.js_parsing.proofs.Nesting.{nests_later, nested_room}
+use Rattle.js_parsing_laws.proofs.Expected.{expected}
+use Rattle.js_parsing_laws.proofs.Moving.{standing}
+use Rattle.js_parsing_laws.proofs.Nesting.{nests_later, nested_room}
 use Rattle.js_pattern_laws.proofs.ObjectPatterns.{colon_stops, element_stops, property_answers}
 use Rattle.js_patterns.proofs.object_pattern.parse_property_value.Goals as goal
 

@@ -4,10 +4,10 @@ use Rattle.std.proofs.lemmas.Result.{err_from_is_err_and}
 use Rattle.js_base.specs.declared.diagnostic.DiagnosticKind.TheVariants.{BindingRestElementLast}
 use Rattle.js_pattern_laws.proofs.BehindRests.{rest_marked}
 use Rattle.js_pattern_laws.proofs.Lists.{more_stops, one_and_more}
-use Rattle.js_parsing.proofs.Moving.{standing}
+use Rattle.js_parsing_laws.proofs.Moving.{standing}
 use Rattle.js_pattern_laws.proofs.ObjectLists.{rest_stops, rest_taken}
 use Rattle.js_patterns.proofs.object_pattern.parse_rest_property.Goals as goal
-use Rattle.js_parsing.specs.Classes.{EndsParse}
+use Rattle.js_parsing_laws.specs.Classes.{EndsParse}
 
 pub returns-in_err-rest : goal.returns-in_err-rest
 returns-in_err-rest g c =

@@ -1,9 +1,9 @@
 use Rattle.std.proofs.Common.{[], ◌≡◌, subst, sym}
 use Rattle.js_base.specs.declared.diagnostic.Diagnostic.{Diagnostic}
-use Rattle.js_parsing.specs.Classes.{EndsParse}
-use Rattle.js_parsing.proofs.Giving.{gives_up}
-use Rattle.js_parsing.proofs.Moving.{stops_behind, stops_so}
-use Rattle.js_parsing.proofs.Verdicts.{after}
+use Rattle.js_parsing_laws.specs.Classes.{EndsParse}
+use Rattle.js_parsing_laws.proofs.Giving.{gives_up}
+use Rattle.js_parsing_laws.proofs.Moving.{stops_behind, stops_so}
+use Rattle.js_parsing_laws.proofs.Verdicts.{after}
 use Rattle.js_pattern_laws.proofs.BehindRests.{mark_later}
 use Rattle.js_patterns.proofs.object_pattern.refuse_rest.Goals as goal
 

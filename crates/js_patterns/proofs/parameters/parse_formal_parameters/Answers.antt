@@ -6,14 +6,14 @@ use Rattle.js_base.specs.declared.kind.Kind.TheVariants.{LParen, LBrack, LCurly,
 use Rattle.js_base.specs.Kinds.{one_of_kinds}
 use Rattle.std.specs.Prelude.{◌∷◌, []}
 use Rattle.js_cursor.specs.Moves.{Opened}
-use Rattle.js_parsing.proofs.Bracketed.{opened_here, opened_later}
-use Rattle.js_parsing.proofs.Moving.{standing, stops_behind}
-use Rattle.js_parsing.proofs.Nesting.{nested_room, nests_later}
+use Rattle.js_parsing_laws.proofs.Bracketed.{opened_here, opened_later}
+use Rattle.js_parsing_laws.proofs.Moving.{standing, stops_behind}
+use Rattle.js_parsing_laws.proofs.Nesting.{nested_room, nests_later}
 use Rattle.js_operand_laws.proofs.Parentheses.{paren_whole, unclosed}
 use Rattle.js_pattern_laws.proofs.Lists.{list_goes_on, list_stops}
 use Rattle.js_pattern_laws.proofs.ParameterLists.{behind_children, list_answers, list_begins, no_params, unclosed_list}
-use Rattle.js_parsing.proofs.Verdicts.{after}
-use Rattle.js_parsing.proofs.Moving.{stops_so}
+use Rattle.js_parsing_laws.proofs.Verdicts.{after}
+use Rattle.js_parsing_laws.proofs.Moving.{stops_so}
 use Rattle.js_patterns.proofs.parameters.parse_formal_parameters.Goals as goal
 
 pub advance-requires-clause-whole : goal.advance-requires-clause-whole

@@ -1,4 +1,4 @@
-use Rattle.js_parsing.specs.Nesting.{room}
+use Rattle.js_parsing_laws.specs.Nesting.{room}
 use Rattle.js_pattern_laws.specs.Parameters.{parameters_left}
 use Rattle.js_pattern_laws.proofs.Lists.{ListLoop}
 use Rattle.js_patterns.proofs.parameters.parse_parameter_list.Given as goal

@@ -1,7 +1,7 @@
 use Rattle.std.proofs.Common.{◌∙◌, arith}
 use Rattle.std.proofs.lemmas.Result.{err_from_is_err_and}
 use Rattle.js_pattern_laws.proofs.Bindings.{no_rest_parameter, rest_parameter}
-use Rattle.js_parsing.proofs.Moving.{stops_so}
+use Rattle.js_parsing_laws.proofs.Moving.{stops_so}
 use Rattle.js_patterns.proofs.parameters.parse_rest_parameter.Goals as goal
 
 pub returns-in_err-rest : goal.returns-in_err-rest

@@ -1,6 +1,6 @@
 use Rattle.std.proofs.Common.{◌∙◌, arith}
 use Rattle.std.proofs.lemmas.Result.{err_from_is_err_and}
-use Rattle.js_parsing.proofs.Moving.{stops_so}
+use Rattle.js_parsing_laws.proofs.Moving.{stops_so}
 use Rattle.js_statement_laws.proofs.Blocks.{block_answers, block_none}
 use Rattle.js_statements.proofs.block.parse_block_statement.Goals as goal
 

@@ -1,6 +1,6 @@
 use Rattle.std.proofs.Common.{refl, ◌∙◌, sym}
-use Rattle.js_parsing.proofs.Escapes.{keyword_escaped, keyword_none, plain_here}
-use Rattle.js_parsing.specs.Statements.{statement_kinds}
+use Rattle.js_parsing_laws.proofs.Escapes.{keyword_escaped, keyword_none, plain_here}
+use Rattle.js_parsing_laws.specs.Statements.{statement_kinds}
 use Rattle.std.proofs.lemmas.Bool.{and_parts}
 use Rattle.js_statement_laws.proofs.Statements.{no_own_kind}
 use Rattle.js_statements.proofs.statement.parse_any_statement.Goals as goal

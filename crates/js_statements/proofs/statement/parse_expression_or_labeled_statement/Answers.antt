@@ -1,14 +1,14 @@
 use Rattle.std.proofs.Common.{◌∙◌, ap, arith, subst}
 use Rattle.std.proofs.lemmas.Result.{err_from_is_err_and}
-use Rattle.js_parsing.proofs.Moving.{standing, stops_so, stops_behind}
+use Rattle.js_parsing_laws.proofs.Moving.{standing, stops_so, stops_behind}
 use Rattle.js_base.specs.Contexts.{has_flag, in_flag, yield_flag, await_flag}
 use Rattle.js_base.specs.declared.span.Span.{Span}
 use Rattle.js_base.specs.declared.token.Token.{Token}
-use Rattle.js_parsing.specs.Statements.{IsLabel}
-use Rattle.js_parsing.proofs.Nesting.{nests_later, later_room}
-use Rattle.js_parsing.proofs.NodeTexts.{name_word, spells_later}
-use Rattle.js_parsing.proofs.NameKinds.{listed_name}
-use Rattle.js_parsing.proofs.Verdicts.{after}
+use Rattle.js_parsing_laws.specs.Statements.{IsLabel}
+use Rattle.js_parsing_laws.proofs.Nesting.{nests_later, later_room}
+use Rattle.js_parsing_laws.proofs.NodeTexts.{name_word, spells_later}
+use Rattle.js_parsing_laws.proofs.NameKinds.{listed_name}
+use Rattle.js_parsing_laws.proofs.Verdicts.{after}
 use Rattle.js_statement_laws.proofs.Statements.{ended_so, in_of, no_colon, no_label, no_label_here, statement_answers, statement_fails, statement_unended}
 use Rattle.js_statement_laws.proofs.WordLookaheads.{async_named}
 use Rattle.js_statements.proofs.statement.parse_expression_or_labeled_statement.Goals as goal

@@ -4,11 +4,11 @@ use Rattle.js_base.specs.Contexts.{has_flag, in_flag}
 use Rattle.js_base.specs.declared.kind.Kind.TheVariants.{Colon}
 use Rattle.js_base.specs.declared.span.Span.{Span}
 use Rattle.js_cursor.specs.Parsers.{Parser}
-use Rattle.js_parsing.proofs.Giving.{memory_stops}
-use Rattle.js_parsing.proofs.Signs.{whole_sign}
+use Rattle.js_parsing_laws.proofs.Giving.{memory_stops}
+use Rattle.js_parsing_laws.proofs.Signs.{whole_sign}
 use Rattle.js_statement_laws.proofs.Labels.{made_at, made_colon, made_room, made_in, label_stops, label_answers}
-use Rattle.js_parsing.proofs.Moving.{standing}
-use Rattle.js_parsing.proofs.Nesting.{nested_room}
+use Rattle.js_parsing_laws.proofs.Moving.{standing}
+use Rattle.js_parsing_laws.proofs.Nesting.{nested_room}
 use Rattle.js_statements.proofs.statement.parse_labeled_statement_rest.Goals as goal
 
 pub advance-requires-clause-at : goal.advance-requires-clause-at

@@ -3,10 +3,10 @@ use Rattle.js_base.specs.Contexts.{has_flag, in_flag}
 use Rattle.js_base.specs.declared.kind.Kind.TheVariants.{Const}
 use Rattle.js_cursor.specs.Parsers.{Parser}
 use Rattle.js_grammar.specs.Productions.{at, Sub}
-use Rattle.js_parsing.specs.Nesting.{room}
-use Rattle.js_parsing.specs.Stands.{StandsHere}
-use Rattle.js_parsing.specs.States.{Standing}
-use Rattle.js_parsing.proofs.Nesting.{nests_later}
+use Rattle.js_parsing_laws.specs.Nesting.{room}
+use Rattle.js_parsing_laws.specs.Stands.{StandsHere}
+use Rattle.js_parsing_laws.specs.States.{Standing}
+use Rattle.js_parsing_laws.proofs.Nesting.{nests_later}
 use Rattle.js_operand_laws.specs.Functions.{NoFunctionHere}
 use Rattle.js_operand_laws.proofs.AsyncWords.{begun_at, found_so}
 use Rattle.js_statement_laws.specs.LetStatements.{NoLet}

@@ -1,9 +1,9 @@
 use Rattle.std.proofs.Common.{sym, ◌∙◌, arith}
 use Rattle.std.proofs.lemmas.Bool.{false≢true}
 use Rattle.std.proofs.lemmas.Result.{err_from_is_err_and}
-use Rattle.js_parsing.proofs.Moving.{standing, stops_behind}
-use Rattle.js_parsing.proofs.Nesting.{nests_later, later_room}
-use Rattle.js_parsing.proofs.Verdicts.{after}
+use Rattle.js_parsing_laws.proofs.Moving.{standing, stops_behind}
+use Rattle.js_parsing_laws.proofs.Nesting.{nests_later, later_room}
+use Rattle.js_parsing_laws.proofs.Verdicts.{after}
 use Rattle.js_statement_laws.proofs.StatementLists.{in_lasts, none_taken, none_left, none_yet, one_taken_more, statements_follow, smaller_room, opened_statement, opened_directive, as_list, no_such_list}
 use Rattle.js_statements.proofs.statement_list.parse_directives.Goals as goal
 

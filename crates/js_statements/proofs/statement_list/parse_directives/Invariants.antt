@@ -1,7 +1,7 @@
 use Rattle.std.specs.Prelude.{ℕ, List}
 use Rattle.js_grammar.specs.Productions.{Flags}
-use Rattle.js_parsing.specs.Nesting.{room}
-use Rattle.js_parsing.specs.States.{At}
+use Rattle.js_parsing_laws.specs.Nesting.{room}
+use Rattle.js_parsing_laws.specs.States.{At}
 use Rattle.js_statement_laws.specs.StatementLists.{Taken, with_directives}
 use Rattle.js_statements.proofs.statement_list.parse_directives.Given as goal
 

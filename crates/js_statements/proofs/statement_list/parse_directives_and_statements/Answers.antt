@@ -1,8 +1,8 @@
 use Rattle.std.proofs.Common.{sym, arith, ◌∙◌}
 use Rattle.std.proofs.lemmas.Result.{err_from_is_err_and}
-use Rattle.js_parsing.proofs.Moving.{standing, stops_behind}
-use Rattle.js_parsing.proofs.Nesting.{later_room}
-use Rattle.js_parsing.proofs.Verdicts.{after}
+use Rattle.js_parsing_laws.proofs.Moving.{standing, stops_behind}
+use Rattle.js_parsing_laws.proofs.Nesting.{later_room}
+use Rattle.js_parsing_laws.proofs.Verdicts.{after}
 use Rattle.js_statement_laws.proofs.StatementLists.{goes_on_here, in_lasts, none_left, one_taken_more, statement_taken, no_statement_here, smaller_room}
 use Rattle.js_statements.proofs.statement_list.parse_directives_and_statements.Goals as goal
 

@@ -1,7 +1,7 @@
 use Rattle.std.proofs.Common.{◌∙◌, arith}
 use Rattle.std.proofs.lemmas.Result.{err_from_is_err_and}
-use Rattle.js_parsing.proofs.Moving.{standing, stops_so, stops_behind}
-use Rattle.js_parsing.proofs.Verdicts.{after}
+use Rattle.js_parsing_laws.proofs.Moving.{standing, stops_so, stops_behind}
+use Rattle.js_parsing_laws.proofs.Verdicts.{after}
 use Rattle.js_statement_laws.proofs.Statements.{ended_so, in_of}
 use Rattle.js_statement_laws.proofs.StatementLists.{no_opening, opening_unended, opening_answers, opening_taken, child_below}
 use Rattle.js_statements.proofs.statement_list.parse_opening.Goals as goal

@@ -2,8 +2,8 @@ use Rattle.std.proofs.Common.{◌≡◌, ◌∙◌, ap, refl, sym}
 use Rattle.std.proofs.lemmas.Bool.{false≢true}
 use Rattle.js_base.specs.declared.diagnostic.DiagnosticKind.TheVariants.{ExpectSwitchClause}
 use Rattle.js_base.specs.declared.span.Span.{Span}
-use Rattle.js_parsing.specs.Told.{unrelated_at}
-use Rattle.js_parsing.proofs.Giving.{gives_up_here}
+use Rattle.js_parsing_laws.specs.Told.{unrelated_at}
+use Rattle.js_parsing_laws.proofs.Giving.{gives_up_here}
 use Rattle.js_statement_laws.proofs.SwitchStatements.{due_here, due_marked, due_stops, undue_here}
 use Rattle.js_statements.proofs.switch_statement.expect_clause.Goals as goal
 

@@ -2,9 +2,9 @@ use Rattle.std.proofs.Common.{◌∙◌, ap, arith, refl}
 use Rattle.std.proofs.lemmas.Result.{err_from_is_err_and}
 use Rattle.js_base.specs.Contexts.{has_flag, in_flag}
 use Rattle.js_base.specs.declared.kind.Kind.TheVariants.{LCurly, RCurly}
-use Rattle.js_parsing.proofs.Moving.{standing}
-use Rattle.js_parsing.proofs.Nesting.{nested_room, nests_later}
-use Rattle.js_parsing.proofs.Signs.{whole_sign}
+use Rattle.js_parsing_laws.proofs.Moving.{standing}
+use Rattle.js_parsing_laws.proofs.Nesting.{nested_room, nests_later}
+use Rattle.js_parsing_laws.proofs.Signs.{whole_sign}
 use Rattle.js_statement_laws.proofs.CompoundStatements.{expected, unexpected}
 use Rattle.js_statement_laws.proofs.SwitchStatements.{block_taken, clauses_stop, no_block_here}
 use Rattle.js_statements.proofs.switch_statement.parse_case_block.Goals as goal

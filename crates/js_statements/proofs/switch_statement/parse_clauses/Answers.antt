@@ -1,8 +1,8 @@
 use Rattle.std.proofs.Common.{sym, ◌∙◌}
 use Rattle.std.proofs.lemmas.Bool.{false≢true}
 use Rattle.std.proofs.lemmas.Result.{err_from_is_err_and}
-use Rattle.js_parsing.proofs.Moving.{standing}
-use Rattle.js_parsing.proofs.Nesting.{later_room, nests_later}
+use Rattle.js_parsing_laws.proofs.Moving.{standing}
+use Rattle.js_parsing_laws.proofs.Nesting.{later_room, nests_later}
 use Rattle.js_statement_laws.proofs.StatementLists.{in_lasts, smaller_room}
 use Rattle.js_statement_laws.proofs.SwitchStatements.{all_taken, begins_here, none_so_far, some_more, some_refused, undue_stops}
 use Rattle.js_statements.proofs.switch_statement.parse_clauses.Goals as goal

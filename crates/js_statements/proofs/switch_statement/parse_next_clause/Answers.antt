@@ -1,6 +1,6 @@
 use Rattle.std.proofs.Common.{arith, ◌∙◌}
 use Rattle.std.proofs.lemmas.Result.{err_from_is_err_and}
-use Rattle.js_parsing.proofs.Moving.{standing}
+use Rattle.js_parsing_laws.proofs.Moving.{standing}
 use Rattle.js_statement_laws.proofs.SwitchStatements.{begins_as, may_note, next_refused, next_taken, next_undue, noted_at}
 use Rattle.js_statements.proofs.switch_statement.parse_next_clause.Goals as goal
 

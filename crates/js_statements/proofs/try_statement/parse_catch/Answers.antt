@@ -5,8 +5,8 @@ use Rattle.js_base.specs.declared.kind.Kind.TheVariants.{Catch}
 use Rattle.js_grammar.specs.Productions.{sym}
 use Rattle.js_grammar.specs.Productions.{Catch as ACatch}
 use Rattle.js_operand_laws.proofs.Members.{stands_so}
-use Rattle.js_parsing.proofs.Moving.{standing}
-use Rattle.js_parsing.proofs.Nesting.{later_room, nested_room, nests_later}
+use Rattle.js_parsing_laws.proofs.Moving.{standing}
+use Rattle.js_parsing_laws.proofs.Nesting.{later_room, nested_room, nests_later}
 use Rattle.js_statement_laws.proofs.TryStatements.{catch_stops, catch_taken, parameter_at, parameter_forward, parameter_read, parameter_same, parameter_stops, part_memory, part_stops}
 use Rattle.js_statement_laws.proofs.WordStatements.{word_here}
 use Rattle.js_statements.proofs.try_statement.parse_catch.Goals as goal

@@ -2,10 +2,10 @@ use Rattle.std.proofs.Common.{◌∙◌, arith, refl}
 use Rattle.std.proofs.lemmas.Result.{err_from_is_err_and}
 use Rattle.js_base.specs.declared.kind.Kind.TheVariants.{LParen, RParen}
 use Rattle.js_operand_laws.proofs.Members.{stands_so}
-use Rattle.js_parsing.proofs.Expected.{expected, unexpected}
-use Rattle.js_parsing.proofs.Moving.{standing}
-use Rattle.js_parsing.proofs.Nesting.{nested_room}
-use Rattle.js_parsing.proofs.Signs.{whole_sign}
+use Rattle.js_parsing_laws.proofs.Expected.{expected, unexpected}
+use Rattle.js_parsing_laws.proofs.Moving.{standing}
+use Rattle.js_parsing_laws.proofs.Nesting.{nested_room}
+use Rattle.js_parsing_laws.proofs.Signs.{whole_sign}
 use Rattle.js_statement_laws.proofs.TryStatements.{binding_stops, no_last, parameter_made, parameter_taken, parameter_unclosed, part_memory, part_stops}
 use Rattle.js_statement_laws.specs.TryStatements.{parameter_of}
 use Rattle.js_statements.proofs.try_statement.parse_catch_parameter.Goals as goal

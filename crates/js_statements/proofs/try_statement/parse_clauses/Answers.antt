@@ -4,8 +4,8 @@ use Rattle.js_base.specs.Contexts.{has_flag, in_flag}
 use Rattle.js_base.specs.declared.diagnostic.Diagnostic.{Diagnostic}
 use Rattle.js_base.specs.Diagnostics.{class_of}
 use Rattle.js_cursor.specs.Places.{IsAt}
-use Rattle.js_parsing.proofs.Moving.{standing}
-use Rattle.js_parsing.proofs.Nesting.{later_room, nests_later}
+use Rattle.js_parsing_laws.proofs.Moving.{standing}
+use Rattle.js_parsing_laws.proofs.Nesting.{later_room, nests_later}
 use Rattle.js_statement_laws.proofs.TryStatements.{clauses_missing, clauses_read, clauses_refused, handler_refused, handler_state, missing_marked, missing_state}
 use Rattle.js_statements.proofs.try_statement.parse_clauses.Goals as goal
 

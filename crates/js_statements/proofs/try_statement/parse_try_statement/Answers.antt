@@ -2,8 +2,8 @@ use Rattle.std.proofs.Common.{◌∙◌, ap, arith, refl}
 use Rattle.std.proofs.lemmas.Result.{err_from_is_err_and}
 use Rattle.js_base.specs.Contexts.{has_flag, in_flag}
 use Rattle.js_base.specs.declared.kind.Kind.TheVariants.{Try}
-use Rattle.js_parsing.proofs.Moving.{standing}
-use Rattle.js_parsing.proofs.Nesting.{later_room, nested_room, nests_later}
+use Rattle.js_parsing_laws.proofs.Moving.{standing}
+use Rattle.js_parsing_laws.proofs.Nesting.{later_room, nested_room, nests_later}
 use Rattle.js_statement_laws.proofs.TryStatements.{block_edge, block_stops, clauses_stop, tried_same, try_answers, try_further}
 use Rattle.js_statement_laws.proofs.WordStatements.{word_here}
 use Rattle.js_statements.proofs.try_statement.parse_try_statement.Goals as goal

@@ -1,9 +1,9 @@
 use Rattle.std.proofs.Common.{◌∙◌, refl, arith}
 use Rattle.std.proofs.lemmas.Result.{err_from_is_err_and}
 use Rattle.js_base.specs.declared.kind.Kind.TheVariants.{Debugger}
-use Rattle.js_parsing.proofs.Moving.{standing, stops_behind}
+use Rattle.js_parsing_laws.proofs.Moving.{standing, stops_behind}
 use Rattle.js_statement_laws.proofs.Statements.{ended_so}
-use Rattle.js_parsing.proofs.Verdicts.{grown_then}
+use Rattle.js_parsing_laws.proofs.Verdicts.{grown_then}
 use Rattle.js_statement_laws.proofs.WordStatements.{debugger_answers, debugger_unended, word_here}
 use Rattle.js_statements.proofs.word_statement.parse_debugger_statement.Goals as goal
 

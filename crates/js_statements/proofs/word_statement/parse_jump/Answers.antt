@@ -1,6 +1,6 @@
 use Rattle.std.proofs.Common.{◌∙◌, arith}
 use Rattle.std.proofs.lemmas.Result.{err_from_is_err_and}
-use Rattle.js_parsing.proofs.Moving.{standing, stops_behind}
+use Rattle.js_parsing_laws.proofs.Moving.{standing, stops_behind}
 use Rattle.js_statement_laws.proofs.Statements.{ended_so}
 use Rattle.js_statement_laws.proofs.WordStatements.{jump_answers, jump_at, jump_follows, jump_further, jump_grown, jump_stops, jump_unended, jump_whole}
 use Rattle.js_statements.proofs.word_statement.parse_jump.Goals as goal

@@ -1,8 +1,8 @@
 use Rattle.std.proofs.Common.{◌∙◌, sym, refl}
 use Rattle.std.proofs.lemmas.Bool.{false≢true}
 use Rattle.std.proofs.lemmas.Result.{err_from_is_err_and}
-use Rattle.js_parsing.proofs.NodeTexts.{name_word}
-use Rattle.js_parsing.proofs.NameKinds.{listed_here, name_so, name_whole}
+use Rattle.js_parsing_laws.proofs.NodeTexts.{name_word}
+use Rattle.js_parsing_laws.proofs.NameKinds.{listed_here, name_so, name_whole}
 use Rattle.js_statement_laws.proofs.WordStatements.{label_memory, label_told}
 use Rattle.js_statements.proofs.word_statement.parse_optional_label.Goals as goal
 

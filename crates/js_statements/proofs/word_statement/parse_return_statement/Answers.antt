@@ -3,8 +3,8 @@ use Rattle.std.proofs.lemmas.Result.{err_from_is_err_and}
 use Rattle.js_base.specs.declared.kind.Kind.TheVariants.{Return}
 use Rattle.js_base.specs.declared.span.Span.{Span}
 use Rattle.js_base.specs.declared.token.Token.{Token}
-use Rattle.js_parsing.proofs.Moving.{same_both, standing, stops_behind}
-use Rattle.js_parsing.proofs.Nesting.{nested_room, nests_later}
+use Rattle.js_parsing_laws.proofs.Moving.{same_both, standing, stops_behind}
+use Rattle.js_parsing_laws.proofs.Nesting.{nested_room, nests_later}
 use Rattle.js_statement_laws.proofs.Returns.{argument_stops, checked_place, ended_at, ended_further, return_answers, return_at, return_grown, return_same, return_unended, stray_marked}
 use Rattle.js_statement_laws.proofs.Statements.{ended_so, in_of}
 use Rattle.js_statement_laws.proofs.WordStatements.{word_here}

@@ -3,10 +3,10 @@ use Rattle.std.proofs.lemmas.Result.{err_from_is_err_and}
 use Rattle.js_base.specs.declared.kind.Kind.TheVariants.{Throw}
 use Rattle.js_base.specs.declared.span.Span.{Span}
 use Rattle.js_base.specs.declared.token.Token.{Token}
-use Rattle.js_parsing.proofs.Moving.{standing, stops_behind}
-use Rattle.js_parsing.proofs.Nesting.{nests_later, later_room}
+use Rattle.js_parsing_laws.proofs.Moving.{standing, stops_behind}
+use Rattle.js_parsing_laws.proofs.Nesting.{nests_later, later_room}
 use Rattle.js_statement_laws.proofs.Statements.{ended_so, in_of}
-use Rattle.js_parsing.proofs.Verdicts.{after}
+use Rattle.js_parsing_laws.proofs.Verdicts.{after}
 use Rattle.js_statement_laws.proofs.WordStatements.{checked_at, checked_place, late_marked, throw_answers, throw_grown, throw_no_operand, throw_same, throw_unended, word_here}
 use Rattle.js_statements.proofs.word_statement.parse_throw_statement.Goals as goal
 

@@ -1,6 +1,6 @@
 use Rattle.std.proofs.Common.{List, Option, None, length, sym, ap, subst, ◌∙◌}
-use Rattle.js_parsing.specs.States.{At, flags_of}
-use Rattle.js_parsing.proofs.Moving.{beside_nodes, standing}
+use Rattle.js_parsing_laws.specs.States.{At, flags_of}
+use Rattle.js_parsing_laws.proofs.Moving.{beside_nodes, standing}
 use Rattle.js_tree.specs.declared.id.NodeId.{NodeId}
 use Rattle.js_cursor.specs.Parsers.{Parser}
 use Rattle.js_targets.specs.declared.widening.Widening.{Widening}

@@ -4,8 +4,8 @@ use Rattle.js_base.specs.declared.diagnostic.Diagnostic.{Diagnostic}
 use Rattle.js_base.specs.declared.span.Span.{Span}
 use Rattle.js_grammar.specs.Marks.{Mark}
 use Rattle.js_cursor.specs.Places.{goal as source}
-use Rattle.js_parsing.specs.Classes.{ends_parse}
-use Rattle.js_parsing.proofs.Classes.{gives_up_by, unexpected_ends}
+use Rattle.js_parsing_laws.specs.Classes.{ends_parse}
+use Rattle.js_parsing_laws.proofs.Classes.{gives_up_by, unexpected_ends}
 use Rattle.js_targets.specs.Taken.{refusal_at}
 use Rattle.js_targets.proofs.array_target.refuse_literal.Goals as goal
 

@@ -5,9 +5,9 @@ use Rattle.js_base.specs.declared.diagnostic.DiagnosticKind.TheVariants as fault
 use Rattle.js_base.specs.declared.span.Span.{Span}
 use Rattle.js_grammar.specs.Marks.{Mark}
 use Rattle.js_cursor.specs.Places.{goal as source}
-use Rattle.js_parsing.specs.Classes.{ends_parse}
-use Rattle.js_parsing.proofs.Classes.{gives_up_by, unexpected_ends}
-use Rattle.js_parsing.proofs.Signs.{span_is}
+use Rattle.js_parsing_laws.specs.Classes.{ends_parse}
+use Rattle.js_parsing_laws.proofs.Classes.{gives_up_by, unexpected_ends}
+use Rattle.js_parsing_laws.proofs.Signs.{span_is}
 use Rattle.js_targets.proofs.cover.refuse_target.Goals as goal
 
 pub set_fatal_error-requires-clause-mark : goal.set_fatal_error-requires-clause-mark

@@ -3,7 +3,7 @@ use Rattle.js_base.specs.declared.diagnostic.DiagnosticKind.TheVariants as fault
 use Rattle.js_base.specs.declared.span.Span.{Span}
 use Rattle.js_grammar.specs.Marks.{Mark}
 use Rattle.js_cursor.specs.Places.{goal as source}
-use Rattle.js_parsing.proofs.Signs.{span_is}
+use Rattle.js_parsing_laws.proofs.Signs.{span_is}
 use Rattle.js_targets.proofs.cover.tell_not_simple.Goals as goal
 
 pub error-requires-clause-mark : goal.error-requires-clause-mark

@@ -1,6 +1,6 @@
 use Rattle.std.proofs.Common.{◌<◌, refl, arith, length}
 use Rattle.std.proofs.lemmas.Option.{slice_get_read}
-use Rattle.js_parsing.proofs.Moving.{standing}
+use Rattle.js_parsing_laws.proofs.Moving.{standing}
 use Rattle.js_targets.proofs.PlacesTold.{next_place, place_fits, place_spotted, places_begin, places_end, places_next}
 use Rattle.js_targets.proofs.widening.tell_places.Goals as goal
 
