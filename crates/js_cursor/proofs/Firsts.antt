@@ -30,10 +30,10 @@ use Rattle.js_grammar.proofs.LongestLemmas.{both, both-left, both-right}
 use Rattle.js_lex.specs.Comments.{each_at, html_fault_at}
 use Rattle.js_lex.specs.Kept.{IsEmpty}
 use Rattle.js_lex.specs.Reading.{cut, GivesLexeme, GivesNone, Outcome, GivesNext, GivesHashbang, GivesFirst, in_a_module}
-use Rattle.js_lex.specs.Scans.{NoLexeme}
+use Rattle.js_words.specs.Scans.{NoLexeme}
 use Rattle.js_lex.specs.States.{State, goal_of}
-use Rattle.js_lex.proofs.Fronts.{not_all}
-use Rattle.js_lex.proofs.KindsOfLexemes.{hashbang_is}
+use Rattle.js_words.proofs.Fronts.{not_all}
+use Rattle.js_words.proofs.KindsOfLexemes.{hashbang_is}
 use Rattle.js_tree.specs.Nodes.{Node, empty_program}
 use Rattle.js_cursor.specs.Histories.{StandBefore}
 use Rattle.js_cursor.specs.Notes.{Notes, HasNone}

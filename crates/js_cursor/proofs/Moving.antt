@@ -21,7 +21,7 @@ use Rattle.js_grammar.specs.Lexed.{Lex, all_faults, end_of, join}
 use Rattle.js_grammar.specs.LexicalFaults.{Reached, FaultyBehind, is_invalid_character, Condition}
 use Rattle.js_grammar.specs.Characters.{width}
 use Rattle.js_grammar.specs.Lexemes.{regular_expression, template_tail, hashbang, kind_in}
-use Rattle.js_lex.proofs.KindsOfLexemes.{plain_end}
+use Rattle.js_words.proofs.KindsOfLexemes.{plain_end}
 use Rattle.js_lex.proofs.TriviaLemmas.{some_width}
 use Rattle.std.proofs.lemmas.List.Elements.{All-weaker, All-same, All-cons, All-nil}
 use Rattle.js_grammar.specs.Settings.{Goal}

@@ -17,9 +17,9 @@ use Rattle.js_grammar.specs.Marks.{Plain, NoPlain}
 use Rattle.js_lex.specs.Reading.{cut, is_right_angle, Tells, LexemeBehind, GivesLexeme, GivesNone, GivesNext, GivesAgain, is_kept, kept_token, relexed}
 use Rattle.js_lex.specs.States.{State}
 use Rattle.js_lex.proofs.Again.{passed, cut_same}
-use Rattle.js_lex.proofs.Fronts.{ends_there}
+use Rattle.js_words.proofs.Fronts.{ends_there}
 use Rattle.js_lex.proofs.Given.{lexeme_given}
-use Rattle.js_lex.proofs.KindsOfLexemes.{plain_end, plain_no_end}
+use Rattle.js_words.proofs.KindsOfLexemes.{plain_end, plain_no_end}
 use Rattle.js_cursor.specs.Markers.{GivesPlain}
 use Rattle.js_cursor.proofs.Moving.{whole_again, cut_sign}
 

@@ -23,7 +23,7 @@ use Rattle.js_grammar.proofs.LongestLemmas.{both-right}
 use Rattle.js_lex.specs.Reading.{cut, is_right_angle, Tells, LexemeBehind, GivesLexeme, GivesNone, Outcome, GivesAgain, GivesNext, FlagsStand, WasGiven}
 use Rattle.js_lex.specs.States.{State}
 use Rattle.js_lex.proofs.Again.{cut_same}
-use Rattle.js_lex.proofs.KindsOfLexemes.{plain_end, pattern_is, tail_is, hashbang_is, slash_word, slash_equals_word, brace_word}
+use Rattle.js_words.proofs.KindsOfLexemes.{plain_end, pattern_is, tail_is, hashbang_is, slash_word, slash_equals_word, brace_word}
 use Rattle.js_cursor.specs.Parsers.{Parser}
 use Rattle.js_cursor.specs.Tokens.{IsToken, whole, sign, nothing}
 use Rattle.js_cursor.specs.Places.{IsAt, IsFault, goal}

@@ -11,12 +11,13 @@ use Rattle.js_grammar.specs.Grammar.{Lexeme}
 use Rattle.js_grammar.specs.Lexemes.{division}
 use Rattle.js_grammar.specs.Productions.{Flags}
 use Rattle.js_grammar.proofs.Alike.{lex-same}
-use Rattle.js_lex.specs.Places.{Peeks}
-use Rattle.js_lex.specs.Punctuators.{is_lone, punctuator_of}
+use Rattle.js_words.specs.Places.{Peeks}
+use Rattle.js_scan.specs.Punctuators.{punctuator_of}
+use Rattle.js_words.specs.ByteClasses.{is_lone}
 use Rattle.js_lex.specs.Reading.{LexemeBehind, is_right_angle}
 use Rattle.js_lex.proofs.Giving.{lexeme_behind}
-use Rattle.js_lex.proofs.Places.{peeks}
-use Rattle.js_lex.proofs.PunctuatorLexemes.{lone_scanned}
+use Rattle.js_words.proofs.Places.{peeks}
+use Rattle.js_scan.proofs.PunctuatorLexemes.{lone_scanned}
 use Rattle.js_lex.proofs.TriviaLemmas.{lone_no_trivia}
 use Rattle.js_cursor.specs.Parsers.{Parser}
 use Rattle.js_parsing_laws.specs.States.{At, IsPlain, nothing, sign, whole}

@@ -15,7 +15,7 @@ use Rattle.js_grammar.specs.Lexemes.{division}
 use Rattle.js_grammar.proofs.Heads.{One, the_last, and_more}
 use Rattle.js_lex.specs.Reading.{cut, is_right_angle, Tells, GivesLexeme, GivesNone, GivesBehind, LexemeBehind, Outcome}
 use Rattle.js_lex.proofs.Again.{cut_same, passed}
-use Rattle.js_lex.proofs.StringPlaces.{front_word}
+use Rattle.js_scan.proofs.StringPlaces.{front_word}
 use Rattle.js_parsing_laws.specs.Lexemes.{Lex, slashes}
 use Rattle.js_expression_laws.specs.declared.forms.OpenBracket.{OpenBracket}
 use Rattle.js_expression_laws.specs.Closings.{number_of, Closing, closed, inside, ArrowBehindOne, open_behind, tells_whole, BracketPassed, LastClosed, Opened, ArrowStands, ArrowFound, Settled}

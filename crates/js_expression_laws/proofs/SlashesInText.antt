@@ -14,12 +14,12 @@ use Rattle.js_grammar.specs.LexicalFaults.{behind}
 use Rattle.js_grammar.specs.Longest.{joined}
 use Rattle.js_grammar.specs.Lexemes.{LexicalGoal, division, regular_expression, kind_in}
 use Rattle.js_grammar.proofs.Heads.{One, the_last, and_more}
-use Rattle.js_lex.specs.Places.{Peeks, Word}
+use Rattle.js_words.specs.Places.{Peeks, Word}
 use Rattle.js_lex.specs.Reading.{LexemeBehind}
 use Rattle.js_lex.proofs.Again.{cancel, passed}
-use Rattle.js_lex.proofs.KindsOfLexemes.{plain_end, slash_word, slash_equals_word}
-use Rattle.js_lex.proofs.Places.{at_end, peeks}
-use Rattle.js_lex.proofs.StringPlaces.{front_word}
+use Rattle.js_words.proofs.KindsOfLexemes.{plain_end, slash_word, slash_equals_word}
+use Rattle.js_words.proofs.Places.{at_end, peeks}
+use Rattle.js_scan.proofs.StringPlaces.{front_word}
 use Rattle.js_lex.proofs.TriviaLemmas.{some_width}
 use Rattle.js_parsing_laws.specs.Lexemes.{Lex, other_goals, signs_of, slashes}
 use Rattle.js_parsing_laws.proofs.Here.{plainly}

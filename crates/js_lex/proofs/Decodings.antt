@@ -15,10 +15,10 @@ use Rattle.js_grammar.specs.Strings.{nothing_left, closes_string, string_inside,
 use Rattle.js_grammar.proofs.LongestLemmas.{both-left, both-right, not-true}
 use Rattle.js_grammar.proofs.Finding.{member}
 use Rattle.js_grammar.specs.LexicalFaults.{behind}
-use Rattle.js_lex.specs.Places.{Word}
+use Rattle.js_words.specs.Places.{Word}
 use Rattle.js_lex.specs.States.{State}
-use Rattle.js_lex.proofs.Places.{width-append}
-use Rattle.js_lex.proofs.StringPlaces.{front_word, part_chars}
+use Rattle.js_words.proofs.Places.{width-append}
+use Rattle.js_scan.proofs.StringPlaces.{front_word, part_chars}
 
 -- the quote is the last of the characters
 record EndsWith (q : ℕ) (cs : List ℕ) : Type 0 where

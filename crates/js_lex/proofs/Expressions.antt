@@ -13,20 +13,20 @@ use Rattle.js_grammar.specs.Longest.{joined}
 use Rattle.js_grammar.specs.Trivia.{are_trivia}
 use Rattle.js_grammar.specs.Lexemes.{division, regular_expression, kind_in}
 use Rattle.js_grammar.specs.LexicalFaults.{behind}
-use Rattle.js_lex.specs.declared.scan.Scanned.{Scanned}
-use Rattle.js_lex.specs.Places.{Word}
+use Rattle.js_words.specs.declared.scan.Scanned.{Scanned}
+use Rattle.js_words.specs.Places.{Word}
 use Rattle.js_lex.specs.States.{State, SameText}
 use Rattle.js_lex.specs.Reading.{cut, Tells, LexemeBehind, GivesLexeme, GivesNone, Outcome, WasGiven, GivesAgain, FlagsStand, flag_faults, relexed}
 use Rattle.js_lex.specs.Settling.{token_of, SettledAgain, SettledBehind}
-use Rattle.js_lex.specs.Scans.{IsStopped}
+use Rattle.js_words.specs.Scans.{IsStopped}
 use Rattle.js_lex.specs.Kept.{Grows}
-use Rattle.js_lex.specs.RegularExpressionParts.{IsRegularExpression}
-use Rattle.js_lex.specs.declared.scan.Fault.{Fault}
-use Rattle.js_lex.specs.declared.regular_expression.RegularExpression.{RegularExpression}
+use Rattle.js_scan.specs.RegularExpressionParts.{IsRegularExpression}
+use Rattle.js_words.specs.declared.scan.Fault.{Fault}
+use Rattle.js_scan.specs.declared.regular_expression.RegularExpression.{RegularExpression}
 use Rattle.js_lex.proofs.ReadAgain.{unflagged}
-use Rattle.js_lex.proofs.KindsOfLexemes.{plain_end, slash_word, slash_equals_word, no_comment_opens}
-use Rattle.js_lex.proofs.StringPlaces.{front_word}
-use Rattle.js_lex.proofs.Flags.{spelled}
+use Rattle.js_words.proofs.KindsOfLexemes.{plain_end, slash_word, slash_equals_word, no_comment_opens}
+use Rattle.js_scan.proofs.StringPlaces.{front_word}
+use Rattle.js_words.proofs.Flags.{spelled}
 use Rattle.js_lex.proofs.Marks.{flags_marked, pattern_boundary}
 use Rattle.js_lex.proofs.Giving.{lexeme_behind}
 use Rattle.js_lex.proofs.Again.{passed, given_start, cut_kind, again_lexeme, gives_again, cancel}

@@ -6,13 +6,13 @@ use Rattle.js_base.specs.declared.token.Token.{Token}
 use Rattle.js_grammar.specs.Trivia.{are_trivia}
 use Rattle.js_grammar.specs.Lexemes.{hashbang, hashbang_kind, division, kind_in}
 use Rattle.js_grammar.specs.LexicalFaults.{behind}
-use Rattle.js_lex.specs.declared.scan.Scanned.{Scanned}
-use Rattle.js_lex.specs.Scans.{IsScanned, NoLexeme}
+use Rattle.js_words.specs.declared.scan.Scanned.{Scanned}
+use Rattle.js_words.specs.Scans.{IsScanned, NoLexeme}
 use Rattle.js_lex.specs.States.{State, SameText}
 use Rattle.js_lex.specs.Reading.{GivesHashbang, GivesFirst, GivesNext}
 use Rattle.js_lex.specs.Settling.{token_of}
 use Rattle.std.proofs.lemmas.Str.{IsCharBoundary-start}
-use Rattle.js_lex.proofs.Places.{none_passed}
+use Rattle.js_words.proofs.Places.{none_passed}
 use Rattle.js_lex.proofs.TriviaLemmas.{none_piece}
 use Rattle.js_lex.proofs.Hashbangs.{begins_so}
 use Rattle.js_lex.proofs.Giving.{lexeme_of, lexeme_behind}

@@ -12,14 +12,14 @@ use Rattle.js_grammar.specs.Characters.{begins}
 use Rattle.js_grammar.specs.Strings.{string_kind}
 use Rattle.js_grammar.specs.Lexemes.{division, kind_in, plain_kind, Opening, opening, a_string, kind_of}
 use Rattle.js_base.specs.Characters.{is_decimal}
-use Rattle.js_lex.proofs.KindsOfLexemes.{plain_end, opened_is}
+use Rattle.js_words.proofs.KindsOfLexemes.{plain_end, opened_is}
 use Rattle.js_lex.proofs.Again.{passed, given_start, cut_kind, cut_same}
 use Rattle.js_grammar.specs.Grammar.{Lexeme}
 use Rattle.js_grammar.specs.Characters.{width}
 use Rattle.js_grammar.specs.LexicalFaults.{behind}
-use Rattle.js_lex.specs.Places.{Word}
-use Rattle.js_lex.proofs.StringPlaces.{front_word}
-use Rattle.js_lex.proofs.Flags.{spelled}
+use Rattle.js_words.specs.Places.{Word}
+use Rattle.js_scan.proofs.StringPlaces.{front_word}
+use Rattle.js_words.proofs.Flags.{spelled}
 use Rattle.js_lex.specs.States.{State}
 use Rattle.js_lex.specs.Reading.{cut, is_right_angle, LexemeBehind, GivesLexeme, GivesNone, Outcome, GivesNext, WasGiven}
 

@@ -23,20 +23,20 @@ use Rattle.js_grammar.specs.Lexed.{Stands, IsLexeme}
 use Rattle.js_grammar.specs.LexicalFaults.{behind, Due, Stopping, Condition, FaultyBehind}
 use Rattle.js_grammar.proofs.LongestLemmas.{both-right}
 use Rattle.js_grammar.proofs.Alike.{stands-same}
-use Rattle.js_lex.specs.declared.scan.Scanned.{Scanned}
-use Rattle.js_lex.specs.declared.scan.Fault.{Fault}
+use Rattle.js_words.specs.declared.scan.Scanned.{Scanned}
+use Rattle.js_words.specs.declared.scan.Fault.{Fault}
 use Rattle.js_lex.specs.declared.trivia.Trivia.{Trivia}
 use Rattle.js_lex.specs.declared.output.LexerOutput.{LexerOutput}
-use Rattle.js_lex.specs.Places.{Word}
+use Rattle.js_words.specs.Places.{Word}
 use Rattle.js_lex.specs.Kept.{Grows, Extends}
-use Rattle.js_lex.specs.Scans.{IsScanned, IsStopped, NoLexeme, Scans}
+use Rattle.js_words.specs.Scans.{IsScanned, IsStopped, NoLexeme, Scans}
 use Rattle.js_lex.specs.TriviaPassed.{IsPassed, PassesBlanks, NoTrivia}
 use Rattle.js_lex.specs.Comments.{comment_at, irregular_at, html_fault_at, each_at}
 use Rattle.js_lex.proofs.Keeping.{grow_on, extend_on}
 use Rattle.js_lex.proofs.Marks.{html_marked}
 use Rattle.js_lex.specs.States.{State, goal_of}
 use Rattle.js_lex.specs.Reading.{is_right_angle, cut, Tells, LexemeBehind, GivesLexeme, GivesNone, Outcome, GivesNext, in_a_module, kept_token}
-use Rattle.js_lex.proofs.KindsOfLexemes.{determined, plain_end, greater_word}
+use Rattle.js_words.proofs.KindsOfLexemes.{determined, plain_end, greater_word}
 use Rattle.js_lex.specs.Settling.{shown, shown_scan, token_of, undetermined_of, diagnostic_of, Fits, Settled, SettledAgain, ScanEnds, GivesAtOnce, TellsLexeme}
 
 -- behind trivia no further piece begins

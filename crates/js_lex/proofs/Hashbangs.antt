@@ -13,11 +13,11 @@ use Rattle.js_grammar.specs.Lexemes.{hashbang, hashbang_kind, lexemes_in, is_esc
 use Rattle.js_grammar.specs.LexicalFaults.{behind}
 use Rattle.js_grammar.proofs.LongestLemmas.{both, both-left, both-right, not-true}
 use Rattle.js_grammar.proofs.CoreLemmas.{none_longer-from}
-use Rattle.js_lex.specs.Places.{Word}
-use Rattle.js_lex.specs.Scans.{IsScanned, NoLexeme}
+use Rattle.js_words.specs.Places.{Word}
+use Rattle.js_words.specs.Scans.{IsScanned, NoLexeme}
 use Rattle.js_lex.specs.TriviaPassed.{IsLineEnd}
-use Rattle.js_lex.proofs.Places.{then}
-use Rattle.js_lex.proofs.Fronts.{not_all}
+use Rattle.js_words.proofs.Places.{then}
+use Rattle.js_words.proofs.Fronts.{not_all}
 
 abbrev if_line : Bool → Option Kind
 if_line b = elim b [ true ↦ Some HashbangComment | false ↦ None ]

@@ -24,14 +24,14 @@ use Rattle.js_lex.specs.declared.output.LexerOutput.{LexerOutput}
 use Rattle.js_lex.specs.declared.checkpoint.Lengths.{Lengths}
 use Rattle.js_lex.specs.Comments.{comment_kind, comment_at, irregular_at, html_fault_at, span_at, each_at}
 use Rattle.js_lex.specs.Kept.{IsEmpty, LieIn, Extends, lengths_of, first_kept}
-use Rattle.js_lex.specs.Places.{Word}
+use Rattle.js_words.specs.Places.{Word}
 use Rattle.js_lex.specs.States.{State}
 use Rattle.js_lex.specs.Reading.{cut, GivesLexeme, GivesNone, Outcome, GivesNext, in_a_module, is_kept, kept_token, relexed}
-use Rattle.js_lex.specs.declared.scan.Scanned.{Scanned}
-use Rattle.js_lex.specs.declared.scan.Fault.{Fault}
-use Rattle.js_lex.specs.declared.regular_expression.RegularExpression.{RegularExpression}
+use Rattle.js_words.specs.declared.scan.Scanned.{Scanned}
+use Rattle.js_words.specs.declared.scan.Fault.{Fault}
+use Rattle.js_scan.specs.declared.regular_expression.RegularExpression.{RegularExpression}
 use Rattle.js_lex.specs.Settling.{Fits, SettledAgain, HasFlags, SettledBehind, ScanEnds, diagnostic_of}
-use Rattle.js_lex.proofs.StringPlaces.{front_word}
+use Rattle.js_scan.proofs.StringPlaces.{front_word}
 use Rattle.js_lex.proofs.ReadAgain.{lie_flags}
 use Rattle.std.proofs.Math.Seq.{take-append_seam}
 

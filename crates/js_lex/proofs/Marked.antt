@@ -10,7 +10,7 @@ use Rattle.js_grammar.specs.LexicalFaults.{behind}
 use Rattle.js_grammar.proofs.LongestLemmas.{both-left}
 use Rattle.js_lex.specs.declared.comment.Comment.{Comment}
 use Rattle.js_lex.specs.Comments.{AreInOrder, is_before, has_before}
-use Rattle.js_lex.specs.Places.{Word}
+use Rattle.js_words.specs.Places.{Word}
 
 or-false : (a b : Bool) → b ≡ false → (a || b) ≡ a
 or-false true b e = refl

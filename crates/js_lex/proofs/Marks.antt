@@ -18,15 +18,15 @@ use Rattle.js_grammar.specs.Lexemes.{LexicalGoal, regular_expression, kind_in}
 use Rattle.js_grammar.specs.Lexed.{Lex, Stands, all_faults, in_module, passing_of}
 use Rattle.js_grammar.specs.RegularExpressions.{behind_pattern, flags}
 use Rattle.js_grammar.specs.LexicalFaults.{behind, FaultyBehind}
-use Rattle.js_lex.specs.Places.{Word}
+use Rattle.js_words.specs.Places.{Word}
 use Rattle.js_lex.specs.Comments.{html_fault_at, each_at}
 use Rattle.js_lex.specs.Reading.{LexemeBehind, in_a_module, is_wrong_flag, flag_faults}
-use Rattle.js_lex.specs.RegularExpressionParts.{IsRegularExpression}
-use Rattle.js_lex.specs.declared.regular_expression.RegularExpression.{RegularExpression}
-use Rattle.js_lex.proofs.KindsOfLexemes.{pattern_is}
+use Rattle.js_scan.specs.RegularExpressionParts.{IsRegularExpression}
+use Rattle.js_scan.specs.declared.regular_expression.RegularExpression.{RegularExpression}
+use Rattle.js_words.proofs.KindsOfLexemes.{pattern_is}
 use Rattle.js_lex.proofs.Passing.{joined-more}
-use Rattle.js_lex.proofs.Places.{width-append}
-use Rattle.js_lex.proofs.StringPlaces.{front_word}
+use Rattle.js_words.proofs.Places.{width-append}
+use Rattle.js_scan.proofs.StringPlaces.{front_word}
 
 -- ---- the flags of a regular expression
 

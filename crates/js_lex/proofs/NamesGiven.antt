@@ -16,16 +16,16 @@ use Rattle.js_grammar.specs.Names.{is_plain_name, named, name_of, word_of}
 use Rattle.js_grammar.specs.Lexemes.{division, kind_in, kind_of, Opening, opening, a_name, a_punctuator}
 use Rattle.js_grammar.specs.LexicalFaults.{behind}
 use Rattle.js_grammar.proofs.LongestLemmas.{both, both-left, both-right}
-use Rattle.js_lex.specs.declared.name.Position.TheVariants.{Start, Part}
-use Rattle.js_lex.specs.Places.{Word}
+use Rattle.js_words.specs.declared.name.Position.TheVariants.{Start, Part}
+use Rattle.js_words.specs.Places.{Word}
 use Rattle.js_lex.specs.States.{State}
 use Rattle.js_lex.specs.Reading.{is_right_angle, GivesNext}
 use Rattle.js_lex.proofs.Again.{passed, given_start, cut_kind, cut_same}
-use Rattle.js_lex.proofs.Flags.{spelled}
+use Rattle.js_words.proofs.Flags.{spelled}
 use Rattle.js_lex.proofs.Given.{lexeme_given}
-use Rattle.js_lex.proofs.KindsOfLexemes.{opened, opened_is, opened_member, unopened, plain_end}
-use Rattle.js_lex.proofs.NameSurrogates.{may_stand-scalar}
-use Rattle.js_lex.proofs.StringPlaces.{front_word}
+use Rattle.js_words.proofs.KindsOfLexemes.{opened, opened_is, opened_member, unopened, plain_end}
+use Rattle.js_words.proofs.NameSurrogates.{may_stand-scalar}
+use Rattle.js_scan.proofs.StringPlaces.{front_word}
 
 -- ---- what characters are that are a name
 

@@ -7,7 +7,7 @@ use Rattle.js_grammar.specs.Lexemes.{a_name, a_number, a_string, a_template, a_p
 use Rattle.js_grammar.specs.Lexemes.{Opening}
 use Rattle.js_grammar.specs.Characters.{begins}
 use Rattle.js_grammar.specs.LexicalFaults.{behind}
-use Rattle.js_lex.specs.Places.{Word}
+use Rattle.js_words.specs.Places.{Word}
 
 pub template_opens : (c : ℕ) (digit : Bool) → opening c digit ≡ a_template → c ≡ 96
 template_opens c digit h = by (is_identifier_start c || (c == 92)) refl (is_decimal c || ((c == 46) && digit)) refl (one_of (34 ∷ 39 ∷ []) c) refl (c == 96) refl (c == 35) refl

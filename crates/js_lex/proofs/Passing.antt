@@ -17,11 +17,11 @@ use Rattle.js_lex.specs.declared.comment.CommentKind.{CommentKind}
 use Rattle.js_lex.specs.declared.trivia.Piece.{Piece}
 use Rattle.js_lex.specs.declared.trivia.Trivia.{Trivia}
 use Rattle.js_lex.specs.declared.output.LexerOutput.{LexerOutput}
-use Rattle.js_lex.specs.Places.{Word}
+use Rattle.js_words.specs.Places.{Word}
 use Rattle.js_lex.specs.Kept.{Grows}
 use Rattle.js_lex.specs.Comments.{comment_kind, comment_at, irregular_at, html_fault_at, each_at, span_at, attached}
 use Rattle.js_lex.specs.TriviaPassed.{IsPiece, IsPassed, PlainBlankAt, PassesBlanks, told, comment_told, blank_told, fault_told}
-use Rattle.js_lex.proofs.Places.{then, none_passed, width-append}
+use Rattle.js_words.proofs.Places.{then, none_passed, width-append}
 use Rattle.js_lex.proofs.Keeping.{grow_on}
 
 -- the pieces so far: whichever follow as trivia, they are trivia together

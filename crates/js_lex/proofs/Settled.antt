@@ -23,11 +23,11 @@ use Rattle.js_grammar.proofs.LongestLemmas.{fronts, GoesOn, Same, none_longer-at
 use Rattle.js_grammar.proofs.Alike.{stands-same, lex-same}
 use Rattle.js_grammar.proofs.CorePlain.{no_backslash, points-append}
 use Rattle.js_grammar.proofs.Finding.{member}
-use Rattle.js_lex.specs.Faults.{fault_kind, Reaches}
+use Rattle.js_words.specs.Faults.{fault_kind, Reaches}
 use Rattle.js_lex.specs.Settling.{GivesAtOnce}
 use Rattle.js_lex.specs.States.{State}
 use Rattle.js_lex.specs.Reading.{cut, LexemeBehind, GivesLexeme, GivesNone, Outcome, GivesNext}
-use Rattle.js_lex.proofs.Parts.{parts_same}
+use Rattle.js_words.proofs.Parts.{parts_same}
 
 -- ---- the span of a fault that stops
 
@@ -196,10 +196,10 @@ stopping_same fault.UnterminatedRegexp text i from to from' to' a b r q = (a.0 �
 stopping_same fault.UnterminatedComment text i from to from' to' a b r q = (a.0 ∙ sym b.0, unterminated_same _ _ a.1 b.1)
 stopping_same fault.InvalidEscape text i from to from' to' a b r q =
     let e = escape_same a b in
-    (e, parts_same r (subst (λ (n : ℕ). Rattle.js_lex.specs.Faults.PartsEnd false text (n + 1) to') (sym e) q))
+    (e, parts_same r (subst (λ (n : ℕ). Rattle.js_words.specs.Faults.PartsEnd false text (n + 1) to') (sym e) q))
 stopping_same fault.InvalidNumber text i from to from' to' a b r q =
     let e = a.0 ∙ sym b.0 in
-    (e, parts_same r (subst (λ (n : ℕ). Rattle.js_lex.specs.Faults.PartsEnd true text n to') (sym e) q))
+    (e, parts_same r (subst (λ (n : ℕ). Rattle.js_words.specs.Faults.PartsEnd true text n to') (sym e) q))
 stopping_same _ text i from to from' to' a b r q = absurd a
 
 -- ---- the token

@@ -16,28 +16,28 @@ use Rattle.js_grammar.proofs.Finding.{neither, neither-left, neither-right}
 use Rattle.js_grammar.proofs.CoreFirst.{lt-true}
 use Rattle.js_base.specs.Characters.{one_of}
 use Rattle.js_grammar.specs.Trivia.{is_irregular}
-use Rattle.js_lex.specs.declared.byte_class.ByteClass.{ByteClass}
-use Rattle.js_lex.specs.ByteClasses.{IsOf, Stays, is_trivia_class, begins_no_trivia, is_line_class, is_comment_class, stays_on_line, stays_in_comment}
+use Rattle.js_words.specs.declared.byte_class.ByteClass.{ByteClass}
+use Rattle.js_words.specs.ByteClasses.{IsOf, Stays, is_trivia_class, begins_no_trivia, is_line_class, is_comment_class, stays_on_line, stays_in_comment}
 use Rattle.std.proofs.lemmas.Bool.{eqb-true}
-use Rattle.js_lex.proofs.ByteClasses.{agree, stays}
+use Rattle.js_words.proofs.ByteClasses.{agree, stays}
 use Rattle.js_grammar.proofs.CoreLemmas.{none_longer-from}
-use Rattle.js_lex.specs.Places.{Word, Peeks}
+use Rattle.js_words.specs.Places.{Word, Peeks}
 use Rattle.std.proofs.lemmas.Str.{len_utf8_bounds}
 use Rattle.js_lex.specs.TriviaPassed.{IsPiece, PieceAt, BlankAt, IsBlankPiece, IsLineEnd, IsBlockEnd, block_kind, PlainBlankAt, NoTrivia}
 use Rattle.js_lex.specs.Comments.{comment_kind}
 use Rattle.js_lex.specs.declared.comment.CommentKind.TheVariants.{Line, SingleLineBlock, MultiLineBlock}
 use Rattle.js_lex.specs.declared.trivia.Piece.{Piece}
 use Rattle.js_lex.specs.declared.trivia.Trivia.{Trivia}
-use Rattle.js_lex.proofs.Places.{then}
-use Rattle.js_lex.proofs.Fronts.{not_all, onwards}
-use Rattle.js_lex.proofs.Punctuators.{passes, ascii_of}
-use Rattle.js_lex.specs.Punctuators.{punctuator_of}
+use Rattle.js_words.proofs.Places.{then}
+use Rattle.js_words.proofs.Fronts.{not_all, onwards}
+use Rattle.js_scan.proofs.Punctuators.{passes, ascii_of}
+use Rattle.js_scan.specs.Punctuators.{punctuator_of}
 use Rattle.js_base.specs.declared.kind.Kind.{Kind}
-use Rattle.js_lex.specs.declared.scan.Scanned.{Scanned}
+use Rattle.js_words.specs.declared.scan.Scanned.{Scanned}
 use Rattle.std.specs.Prelude.{IfSome}
 use Rattle.js_base.specs.Texts.{text_of, punctuators}
-use Rattle.js_lex.specs.ByteClasses.{is_letter_class}
-use Rattle.js_lex.specs.declared.byte_class.ByteClass.TheVariants.{Letter}
+use Rattle.js_words.specs.ByteClasses.{is_letter_class}
+use Rattle.js_words.specs.declared.byte_class.ByteClass.TheVariants.{Letter}
 use Rattle.js_grammar.proofs.CoreNames.{ascii}
 use Rattle.std.proofs.lemmas.Bool.Decides.{nat_tests}
 

@@ -2,7 +2,7 @@
 use Rattle.std.specs.Prelude.{ℕ, false}
 use Rattle.js_base.specs.declared.kind.Kind.TheVariants.{Eof}
 use Rattle.js_grammar.specs.Lexemes as lexemes
-use Rattle.js_lex.specs.declared.scan.Scanned.{Scanned}
+use Rattle.js_words.specs.declared.scan.Scanned.{Scanned}
 use Rattle.js_lex.specs.declared.plain_goal.Opening.{Opening}
 use Rattle.js_lex.specs.declared.plain_goal.Opening.TheVariants as opens
 

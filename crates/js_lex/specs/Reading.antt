@@ -20,9 +20,9 @@ use Rattle.js_grammar.specs.RegularExpressions.{flags}
 use Rattle.js_grammar.specs.LexicalFaults.{behind, Due, Stopping, FaultyBehind}
 use Rattle.js_lex.specs.Comments.{comment_at, irregular_at, html_fault_at, each_at}
 use Rattle.js_lex.specs.Kept.{Grows}
-use Rattle.js_lex.specs.Places.{Word}
-use Rattle.js_lex.specs.Faults.{fault_kind, Reaches}
-use Rattle.js_lex.specs.Scans.{NoLexeme}
+use Rattle.js_words.specs.Places.{Word}
+use Rattle.js_words.specs.Faults.{fault_kind, Reaches}
+use Rattle.js_words.specs.Scans.{NoLexeme}
 use Rattle.js_lex.specs.States.{State, SameText}
 
 -- ---- a token and the lexeme that it tells

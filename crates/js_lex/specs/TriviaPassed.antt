@@ -14,7 +14,7 @@ use Rattle.js_grammar.specs.LexicalFaults.{behind}
 use Rattle.js_lex.specs.declared.trivia.Piece.{Piece}
 use Rattle.js_lex.specs.declared.trivia.Trivia.{Trivia}
 use Rattle.js_lex.specs.declared.output.LexerOutput.{LexerOutput}
-use Rattle.js_lex.specs.Places.{Word}
+use Rattle.js_words.specs.Places.{Word}
 use Rattle.js_lex.specs.Comments.{comment_kind, comment_at, irregular_at, html_fault_at, each_at}
 use Rattle.js_lex.specs.Kept.{Grows}
 

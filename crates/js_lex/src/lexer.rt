@@ -25,11 +25,11 @@ use crate::mark::{Sort, is_marked};
 use crate::output::LexerOutput;
 use crate::plain_goal::plain_at;
 use crate::reading::{copy_of, quick_at, read_plain, token_of};
-use crate::regular_expression::{RegularExpression, regular_expression_at};
 use crate::relexing::{scanned_regular_expression, settle_again};
-use crate::scan::Scan;
-use crate::template::template_tail_at;
 use js_base::{Diagnostic, JsStr, MAX_LEN, NoMemory, SourceType, Token, decode_string};
+use js_scan::regular_expression::{RegularExpression, regular_expression_at};
+use js_scan::template::template_tail_at;
+use js_words::scan::Scan;
 use std::alloc::Global;
 use std::marker::Model;
 

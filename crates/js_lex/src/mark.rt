@@ -6,12 +6,12 @@ ghost use Rattle.js_base.specs.Spans.{LiesIn};
 ghost use Rattle.js_grammar.specs.CoreTexts.{occurs};
 ghost use Rattle.js_lex.specs.Comments.{sort_of, has_before, AreInOrder};
 
-use crate::character::next_character;
 use crate::comment::Comments;
-use crate::place::goes_on;
+use js_words::character::next_character;
+use js_words::place::goes_on;
 
 /// The sorts of comments that mark what stands behind them.
-#[derive(Debug, Clone, Copy)]
+#[derive(Clone, Copy)]
 pub(crate) enum Sort {
     /// It holds `@__PURE__` or `#__PURE__`.
     Pure,

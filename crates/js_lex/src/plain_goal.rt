@@ -8,23 +8,23 @@ ghost use Rattle.js_grammar.specs.Lexemes.{division};
 ghost use Rattle.js_lex.specs.TriviaPassed.{NoTrivia};
 ghost use Rattle.js_grammar.specs.Lexemes as lexemes;
 ghost use Rattle.js_grammar.specs.LexicalFaults.{behind};
-ghost use Rattle.js_lex.specs.Scans.{Scans, IsScanned};
+ghost use Rattle.js_words.specs.Scans.{Scans, IsScanned};
 ghost use Rattle.js_lex.specs.Openings.{end_at, opening_told};
 
-use crate::byte_class::{ByteClass, class_of};
-use crate::character::next_character;
-use crate::class::is_identifier_start;
-use crate::name::{ascii_name_at, name_at, private_name_at};
-use crate::number::number_at;
-use crate::place::{byte_at, digit_at};
-use crate::punctuator::{lone_at, punctuator_at};
-use crate::scan::{Scan, Scanned};
-use crate::string::string_at;
-use crate::template::template_at;
 use js_base::Kind;
+use js_scan::number::number_at;
+use js_scan::punctuator::{lone_at, punctuator_at};
+use js_scan::string::string_at;
+use js_scan::template::template_at;
+use js_words::byte_class::{ByteClass, class_of};
+use js_words::character::next_character;
+use js_words::class::is_identifier_start;
+use js_words::name::{ascii_name_at, name_at, private_name_at};
+use js_words::place::{byte_at, digit_at};
+use js_words::scan::{Scan, Scanned};
 
 /// What a character begins.
-#[derive(Debug, Clone, Copy)]
+#[derive(Clone, Copy)]
 enum Opening {
     Name,
     Number,

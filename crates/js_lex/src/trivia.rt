@@ -3,23 +3,23 @@
 
 ghost use Rattle.std.specs.Prelude.{◌≡◌, ◌≤◌, ◌+◌, [], ◌∷◌, Bool, ◌&&◌, false, length, IfOk, OnErr, OnOk, Some, None, IsTrue, IsCharBoundary};
 ghost use Rattle.js_base.specs.Characters.{one_of};
-ghost use Rattle.js_lex.specs.ByteClasses as classes;
-ghost use Rattle.js_lex.specs.ByteClasses.{Stays};
-ghost use Rattle.js_lex.specs.Places.{Word};
+ghost use Rattle.js_words.specs.ByteClasses as classes;
+ghost use Rattle.js_words.specs.ByteClasses.{Stays};
+ghost use Rattle.js_words.specs.Places.{Word};
 ghost use Rattle.js_lex.specs.Kept.{Grows, Extends};
 ghost use Rattle.js_lex.specs.TriviaPassed.{PieceAt, BlankAt, PlainBlankAt, BlockEnd, IsLineEnd, block_kind, told, comment_told, blank_told, fault_told, IsPassed, PassesBlanks};
 ghost use Rattle.js_lex.specs.declared.comment.CommentKind.TheVariants.{Line};
 
-use crate::byte_class::class_of;
-use crate::character::{Character, character_of, next_character};
-use crate::class::{is_line_terminator, is_white_space};
 use crate::comment::{Comment, CommentKind, attach};
 use crate::output::LexerOutput;
-use crate::place::{byte_at, goes_on};
 use js_base::{DiagnosticKind, MAX_LEN, NoMemory, Span};
+use js_words::byte_class::class_of;
+use js_words::character::{Character, character_of, next_character};
+use js_words::class::{is_line_terminator, is_white_space};
+use js_words::place::{byte_at, goes_on};
 
 /// A piece of trivia: one white space or line terminator, or one comment.
-#[derive(Debug, Clone, Copy)]
+#[derive(Clone, Copy)]
 pub(crate) struct Piece {
     /// The place behind it.
     end: usize,
@@ -34,7 +34,7 @@ pub(crate) struct Piece {
 }
 
 /// The trivia between two places.
-#[derive(Debug, Clone, Copy)]
+#[derive(Clone, Copy)]
 pub(crate) struct Trivia {
     /// The place behind it.
     pub end: usize,

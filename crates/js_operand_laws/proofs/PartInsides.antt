@@ -18,11 +18,11 @@ use Rattle.js_grammar.specs.Longest.{joined}
 use Rattle.js_grammar.specs.Strings.{nothing_left}
 use Rattle.js_grammar.specs.Templates.{closes_template, part_kind, template_kind, template_tail_kind}
 use Rattle.js_grammar.proofs.Lexemes.{first_or}
-use Rattle.js_lex.specs.Places.{Word}
+use Rattle.js_words.specs.Places.{Word}
 use Rattle.js_lex.proofs.Giving.{behind_ascii}
-use Rattle.js_lex.proofs.KindsOfLexemes.{hashbang_is, opened_is, pattern_is, plain_end}
+use Rattle.js_words.proofs.KindsOfLexemes.{hashbang_is, opened_is, pattern_is, plain_end}
 use Rattle.js_lex.proofs.Marks.{split_word}
-use Rattle.js_lex.proofs.StringPlaces.{front_word}
+use Rattle.js_scan.proofs.StringPlaces.{front_word}
 use Rattle.js_operand_laws.specs.Templates.{last_parts, parts}
 
 -- ---- how the characters of a part end

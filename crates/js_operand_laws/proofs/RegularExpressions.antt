@@ -31,12 +31,12 @@ use Rattle.js_grammar.proofs.Lexemes.{first_or}
 use Rattle.js_grammar.proofs.Looks.{apart, covers, not_both}
 use Rattle.js_grammar.specs.FirstSets.{first}
 use Rattle.js_lex.specs.Comments.{each_at, comment_at, irregular_at, html_fault_at}
-use Rattle.js_lex.specs.Places.{Word}
+use Rattle.js_words.specs.Places.{Word}
 use Rattle.js_lex.specs.Reading.{flag_faults, in_a_module, is_kept, is_right_angle, kept_token, FlagsStand, Tells, GivesLexeme, GivesNone, LexemeBehind, Outcome}
 use Rattle.js_lex.specs.States.{goal_of}
 use Rattle.js_lex.proofs.Again.{cut_same}
-use Rattle.js_lex.proofs.Flags.{spelled}
-use Rattle.js_lex.proofs.KindsOfLexemes.{pattern_is, same_lexeme}
+use Rattle.js_words.proofs.Flags.{spelled}
+use Rattle.js_words.proofs.KindsOfLexemes.{pattern_is, same_lexeme}
 use Rattle.js_tree.specs.declared.id.NodeId.{NodeId}
 use Rattle.js_tree.specs.declared.kind.NodeKind.TheVariants as node
 use Rattle.js_tree.specs.declared.op.Op.TheVariants as op

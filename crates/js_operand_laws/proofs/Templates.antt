@@ -37,7 +37,7 @@ use Rattle.js_lex.specs.Comments.{each_at, comment_at, irregular_at, html_fault_
 use Rattle.js_lex.specs.Reading.{cut, in_a_module, is_kept, is_right_angle, Tells, GivesLexeme, GivesNone, LexemeBehind, Outcome}
 use Rattle.js_lex.specs.States.{goal_of}
 use Rattle.js_lex.proofs.Again.{cut_same}
-use Rattle.js_lex.proofs.KindsOfLexemes.{tail_is}
+use Rattle.js_words.proofs.KindsOfLexemes.{tail_is}
 use Rattle.js_tree.specs.declared.id.NodeId.{NodeId}
 use Rattle.js_tree.specs.declared.kind.NodeKind.TheVariants as node
 use Rattle.js_tree.specs.declared.op.Op.TheVariants as op

@@ -18,8 +18,8 @@ use Rattle.js_grammar.specs.Table.{rule}
 use Rattle.js_grammar.proofs.Alike.{lex-same}
 use Rattle.js_grammar.proofs.Calculus.{here_at}
 use Rattle.js_lex.specs.Reading.{LexemeBehind}
-use Rattle.js_lex.specs.Scans.{NoLexeme}
-use Rattle.js_lex.proofs.KindsOfLexemes.{hashbang_is}
+use Rattle.js_words.specs.Scans.{NoLexeme}
+use Rattle.js_words.proofs.KindsOfLexemes.{hashbang_is}
 use Rattle.js_lex.proofs.TriviaLemmas.{some_width}
 use Rattle.js_parsing_laws.specs.Lexemes.{Faultless, read_kinds}
 use Rattle.js_statement_laws.specs.StatementLists.{with_directives}

@@ -56,7 +56,7 @@ use Rattle.js_tree.specs.declared.kind.NodeKind.TheVariants.{Hashbang}
 use Rattle.js_tree.specs.declared.op.Op.TheVariants as op
 use Rattle.js_base.specs.declared.span.Span.{Span}
 use Rattle.js_lex.specs.Kept.{IsEmpty}
-use Rattle.js_lex.specs.Scans.{NoLexeme}
+use Rattle.js_words.specs.Scans.{NoLexeme}
 use Rattle.js_lex.specs.States.{State}
 use Rattle.js_parser.proofs.Hashbangs.{hashbang_label, program_label, behind_comment, alone}
 use Rattle.js_parser.proofs.Fronts.{Front, Parts, kind_of_hashbang, none_begins, at_the_start, behind_a_comment}

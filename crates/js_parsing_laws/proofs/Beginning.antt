@@ -11,7 +11,7 @@ use Rattle.js_grammar.specs.Lexemes.{LexicalGoal, division, hashbang, kind_in}
 use Rattle.js_grammar.specs.Settings.{Goal}
 use Rattle.js_lex.specs.Reading.{cut, GivesLexeme, GivesFirst, GivesNext, Outcome, LexemeBehind}
 use Rattle.js_lex.specs.States.{goal_of}
-use Rattle.js_lex.proofs.KindsOfLexemes.{hashbang_is}
+use Rattle.js_words.proofs.KindsOfLexemes.{hashbang_is}
 use Rattle.js_cursor.specs.Parsers.{Parser}
 use Rattle.js_cursor.specs.Starts.{Starts}
 use Rattle.js_cursor.specs.Places.{IsAt, goal}

@@ -6,8 +6,8 @@ use Rattle.js_grammar.specs.Grammar.{Lexeme}
 use Rattle.js_grammar.specs.Lexed.{Lex as StandsBehind, all_faults}
 use Rattle.js_grammar.specs.Longest.{joined}
 use Rattle.js_grammar.specs.LexicalFaults.{behind}
-use Rattle.js_lex.specs.Places.{Word}
-use Rattle.js_lex.proofs.StringPlaces.{front_word}
+use Rattle.js_words.specs.Places.{Word}
+use Rattle.js_scan.proofs.StringPlaces.{front_word}
 
 pub characters : {text : List ℕ} {s : ℕ} {y : Lexeme} → IsUtf8 text → IsCharBoundary text s → (h : StandsBehind all_faults text s y) → IsCharBoundary text y.from × Word text y.from y.to h.word
 characters {text} {s} {y} u b h =

@@ -16,7 +16,7 @@ use Rattle.js_grammar.proofs.Lexemes.{first_or}
 use Rattle.js_grammar.proofs.Looks.{covers, covered}
 use Rattle.js_lex.specs.Reading.{cut, is_right_angle, Tells, GivesLexeme, LexemeBehind}
 use Rattle.js_lex.proofs.Again.{cut_same}
-use Rattle.js_lex.proofs.KindsOfLexemes.{pattern_is, tail_is, hashbang_is}
+use Rattle.js_words.proofs.KindsOfLexemes.{pattern_is, tail_is, hashbang_is}
 use Rattle.js_cursor.specs.Parsers.{Parser}
 use Rattle.js_cursor.specs.Moves.{is_last}
 use Rattle.js_parsing_laws.specs.Lexemes.{Lex, goal_for, is_read, other_goals, read_kinds, signs, signs_of, slashes, template_tails}

@@ -18,7 +18,7 @@ use Rattle.js_lex.specs.Comments.{each_at, comment_at, irregular_at}
 use Rattle.js_lex.specs.Reading.{cut, is_right_angle, is_kept, kept_token, relexed, GivesLexeme, GivesNext}
 use Rattle.js_lex.specs.States.{State}
 use Rattle.js_lex.proofs.Again.{cut_same}
-use Rattle.js_lex.proofs.KindsOfLexemes.{plain_no_hashbang}
+use Rattle.js_words.proofs.KindsOfLexemes.{plain_no_hashbang}
 use Rattle.js_cursor.specs.Moves.{is_last}
 use Rattle.js_cursor.specs.Parsers.{Parser}
 use Rattle.js_cursor.proofs.StillKept.{same_front, same_length}

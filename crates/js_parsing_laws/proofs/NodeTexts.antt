@@ -19,13 +19,13 @@ use Rattle.js_grammar.specs.Names.{has_backslash}
 use Rattle.js_grammar.specs.Productions.{Flags}
 use Rattle.js_grammar.specs.Strings.{string_kind}
 use Rattle.js_grammar.proofs.Looks.{covers, covered}
-use Rattle.js_lex.specs.Places.{Word}
+use Rattle.js_words.specs.Places.{Word}
 use Rattle.js_lex.specs.Reading.{GivesLexeme}
 use Rattle.js_lex.proofs.Again.{cancel}
-use Rattle.js_lex.proofs.Flags.{spelled}
+use Rattle.js_words.proofs.Flags.{spelled}
 use Rattle.js_lex.proofs.Given.{string_of_kind}
 use Rattle.js_lex.proofs.NamesGiven.{name_of_kind, word_opened}
-use Rattle.js_lex.proofs.StringPlaces.{front_word}
+use Rattle.js_scan.proofs.StringPlaces.{front_word}
 use Rattle.js_cursor.specs.Parsers.{Parser}
 use Rattle.js_cursor.specs.Places.{IsAt}
 use Rattle.js_tree.specs.declared.kind.NodeKind.{NodeKind}

@@ -20,8 +20,8 @@ use Rattle.js_grammar.specs.Lexemes.{LexicalGoal, division, regular_expression, 
 use Rattle.js_grammar.specs.Lexed.{Lex as StandsBehind, IsLexeme, all_faults}
 use Rattle.js_grammar.proofs.QuickLexemes.{none_goes_on, none_goes_on-is}
 use Rattle.js_lex.specs.Reading.{LexemeBehind}
-use Rattle.js_lex.proofs.KindsOfLexemes.{no_plain, opened, plain_end, pattern_is, tail_is, hashbang_is}
-use Rattle.js_lex.proofs.Punctuators.{kind_some}
+use Rattle.js_words.proofs.KindsOfLexemes.{no_plain, opened, plain_end, pattern_is, tail_is, hashbang_is}
+use Rattle.js_scan.proofs.Punctuators.{kind_some}
 use Rattle.js_parsing_laws.specs.Lexemes.{other_goals, signs_of, slashes, template_tails}
 
 -- no characters of the plain goal are of a kind without opening

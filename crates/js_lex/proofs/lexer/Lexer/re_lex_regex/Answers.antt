@@ -6,10 +6,10 @@ use Rattle.js_grammar.specs.Characters.{begins}
 use Rattle.js_grammar.specs.LexicalFaults.{behind}
 use Rattle.js_grammar.specs.Lexemes.{regular_expression}
 use Rattle.js_lex.specs.States.{State}
-use Rattle.js_lex.specs.Places.{Word}
+use Rattle.js_words.specs.Places.{Word}
 use Rattle.js_lex.specs.Reading.{GivesAgain, FlagsStand}
 use Rattle.js_lex.specs.Settling.{SettledBehind}
-use Rattle.js_lex.specs.declared.scan.Scanned.{Scanned}
+use Rattle.js_words.specs.declared.scan.Scanned.{Scanned}
 use Rattle.js_lex.proofs.Marks.{pattern_boundary}
 use Rattle.js_lex.proofs.Expressions.{slash_for, found_again, stopped_again, found_for, stopped_for}
 use Rattle.js_lex.proofs.lexer.Lexer.re_lex_regex.Goals as goal

@@ -1,0 +1,14 @@
+pub mod NumberRests
+pub mod NumberScans
+pub mod Numbers
+pub mod TemplateParts
+pub mod TemplateLexemes
+pub mod RegularExpressionParts
+pub mod RegularExpressionLexemes
+pub mod StringLemmas
+pub mod StringPlaces
+pub mod PunctuatorLexemes
+pub mod PunctuatorScans
+pub mod PunctuatorTexts
+pub mod Punctuators
+pub mod FlagsSeen

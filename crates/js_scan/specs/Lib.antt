@@ -1,0 +1,5 @@
+pub mod Numbers
+pub mod Punctuators
+pub mod TemplateParts
+pub mod RegularExpressionParts
+pub mod Strings
