@@ -8,10 +8,10 @@ ghost use Rattle.js_parsing_laws.specs.Methods.{ReadsWhole, parameters_of};
 ghost use Rattle.js_parsing_laws.specs.Nesting.{CanNest, room};
 ghost use Rattle.js_parsing_laws.specs.States.{Standing};
 
-use crate::nested::{MethodForm, Nested};
 use js_base::Context;
 use js_cursor::{ParserImpl, Stop};
 use js_lex::ParserConfig;
+use js_parsing_laws::nested::{MethodForm, Nested};
 use js_tree::NodeId;
 
 /// The parameters that are in force.
