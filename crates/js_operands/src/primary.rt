@@ -27,14 +27,17 @@ use js_cursor::{ParserImpl, Stop};
 use js_lex::ParserConfig;
 use js_literals::array::parse_array_expression;
 use js_literals::function::{function_stands, parse_function_expression};
-use js_literals::leaf::parse_identifier_name;
+use js_literals::leaf::{
+    close_parentheses, number_node, number_op, parse_identifier_name, parse_leaf, parse_name,
+    parse_string,
+};
 use js_literals::object::parse_object_expression;
 use js_literals::template::parse_template;
 use js_parsing::context::expression_with_in;
 use js_parsing::lexemes::{advance, escaped_word_stands, name_stands, stands};
-use js_parsing::nodes::{make_leaf, make_name, make_one, make_string};
+use js_parsing::nodes::{make_leaf, make_one};
 use js_parsing_laws::nested::Nested;
-use js_tree::{BigintBase, NodeFlags, NodeId, NodeKind, NumberBase, Op, ParserAstBuilder};
+use js_tree::{NodeFlags, NodeId, NodeKind, Op, ParserAstBuilder};
 
 /// A PrimaryExpression (ECMA-262, section 13.2): a name, a literal, a regular expression, an array, an object literal, a function, parentheses or a
 /// call of V8.
