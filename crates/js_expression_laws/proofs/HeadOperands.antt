@@ -21,6 +21,7 @@ use Rattle.js_tree.specs.Holding.{Made, Stands, stands}
 use Rattle.js_tree.specs.declared.kind.NodeKind.TheVariants.{ParenthesizedExpression}
 use Rattle.js_tree.specs.Labels.{kind_of}
 use Rattle.js_tree.specs.Nodes.{Node, empty_program, label, node_at}
+use Rattle.js_cursor.specs.Moves.{OnlyMemory}
 use Rattle.js_cursor.specs.Parsers.{Parser}
 use Rattle.js_cursor.specs.declared.stop.Stop.{Stop}
 use Rattle.js_cursor.specs.declared.stop.Stop.TheVariants.{Fatal, NoMemory}
@@ -56,6 +57,12 @@ made_no_target {l} a b m = λ lo hi k cs h.
 
 pub made_kind : {l : Label} {ids : List (Option NodeId)} {p q : Parser} {id : NodeId} → MadeHere l ids p q id → kind_of (node_at q.nodes id).kind ≡ l.kind
 made_kind m = ap (λ (v : Label). v.kind) (ap label (made_node m.made) ∙ m.label_is)
+
+-- ---- where memory is wanting nothing is told
+
+pub operand_memory : (text : List ℕ) (f : Flags) (p q : Parser) (e : Stop) → OnlyMemory e → OperandOutcome text f p q (Err e)
+operand_memory text f p q Fatal m = absurd m
+operand_memory text f p q NoMemory m = tt
 
 -- ---- parentheses before `=>`
 

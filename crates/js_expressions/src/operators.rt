@@ -51,11 +51,20 @@ pub fn parse_binary_expression_or_higher<C: ParserConfig, N: Nested<C>>(
     'operands: while p.at(Kind::Question2) {
         advance(p)?;
         let right = parse_operators(p, nested, 5)?;
-        let mixed = is_or_and(p, left) || is_or_and(p, right);
+        let mixed = has_or_and(p, left, right);
         check_mixed(p, start, mixed, found)?;
         left = make_coalesce(p, start, left, right)?;
     }
     Ok(left)
+}
+
+/// Whether one of two nodes is an `||` or `&&` expression without parentheses.
+fn has_or_and<C: ParserConfig>(p: &ParserImpl<'_, C>, left: NodeId, right: NodeId) -> bool
+    requires left { Stood p.now.nodes left }
+    requires right { Stood p.now.nodes right }
+    ensures { (a b c d : ℕ) (l m : Label) (cs ds : Slots) → Holds p.now.nodes a b left.0 l cs → Holds p.now.nodes c d right.0 m ds → result ≡ (coalescing.is_or_and l.op || coalescing.is_or_and m.op) }
+{
+    is_or_and(p, left) || is_or_and(p, right)
 }
 
 /// Whether the node is an `||` or `&&` expression without parentheses.

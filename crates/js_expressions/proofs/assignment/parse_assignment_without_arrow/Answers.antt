@@ -1,5 +1,6 @@
 use Rattle.std.specs.Prelude.{Ok, Err}
-use Rattle.js_expression_laws.proofs.HeadOperands.{behind_assign, behind_operand, made_no_target, operand_unread}
+use Rattle.js_expression_laws.proofs.HeadOperands.{behind_assign, behind_operand, made_no_target, operand_memory, operand_unread}
+use Rattle.js_parsing_laws.proofs.Giving.{memory_stops}
 use Rattle.std.proofs.Common.{inl, arith, sym, ◌∙◌, refl}
 use Rattle.std.proofs.lemmas.Result.{err_from_is_err_and}
 use Rattle.js_expression_laws.proofs.ArraysAssigned.{not_simple_marked}
@@ -181,3 +182,21 @@ pub returns-clause-operand : goal.returns-clause-operand
 returns-clause-operand t c = λ text f a i.
     let x = c.in_ok-left.ensures text f a in
     behind_assign i (shifted x (c.in_ok-_power.ensures text f x.answer.at)) _ (Ok _) (assign_listed c.cur_kind.ensures c.is_assignment_operator.ensures c.if-not-is_assignment_operator.false) (made_no_target refl (λ cs. refl) c.in_ok-node.ensures)
+
+pub returns-in_err-_power-clause-answers : goal.returns-in_err-_power-clause-answers
+returns-in_err-_power-clause-answers t c = λ text f a. let p = err_from_is_err_and c.from_residual-in_err-_power.result c.from_residual-in_err-_power.ensures.1 in rw (p.1, p.2) (memory_stops _ _ _ _ c.in_err-_power.ensures)
+
+pub returns-in_err-_power-clause-operand : goal.returns-in_err-_power-clause-operand
+returns-in_err-_power-clause-operand t c = λ text f a i. let p = err_from_is_err_and c.from_residual-in_err-_power.result c.from_residual-in_err-_power.ensures.1 in rw (p.1, p.2) (operand_memory _ _ _ _ _ c.in_err-_power.ensures)
+
+pub returns-in_err-advance-clause-answers : goal.returns-in_err-advance-clause-answers
+returns-in_err-advance-clause-answers t c = λ text f a. let p = err_from_is_err_and c.from_residual-in_err-advance.result c.from_residual-in_err-advance.ensures.1 in rw (p.1, p.2) (memory_stops _ _ _ _ c.in_err-advance.ensures)
+
+pub returns-in_err-advance-clause-operand : goal.returns-in_err-advance-clause-operand
+returns-in_err-advance-clause-operand t c = λ text f a i. let p = err_from_is_err_and c.from_residual-in_err-advance.result c.from_residual-in_err-advance.ensures.1 in rw (p.1, p.2) (operand_memory _ _ _ _ _ c.in_err-advance.ensures)
+
+pub returns-in_err-node-clause-answers : goal.returns-in_err-node-clause-answers
+returns-in_err-node-clause-answers t c = λ text f a. let p = err_from_is_err_and c.from_residual-in_err-node.result c.from_residual-in_err-node.ensures.1 in rw (p.1, p.2) (memory_stops _ _ _ _ c.in_err-node.ensures)
+
+pub returns-in_err-node-clause-operand : goal.returns-in_err-node-clause-operand
+returns-in_err-node-clause-operand t c = λ text f a i. let p = err_from_is_err_and c.from_residual-in_err-node.result c.from_residual-in_err-node.ensures.1 in rw (p.1, p.2) (operand_memory _ _ _ _ _ c.in_err-node.ensures)

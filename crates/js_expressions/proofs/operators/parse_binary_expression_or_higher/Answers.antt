@@ -1,13 +1,12 @@
 use Rattle.std.proofs.Common.{◌≡◌, ◌∙◌, sym, arith}
 use Rattle.std.proofs.lemmas.Result.{err_from_is_err_and}
-use Rattle.js_expression_laws.proofs.CoalesceOperands.{operands_init, short_answer, sign_whole, right_room, same_so, grown_so, right_none, start_before, is_mixed, checked, left_held, left_stood, mixed_then, mixed_else, mixed_marked_so, mixed_stops, made_pair, operands_step, smaller}
+use Rattle.js_expression_laws.proofs.CoalesceOperands.{operands_init, short_answer, sign_whole, right_room, same_so, grown_so, right_none, start_before, is_mixed, checked, left_held, left_stood, mixed_marked_so, mixed_stops, made_pair, operands_step, smaller}
 use Rattle.js_expression_laws.proofs.Coalescing.{no_short}
 use Rattle.js_parsing_laws.proofs.Moving.{standing, stops_so, stops_behind}
 use Rattle.js_parsing_laws.proofs.Nesting.{nests_later}
 use Rattle.js_expression_laws.proofs.Refusals.{stood}
 use Rattle.std.proofs.lemmas.Bool.{false≢true}
 use Rattle.js_expressions.proofs.operators.parse_binary_expression_or_higher.Goals as goal
-use Rattle.js_expressions.proofs.operators.parse_binary_expression_or_higher.Goals.{then-is_or_and, else-is_or_and}
 
 pub returns-in_err-left : goal.returns-in_err-left
 returns-in_err-left g c = λ text f a. let p = err_from_is_err_and c.from_residual.result c.from_residual.ensures.1 in rw (p.1, p.2) (stops_so _ _ _ (λ z. no_short f z) (c.in_err-left.ensures text f a))
@@ -38,14 +37,14 @@ returns-in_err-right g c = λ text f a.
     let m = c.in_ok-advance.ensures _ _ s.at in
     (rw (p.1, p.2) (stops_behind _ _ (same_so s k m) (λ h. grown_so s k m h) (λ z. right_none s k m z) (c.in_err-right.ensures _ _ m.at)))
 
-pub is_or_and-requires : goal.is_or_and-requires
-is_or_and-requires g c =
+pub has_or_and-mixed-requires-clause-left : goal.has_or_and-mixed-requires-clause-left
+has_or_and-mixed-requires-clause-left g c =
     let s = c.operands.invariant _ _ c.requires.at in
     let m = c.in_ok-advance.ensures _ _ s.at in
     left_stood s (c.at.ensures.0 c.operands-test.true) m (c.in_ok-right.ensures _ _ m.at)
 
-pub is_or_and-mixed-requires : goal.is_or_and-mixed-requires
-is_or_and-mixed-requires g c = stood (c.in_ok-right.ensures _ _ (c.in_ok-advance.ensures _ _ (c.operands.invariant _ _ c.requires.at).at).at)
+pub has_or_and-mixed-requires-clause-right : goal.has_or_and-mixed-requires-clause-right
+has_or_and-mixed-requires-clause-right g c = stood (c.in_ok-right.ensures _ _ (c.in_ok-advance.ensures _ _ (c.operands.invariant _ _ c.requires.at).at).at)
 
 pub check_mixed-requires-clause-at : goal.check_mixed-requires-clause-at
 check_mixed-requires-clause-at g c = standing (c.in_ok-right.ensures _ _ (c.in_ok-advance.ensures _ _ (c.operands.invariant _ _ c.requires.at).at).at).answer.at
@@ -63,10 +62,7 @@ check_mixed-requires-clause-mark g c =
     let k = c.at.ensures.0 c.operands-test.true in
     let m = c.in_ok-advance.ensures _ _ s.at in
     let x = c.in_ok-right.ensures _ _ m.at in
-    let e = elim c.if-is_or_and.branch as (λ b. c.if-is_or_and.mixed ≡ is_mixed s k m x) [
-      | then-is_or_and w ↦ mixed_then s k m x (c.is_or_and.ensures _ _ _ _ (left_held s k m x)) w.if-is_or_and.true w.mixed-is
-      | else-is_or_and w ↦ mixed_else s k m x (c.is_or_and.ensures _ _ _ _ (left_held s k m x)) w.if-is_or_and.false w.mixed-is (w.is_or_and-mixed.ensures _ _ _ _ x.holds)
-    ] in
+    let e = c.has_or_and-mixed.ensures _ _ _ _ _ _ _ _ (left_held s k m x) x.holds in
     mixed_marked_so s k m x c.requires.at e c.cur_start-start.ensures c.kept_so_far-found.ensures
 
 pub returns-in_err-check_mixed : goal.returns-in_err-check_mixed
@@ -76,10 +72,7 @@ returns-in_err-check_mixed g c = λ text f a.
     let k = c.at.ensures.0 c.operands-test.true in
     let m = c.in_ok-advance.ensures _ _ s.at in
     let x = c.in_ok-right.ensures _ _ m.at in
-    let e = elim c.if-is_or_and.branch as (λ b. c.if-is_or_and.mixed ≡ is_mixed s k m x) [
-      | then-is_or_and w ↦ mixed_then s k m x (c.is_or_and.ensures _ _ _ _ (left_held s k m x)) w.if-is_or_and.true w.mixed-is
-      | else-is_or_and w ↦ mixed_else s k m x (c.is_or_and.ensures _ _ _ _ (left_held s k m x)) w.if-is_or_and.false w.mixed-is (w.is_or_and-mixed.ensures _ _ _ _ x.holds)
-    ] in
+    let e = c.has_or_and-mixed.ensures _ _ _ _ _ _ _ _ (left_held s k m x) x.holds in
     (rw (p.1, p.2) (mixed_stops s k m x c.cur_start-start.result c.kept_so_far-found.result _ _ e c.in_err-check_mixed.ensures))
 
 pub make_coalesce-requires : goal.make_coalesce-requires
@@ -88,10 +81,7 @@ make_coalesce-requires g c =
     let k = c.at.ensures.0 c.operands-test.true in
     let m = c.in_ok-advance.ensures _ _ s.at in
     let x = c.in_ok-right.ensures _ _ m.at in
-    let e = elim c.if-is_or_and.branch as (λ b. c.if-is_or_and.mixed ≡ is_mixed s k m x) [
-      | then-is_or_and w ↦ mixed_then s k m x (c.is_or_and.ensures _ _ _ _ (left_held s k m x)) w.if-is_or_and.true w.mixed-is
-      | else-is_or_and w ↦ mixed_else s k m x (c.is_or_and.ensures _ _ _ _ (left_held s k m x)) w.if-is_or_and.false w.mixed-is (w.is_or_and-mixed.ensures _ _ _ _ x.holds)
-    ] in
+    let e = c.has_or_and-mixed.ensures _ _ _ _ _ _ _ _ (left_held s k m x) x.holds in
     let d = checked s k m x c.requires.at e c.kept_so_far-found.ensures c.in_ok-check_mixed.ensures in
     let h = d.place in let i = start_before s k m x in let j = c.cur_start-start.ensures in omega arith
 
@@ -101,10 +91,7 @@ operands-smaller g c =
     let k = c.at.ensures.0 c.operands-test.true in
     let m = c.in_ok-advance.ensures _ _ s.at in
     let x = c.in_ok-right.ensures _ _ m.at in
-    let e = elim c.if-is_or_and.branch as (λ b. c.if-is_or_and.mixed ≡ is_mixed s k m x) [
-      | then-is_or_and w ↦ mixed_then s k m x (c.is_or_and.ensures _ _ _ _ (left_held s k m x)) w.if-is_or_and.true w.mixed-is
-      | else-is_or_and w ↦ mixed_else s k m x (c.is_or_and.ensures _ _ _ _ (left_held s k m x)) w.if-is_or_and.false w.mixed-is (w.is_or_and-mixed.ensures _ _ _ _ x.holds)
-    ] in
+    let e = c.has_or_and-mixed.ensures _ _ _ _ _ _ _ _ (left_held s k m x) x.holds in
     let d = checked s k m x c.requires.at e c.kept_so_far-found.ensures c.in_ok-check_mixed.ensures in
     smaller s k m x d c.in_ok-left-2.ensures
 
@@ -114,10 +101,7 @@ operands-preserved g c = λ text f a.
     let k = c.at.ensures.0 c.operands-test.true in
     let m = c.in_ok-advance.ensures _ _ s.at in
     let x = c.in_ok-right.ensures _ _ m.at in
-    let e = elim c.if-is_or_and.branch as (λ b. c.if-is_or_and.mixed ≡ is_mixed s k m x) [
-      | then-is_or_and w ↦ mixed_then s k m x (c.is_or_and.ensures _ _ _ _ (left_held s k m x)) w.if-is_or_and.true w.mixed-is
-      | else-is_or_and w ↦ mixed_else s k m x (c.is_or_and.ensures _ _ _ _ (left_held s k m x)) w.if-is_or_and.false w.mixed-is (w.is_or_and-mixed.ensures _ _ _ _ x.holds)
-    ] in
+    let e = c.has_or_and-mixed.ensures _ _ _ _ _ _ _ _ (left_held s k m x) x.holds in
     let d = checked s k m x a e c.kept_so_far-found.ensures c.in_ok-check_mixed.ensures in
     operands_step s k m x d (made_pair s k m x d c.cur_start-start.ensures c.in_ok-left-2.ensures)
 
