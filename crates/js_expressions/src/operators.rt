@@ -1,6 +1,6 @@
 //! Operators between two operands (ECMA-262, sections 13.6 to 13.13).
 
-ghost use Rattle.std.specs.Prelude.{ℕ, ◌≡◌, ◌≤◌, ◌-◌, ◌∷◌, [], length, true, Some, IfOk};
+ghost use Rattle.std.specs.Prelude.{ℕ, ◌≡◌, ◌≤◌, ◌-◌, ◌||◌, ◌∷◌, [], length, true, Some, IfOk};
 ghost use Rattle.js_base.specs.Contexts.{reads_await};
 ghost use Rattle.js_base.specs.declared.kind.Kind.TheVariants.{Question2};
 ghost use Rattle.js_grammar.specs.Grammar.{Lexeme};
