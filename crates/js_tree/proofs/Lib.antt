@@ -5,6 +5,7 @@ pub mod HoldingLemmas
 pub mod SignLemmas
 pub mod Quotations
 pub mod LineLemmas
+mod LabelLemmas
 pub mod SpellingLemmas
 pub mod StackLemmas
 pub mod WeightLemmas

@@ -24,7 +24,7 @@ use std::collections::BTreeMap;
 use std::marker::Model;
 
 /// What is kept of a node beside its kind and its name.
-#[derive(Debug, Clone, Copy)]
+#[derive(Clone, Copy)]
 pub(crate) struct Entry {
     span: Span,
     /// Where the children begin in the column of slots.

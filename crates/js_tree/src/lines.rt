@@ -26,7 +26,7 @@ use std::alloc::Global;
 const MAX_LINES_LEN: usize = 2_147_483_648;
 
 /// A slot whose lines are still to be written, and its depth.
-#[derive(Debug, Clone, Copy, PartialEq, Eq)]
+#[derive(Clone, Copy)]
 pub(crate) struct PendingSlot {
     pub depth: usize,
     pub slot: Option<NodeId>,
