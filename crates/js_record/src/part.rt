@@ -56,14 +56,6 @@ impl Model for Part {
     ghost view = { λ p. record { is_module_syntax = p.is_module_syntax; imports = p.imports.items; exports = p.exports.items; requests = p.requests.items; bindings = p.bindings.items; skipped_defaults = p.skipped_defaults.items; metas = p.metas.items; dynamic = p.dynamic.items } };
 }
 
-/// Puts items behind others.
-fn append<T: Drop>(to: &mut Vec<T>, mut from: Vec<T>) -> Result<(), NoMemory>
-    ensures { OnOk result (to.new.items ≡ to.old.items ++ from.items) }
-{
-    to.append(&mut from)?;
-    Ok(())
-}
-
 /// The same items as a list.
 pub(crate) fn listed<T: Drop>(alloc: Global, items: Vec<T>) -> Result<List<T>, NoMemory>
     ensures { IfOk result (λ l. l ≡ items.items) }
@@ -101,18 +93,18 @@ impl Part {
         part
     }
 
-    /// Puts another part behind this one. On an error it may have some of it.
-    fn append(&mut self, other: Part) -> Result<(), NoMemory>
-        ensures { OnOk result (self.new ≡ joined self.old other) }
+    /// Moves what another part has behind what this one has. On an error it may have some of it.
+    fn append(&mut self, other: &mut Part) -> Result<(), NoMemory>
+        ensures { OnOk result (self.new ≡ joined self.old other.old) }
     {
         self.is_module_syntax = self.is_module_syntax || other.is_module_syntax;
-        append(&mut self.imports, other.imports)?;
-        append(&mut self.exports, other.exports)?;
-        append(&mut self.requests, other.requests)?;
-        append(&mut self.bindings, other.bindings)?;
-        append(&mut self.skipped_defaults, other.skipped_defaults)?;
-        append(&mut self.metas, other.metas)?;
-        append(&mut self.dynamic, other.dynamic)?;
+        self.imports.append(&mut other.imports)?;
+        self.exports.append(&mut other.exports)?;
+        self.requests.append(&mut other.requests)?;
+        self.bindings.append(&mut other.bindings)?;
+        self.skipped_defaults.append(&mut other.skipped_defaults)?;
+        self.metas.append(&mut other.metas)?;
+        self.dynamic.append(&mut other.dynamic)?;
         Ok(())
     }
 
@@ -121,8 +113,8 @@ impl Part {
         ensures { IfOk result (λ p. p ≡ whole parts.items) }
     {
         let mut all = Part::nothing(alloc);
-        for part in parts {
-            all.append(part)?;
+        for mut part in parts {
+            all.append(&mut part)?;
         }
         Ok(all)
     }

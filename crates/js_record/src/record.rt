@@ -3,7 +3,7 @@
 ghost use Rattle.std.specs.Prelude.{◌≡◌, ◌++◌, ◌∷◌, ◌↔◌, [], IfOk, IsTrue, OnOk, bytes_eq, fold, map, position};
 ghost use Rattle.std.specs.List.{flat_map, IsDistinct};
 ghost use Rattle.js_grammar.specs.ModuleRecords.{own_export_names, with_request, with_binding, replaced_by, replaced, if_local, if_indirect, if_star, default_places, defaults_among, duplicate_export, duplicate_defaults, record_of_part, errors_of_part};
-ghost use Rattle.js_record.specs.Exports.{IsMadeOf};
+ghost use Rattle.js_record.specs.Exports.{IsMadeOf, made};
 
 use crate::distinct::are_all_distinct;
 use crate::entry::{
@@ -295,28 +295,50 @@ pub(crate) fn errors_of(alloc: Global, part: Part) -> Result<Diagnostics, NoMemo
     Ok(exports.errors)
 }
 
+/// The record that has these entries and uses, and its early errors.
+fn assembled(has_module_syntax: bool, entries: Entries, uses: Uses) -> (ModuleRecord, Diagnostics)
+    ensures { result ≡ made has_module_syntax entries.imports uses.requested_modules.entries uses.import_metas uses.dynamic_imports entries.exports }
+{
+    let Entries { imports, exports } = entries;
+    let Exports {
+        places,
+        bindings,
+        errors,
+    } = exports;
+    let Places {
+        local,
+        indirect,
+        star,
+    } = places;
+    let record = ModuleRecord {
+        has_module_syntax,
+        requested_modules: uses.requested_modules,
+        import_entries: imports,
+        local_export_entries: local,
+        indirect_export_entries: indirect,
+        star_export_entries: star,
+        exported_bindings: bindings,
+        import_metas: uses.import_metas,
+        dynamic_imports: uses.dynamic_imports,
+    };
+    (record, errors)
+}
+
 /// The record of all that the declarations of a module add, and its early errors.
 pub(crate) fn record_of(alloc: Global, part: Part) -> Result<(ModuleRecord, Diagnostics), NoMemory>
     ensures { IfOk result (λ r. r ≡ (record_of_part part, errors_of_part part)) }
 {
-    let entries = entries_of(
-        alloc,
-        part.imports,
-        part.exports,
-        part.bindings,
-        &part.skipped_defaults,
-    )?;
-    let uses = uses_of(alloc, part.requests, part.metas, part.dynamic)?;
-    let record = ModuleRecord {
-        has_module_syntax: part.is_module_syntax,
-        requested_modules: uses.requested_modules,
-        import_entries: entries.imports,
-        local_export_entries: entries.exports.places.local,
-        indirect_export_entries: entries.exports.places.indirect,
-        star_export_entries: entries.exports.places.star,
-        exported_bindings: entries.exports.bindings,
-        import_metas: uses.import_metas,
-        dynamic_imports: uses.dynamic_imports,
-    };
-    Ok((record, entries.exports.errors))
+    let Part {
+        is_module_syntax,
+        imports,
+        exports,
+        requests,
+        bindings,
+        skipped_defaults,
+        metas,
+        dynamic,
+    } = part;
+    let uses = uses_of(alloc, requests, metas, dynamic)?;
+    let entries = entries_of(alloc, imports, exports, bindings, &skipped_defaults)?;
+    Ok(assembled(is_module_syntax, entries, uses))
 }

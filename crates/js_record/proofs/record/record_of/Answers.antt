@@ -10,6 +10,6 @@ returns c =
     let e = c.in_ok-entries.entries in
     let u = c.in_ok-uses.uses in
     let given : Part = record { is_module_syntax = p.is_module_syntax; imports = p.imports.items; exports = p.exports.items; requests = p.requests.items; bindings = p.bindings.items; skipped_defaults = p.skipped_defaults.items; metas = p.metas.items; dynamic = p.dynamic.items } in
-    made_right given e.imports u.requested_modules.entries u.import_metas u.dynamic_imports e.exports
+    c.assembled.ensures ∙ made_right given e.imports u.requested_modules.entries u.import_metas u.dynamic_imports e.exports
     c.in_ok-entries.ensures.imports (subst (λ s. IsMadeOf e.exports e.imports given.exports given.bindings s) c.deref.ensures.value c.in_ok-entries.ensures.exports) c.in_ok-uses.ensures.requested c.in_ok-uses.ensures.metas c.in_ok-uses.ensures.dynamic
     ∙ ap (λ (q : Part). (record_of_part q, errors_of_part q)) c.part.view_is
