@@ -124,6 +124,124 @@ static NAMES: [&str; 114] = [
     "overlong_source",
 ];
 
+// The message of each kind, in the order of the enum.
+static MESSAGES: [&str; 114] = [
+    "Invalid character",
+    "File appears to be binary.",
+    "Unterminated string",
+    "Unterminated template literal",
+    "Unterminated regular expression",
+    "Unterminated block comment",
+    "Invalid escape sequence",
+    "Invalid number",
+    "Unknown or repeated flag of a regular expression",
+    "HTML-like comments are not allowed in modules",
+    "Unexpected token",
+    "Another token was expected here",
+    "Expected a closing bracket here",
+    "Expected `,` or a closing bracket here",
+    "Expected `:` and the alternative of the conditional expression here",
+    "A reserved word cannot be used as an identifier here",
+    "Keywords cannot contain escape characters",
+    "Cannot assign to this expression",
+    "The rest element has to be the last element of an array target",
+    "The rest element has to be the last element of a pattern",
+    "The rest parameter has to be the last parameter",
+    "The rest element of an object pattern has to be an identifier",
+    "A trailing comma is not allowed here",
+    "Parentheses without an expression",
+    "Optional chaining cannot appear in the callee of a `new` expression",
+    "Expected an identifier, `[` or `(` after `?.`",
+    "`import()` requires a specifier",
+    "`import()` takes one or two arguments",
+    "The argument of `import()` cannot be a spread element",
+    "The only property of `import` is `import.meta`",
+    "The only property of `new` is `new.target`",
+    "Unexpected private identifier",
+    "`#a in #b` is not an expression",
+    "Expected a function body here",
+    "Expected the name of the class here",
+    "A decorator has to be a dotted name, a call of one, or an expression in parentheses",
+    "Expected `case`, `default` or `}` here",
+    "The name of an import or an export cannot contain a lone surrogate",
+    "The value of an import attribute has to be a string literal",
+    "Merge conflict marker",
+    "`as` expressions are TypeScript, and not JavaScript",
+    "`satisfies` expressions are TypeScript, and not JavaScript",
+    "`implements` clauses are TypeScript, and not JavaScript",
+    "Type annotations are TypeScript, and not JavaScript",
+    "Accessibility modifiers are TypeScript, and not JavaScript",
+    "Modifiers of parameters are TypeScript, and not JavaScript",
+    "`import a = b` is TypeScript, and not JavaScript",
+    "Unexpected `<`: JSX is not JavaScript",
+    "`??` cannot be mixed with `||` or `&&` without parentheses",
+    "The left operand of `**` cannot be a unary expression without parentheses",
+    "No line terminator is allowed before `=>`",
+    "A rest element cannot be followed by a comma",
+    "A shorthand property with an initializer is allowed in destructuring targets only",
+    "The rest of an object target has to be an identifier or a member expression",
+    "Only `=` can give a default value in a destructuring target",
+    "A destructuring target can be assigned by `=` only",
+    "A tagged template cannot be used in an optional chain",
+    "Invalid escape sequence in a template literal",
+    "`import()` cannot be the callee of `new`",
+    "`super()` cannot be the callee of `new`",
+    "`new.target` is allowed in functions, static blocks and field initializers only",
+    "`super` has to be followed by `(`, `.` or `[`",
+    "A private member of `super` cannot be taken",
+    "`import.meta` is allowed in modules only",
+    "V8 runtime calls cannot have spread elements as arguments",
+    "`await` cannot be used as an identifier here",
+    "`yield` cannot be used as an identifier in a generator",
+    "`await` is allowed in async functions and at the top level of modules only",
+    "A `yield` expression is not allowed here",
+    "The flags `u` and `v` of a regular expression exclude each other",
+    "A getter cannot have parameters",
+    "A setter has to have exactly one parameter",
+    "A setter cannot have a rest parameter",
+    "A constructor cannot be a getter or a setter",
+    "A constructor cannot be an async method",
+    "A constructor cannot be a generator",
+    "An accessor property cannot be named `constructor`",
+    "A class field cannot be named `constructor`",
+    "A static member of a class cannot be named `prototype`",
+    "A class element cannot be named `#constructor`",
+    "The property of an object cannot have a private name",
+    "A rest element cannot have an initializer",
+    "A rest parameter cannot have an initializer",
+    "A class declaration is allowed in a list of statements only",
+    "A lexical declaration is allowed in a list of statements only",
+    "The declaration of an async function is allowed in a list of statements only",
+    "The declaration of a generator is allowed in a list of statements only",
+    "Expected the name of the function here",
+    "Decorators are not allowed here",
+    "Decorators can stand before or after `export`, and not both",
+    "A destructuring declaration has to have an initializer",
+    "A `const` declaration has to have an initializer",
+    "Only one variable can be declared in the head of a `for-in` or `for-of` loop",
+    "A lexical declaration in the head of a `for-in` or `for-of` loop cannot have an initializer",
+    "This declaration in the head of a `for-in` or `for-of` loop cannot have an initializer",
+    "The left side of a `for-of` loop cannot be `async`",
+    "The left side of a `for-of` loop cannot begin with `let`",
+    "`for await` is allowed with `of` only",
+    "`for await` is allowed in async functions and at the top level of modules only",
+    "A `return` statement is allowed in function bodies only",
+    "A `return` statement is not allowed in a static block",
+    "A `switch` statement can have only one `default` clause",
+    "No line terminator is allowed here",
+    "Expected `catch` or `finally` after the block of `try`",
+    "`import` and `export` declarations are allowed in modules only",
+    "`import` and `export` declarations are allowed at the top level of a module only",
+    "A string cannot be the local name of an export without `from`",
+    "A reserved word cannot be the local name of an export without `from`",
+    "Expected an identifier here",
+    "This import attribute has been given before",
+    "This name is exported more than once",
+    "A module can have only one default export",
+    "Flow is not supported",
+    "Source length exceeds 4 GiB limit",
+];
+
 impl DiagnosticKind {
     /// The name, in snake case, as `unexpected_token`.
     pub fn name(self) -> &'static str
@@ -258,180 +376,7 @@ impl DiagnosticKind {
     fn message(self) -> &'static str
         ensures { IfSome (fixed_message self) (λ text. result.now ≡ text) }
     {
-        match self {
-            DiagnosticKind::InvalidCharacter => "Invalid character",
-            DiagnosticKind::BinaryFile => "File appears to be binary.",
-            DiagnosticKind::UnterminatedString => "Unterminated string",
-            DiagnosticKind::UnterminatedTemplate => "Unterminated template literal",
-            DiagnosticKind::UnterminatedRegexp => "Unterminated regular expression",
-            DiagnosticKind::UnterminatedComment => "Unterminated block comment",
-            DiagnosticKind::InvalidEscape => "Invalid escape sequence",
-            DiagnosticKind::InvalidNumber => "Invalid number",
-            DiagnosticKind::RegExpFlag => "Unknown or repeated flag of a regular expression",
-            DiagnosticKind::HtmlCommentInModule => "HTML-like comments are not allowed in modules",
-            DiagnosticKind::UnexpectedToken => "Unexpected token",
-            DiagnosticKind::ExpectToken => "Another token was expected here",
-            DiagnosticKind::ExpectClosing => "Expected a closing bracket here",
-            DiagnosticKind::ExpectClosingOrSeparator => "Expected `,` or a closing bracket here",
-            DiagnosticKind::ExpectConditionalAlternative =>
-                "Expected `:` and the alternative of the conditional expression here",
-            DiagnosticKind::IdentifierReservedWord =>
-                "A reserved word cannot be used as an identifier here",
-            DiagnosticKind::EscapedKeyword => "Keywords cannot contain escape characters",
-            DiagnosticKind::InvalidAssignment => "Cannot assign to this expression",
-            DiagnosticKind::SpreadLastElement =>
-                "The rest element has to be the last element of an array target",
-            DiagnosticKind::BindingRestElementLast =>
-                "The rest element has to be the last element of a pattern",
-            DiagnosticKind::RestParameterLast => "The rest parameter has to be the last parameter",
-            DiagnosticKind::InvalidBindingRestElement =>
-                "The rest element of an object pattern has to be an identifier",
-            DiagnosticKind::UnexpectedTrailingComma => "A trailing comma is not allowed here",
-            DiagnosticKind::EmptyParenthesizedExpression => "Parentheses without an expression",
-            DiagnosticKind::InvalidNewOptionalChain =>
-                "Optional chaining cannot appear in the callee of a `new` expression",
-            DiagnosticKind::IdentifierExpectedAfterQuestionDot =>
-                "Expected an identifier, `[` or `(` after `?.`",
-            DiagnosticKind::ImportRequiresASpecifier => "`import()` requires a specifier",
-            DiagnosticKind::ImportArguments => "`import()` takes one or two arguments",
-            DiagnosticKind::DynamicImportArgumentSpread =>
-                "The argument of `import()` cannot be a spread element",
-            DiagnosticKind::InvalidImportProperty =>
-                "The only property of `import` is `import.meta`",
-            DiagnosticKind::NewTarget => "The only property of `new` is `new.target`",
-            DiagnosticKind::UnexpectedPrivateIdentifier => "Unexpected private identifier",
-            DiagnosticKind::PrivateInPrivate => "`#a in #b` is not an expression",
-            DiagnosticKind::ExpectFunctionBody => "Expected a function body here",
-            DiagnosticKind::ExpectClassName => "Expected the name of the class here",
-            DiagnosticKind::DecoratorForm =>
-                "A decorator has to be a dotted name, a call of one, or an expression in parentheses",
-            DiagnosticKind::ExpectSwitchClause => "Expected `case`, `default` or `}` here",
-            DiagnosticKind::ExportLoneSurrogate =>
-                "The name of an import or an export cannot contain a lone surrogate",
-            DiagnosticKind::ImportAttributeValueMustBeStringLiteral =>
-                "The value of an import attribute has to be a string literal",
-            DiagnosticKind::MergeConflictMarker => "Merge conflict marker",
-            DiagnosticKind::AsInTs => "`as` expressions are TypeScript, and not JavaScript",
-            DiagnosticKind::SatisfiesInTs =>
-                "`satisfies` expressions are TypeScript, and not JavaScript",
-            DiagnosticKind::ImplementsClauseInTs =>
-                "`implements` clauses are TypeScript, and not JavaScript",
-            DiagnosticKind::TypeAnnotationInTs =>
-                "Type annotations are TypeScript, and not JavaScript",
-            DiagnosticKind::ModifierInTs =>
-                "Accessibility modifiers are TypeScript, and not JavaScript",
-            DiagnosticKind::ParameterModifiersInTs =>
-                "Modifiers of parameters are TypeScript, and not JavaScript",
-            DiagnosticKind::ImportEqualsInTs => "`import a = b` is TypeScript, and not JavaScript",
-            DiagnosticKind::JsxInNonJsx => "Unexpected `<`: JSX is not JavaScript",
-            DiagnosticKind::MixedCoalesce =>
-                "`??` cannot be mixed with `||` or `&&` without parentheses",
-            DiagnosticKind::UnaryExponentiationLeftOperand =>
-                "The left operand of `**` cannot be a unary expression without parentheses",
-            DiagnosticKind::LineterminatorBeforeArrow =>
-                "No line terminator is allowed before `=>`",
-            DiagnosticKind::RestElementTrailingComma =>
-                "A rest element cannot be followed by a comma",
-            DiagnosticKind::CoverInitializedName =>
-                "A shorthand property with an initializer is allowed in destructuring targets only",
-            DiagnosticKind::InvalidRestAssignmentTarget =>
-                "The rest of an object target has to be an identifier or a member expression",
-            DiagnosticKind::InvalidAssignmentTargetDefaultValueOperator =>
-                "Only `=` can give a default value in a destructuring target",
-            DiagnosticKind::AssignmentIsNotSimple =>
-                "A destructuring target can be assigned by `=` only",
-            DiagnosticKind::OptionalChainTaggedTemplate =>
-                "A tagged template cannot be used in an optional chain",
-            DiagnosticKind::TemplateLiteral => "Invalid escape sequence in a template literal",
-            DiagnosticKind::NewDynamicImport => "`import()` cannot be the callee of `new`",
-            DiagnosticKind::NewSuper => "`super()` cannot be the callee of `new`",
-            DiagnosticKind::NewTargetOutsideFunction =>
-                "`new.target` is allowed in functions, static blocks and field initializers only",
-            DiagnosticKind::UnexpectedSuper => "`super` has to be followed by `(`, `.` or `[`",
-            DiagnosticKind::SuperPrivate => "A private member of `super` cannot be taken",
-            DiagnosticKind::ImportMeta => "`import.meta` is allowed in modules only",
-            DiagnosticKind::V8IntrinsicSpreadElem =>
-                "V8 runtime calls cannot have spread elements as arguments",
-            DiagnosticKind::IdentifierAsync => "`await` cannot be used as an identifier here",
-            DiagnosticKind::IdentifierGenerator =>
-                "`yield` cannot be used as an identifier in a generator",
-            DiagnosticKind::AwaitExpression =>
-                "`await` is allowed in async functions and at the top level of modules only",
-            DiagnosticKind::YieldExpression => "A `yield` expression is not allowed here",
-            DiagnosticKind::RegExpFlagUAndV =>
-                "The flags `u` and `v` of a regular expression exclude each other",
-            DiagnosticKind::GetterParameters => "A getter cannot have parameters",
-            DiagnosticKind::SetterWithParameters => "A setter has to have exactly one parameter",
-            DiagnosticKind::SetterWithRestParameter => "A setter cannot have a rest parameter",
-            DiagnosticKind::ConstructorGetterSetter =>
-                "A constructor cannot be a getter or a setter",
-            DiagnosticKind::ConstructorAsync => "A constructor cannot be an async method",
-            DiagnosticKind::ConstructorGenerator => "A constructor cannot be a generator",
-            DiagnosticKind::ConstructorAccessor =>
-                "An accessor property cannot be named `constructor`",
-            DiagnosticKind::FieldConstructor => "A class field cannot be named `constructor`",
-            DiagnosticKind::StaticPrototype =>
-                "A static member of a class cannot be named `prototype`",
-            DiagnosticKind::PrivateNameConstructor =>
-                "A class element cannot be named `#constructor`",
-            DiagnosticKind::PrivateIdentifierInPropertyName =>
-                "The property of an object cannot have a private name",
-            DiagnosticKind::ARestElementCannotHaveAnInitializer =>
-                "A rest element cannot have an initializer",
-            DiagnosticKind::ARestParameterCannotHaveAnInitializer =>
-                "A rest parameter cannot have an initializer",
-            DiagnosticKind::ClassDeclaration =>
-                "A class declaration is allowed in a list of statements only",
-            DiagnosticKind::LexicalDeclarationSingleStatement =>
-                "A lexical declaration is allowed in a list of statements only",
-            DiagnosticKind::AsyncFunctionDeclaration =>
-                "The declaration of an async function is allowed in a list of statements only",
-            DiagnosticKind::GeneratorFunctionDeclaration =>
-                "The declaration of a generator is allowed in a list of statements only",
-            DiagnosticKind::ExpectFunctionName => "Expected the name of the function here",
-            DiagnosticKind::DecoratorsAreNotValidHere => "Decorators are not allowed here",
-            DiagnosticKind::DecoratorsInExportAndClass =>
-                "Decorators can stand before or after `export`, and not both",
-            DiagnosticKind::InvalidDestructuringDeclaration =>
-                "A destructuring declaration has to have an initializer",
-            DiagnosticKind::MissingInitializerInConst =>
-                "A `const` declaration has to have an initializer",
-            DiagnosticKind::MultipleDeclarationsInForLoopHead =>
-                "Only one variable can be declared in the head of a `for-in` or `for-of` loop",
-            DiagnosticKind::InitializerInForInLexicalDeclaration =>
-                "A lexical declaration in the head of a `for-in` or `for-of` loop cannot have an initializer",
-            DiagnosticKind::InitializerInForHead =>
-                "This declaration in the head of a `for-in` or `for-of` loop cannot have an initializer",
-            DiagnosticKind::ForLoopAsyncOf => "The left side of a `for-of` loop cannot be `async`",
-            DiagnosticKind::ForLoopLetReservedWord =>
-                "The left side of a `for-of` loop cannot begin with `let`",
-            DiagnosticKind::ForAwait => "`for await` is allowed with `of` only",
-            DiagnosticKind::ForAwaitStatement =>
-                "`for await` is allowed in async functions and at the top level of modules only",
-            DiagnosticKind::ReturnStatementOnlyInFunctionBody =>
-                "A `return` statement is allowed in function bodies only",
-            DiagnosticKind::ReturnStatementInClassStaticBlock =>
-                "A `return` statement is not allowed in a static block",
-            DiagnosticKind::SwitchMultipleDefaultClause =>
-                "A `switch` statement can have only one `default` clause",
-            DiagnosticKind::IllegalNewline => "No line terminator is allowed here",
-            DiagnosticKind::ExpectCatchFinally =>
-                "Expected `catch` or `finally` after the block of `try`",
-            DiagnosticKind::ModuleCode =>
-                "`import` and `export` declarations are allowed in modules only",
-            DiagnosticKind::TopLevel =>
-                "`import` and `export` declarations are allowed at the top level of a module only",
-            DiagnosticKind::ExportNamedString =>
-                "A string cannot be the local name of an export without `from`",
-            DiagnosticKind::ExportReservedWord =>
-                "A reserved word cannot be the local name of an export without `from`",
-            DiagnosticKind::IdentifierExpected => "Expected an identifier here",
-            DiagnosticKind::Redeclaration => "This import attribute has been given before",
-            DiagnosticKind::DuplicateExport => "This name is exported more than once",
-            DiagnosticKind::DuplicateDefaultExport => "A module can have only one default export",
-            DiagnosticKind::Flow => "Flow is not supported",
-            DiagnosticKind::OverlongSource => "Source length exceeds 4 GiB limit",
-        }
+        MESSAGES[self as usize]
     }
 }
 
