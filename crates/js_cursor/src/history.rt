@@ -13,7 +13,7 @@ use std::collections::BTreeMap;
 use std::marker::Model;
 
 /// A change: from it on this value stands at the place, or none; and what stood there before.
-#[derive(Debug, Clone, Copy)]
+#[derive(Clone, Copy)]
 pub(crate) struct Change<V> {
     place: u32,
     value: Option<V>,

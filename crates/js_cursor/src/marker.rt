@@ -12,7 +12,7 @@ use js_base::{Kind, MAX_LEN, NoMemory, Span, Token};
 use js_lex::{Lexer, LexerConfig};
 
 /// The markers behind a place: the one between the versions, and the one at the end.
-#[derive(Debug, Clone, Copy)]
+#[derive(Clone, Copy)]
 pub(crate) struct Partners {
     pub(crate) middle: Option<Span>,
     pub(crate) closing: Option<Span>,

@@ -10,7 +10,7 @@ use js_lex::{Lexer, LexerConfig, LexerOutput};
 use std::alloc::{AllocError, Global};
 
 /// What a word asks for.
-#[derive(Debug, Clone, Copy)]
+#[derive(Clone, Copy)]
 enum Call {
     All,
     Next,

@@ -9,7 +9,7 @@ use js_lex::{
 use std::alloc::{AllocError, Global};
 
 /// A row: how a text is read, what is asked for, the text as it is written in the row, and what has to come.
-#[derive(Debug, Clone, Copy)]
+#[derive(Clone, Copy)]
 pub struct Row<'a> {
     /// The goal: `script`, `module`, `commonjs`, `unambiguous` or `default`.
     pub goal: &'a str,

@@ -21,7 +21,7 @@ use js_tree::{NodeId, NodeKind, Tree};
 use std::alloc::Global;
 
 /// Where a node stands, as far as a rule asks.
-#[derive(Debug, Clone, Copy)]
+#[derive(Clone, Copy)]
 enum Position {
     /// Where none asks.
     Anywhere,
@@ -60,7 +60,7 @@ impl Position {
 }
 
 /// A node that is still to be looked at.
-#[derive(Debug, Clone, Copy)]
+#[derive(Clone, Copy)]
 struct Pending {
     id: NodeId,
     position: Position,

@@ -6,7 +6,7 @@ ghost use Rattle.js_grammar.specs.RegularExpressions.{behind_pattern, flags};
 ghost use Rattle.js_parser.specs.FlagScans.{both_among, both_behind};
 
 /// Where in a pattern the next character stands.
-#[derive(Debug, Clone, Copy)]
+#[derive(Clone, Copy)]
 struct Inside {
     /// In brackets.
     brackets: bool,
@@ -15,14 +15,14 @@ struct Inside {
 }
 
 /// Which of two flags were read.
-#[derive(Debug, Clone, Copy)]
+#[derive(Clone, Copy)]
 struct Seen {
     u: bool,
     v: bool,
 }
 
 /// What of a regular expression was read.
-#[derive(Debug, Clone, Copy)]
+#[derive(Clone, Copy)]
 enum Read {
     /// Nothing.
     Nothing,

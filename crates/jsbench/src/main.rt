@@ -22,7 +22,7 @@ use std::time::Instant;
 use std::{env, fs, io};
 
 /// What is read of a text.
-#[derive(Debug, Clone, Copy)]
+#[derive(Clone, Copy)]
 enum Part {
     /// Its lexemes alone.
     Lexemes,
@@ -33,7 +33,7 @@ enum Part {
 }
 
 /// What is told of what a parse keeps.
-#[derive(Debug, Clone, Copy)]
+#[derive(Clone, Copy)]
 enum Detail {
     /// The tokens.
     Tokens,
@@ -46,7 +46,7 @@ enum Detail {
 }
 
 /// What is asked for.
-#[derive(Debug, Clone, Copy)]
+#[derive(Clone, Copy)]
 struct Asked {
     /// What is read.
     part: Part,

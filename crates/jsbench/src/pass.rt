@@ -10,7 +10,7 @@ use js_lex::{Lexer, NoTokensLexerConfig};
 use std::alloc::Global;
 
 /// What a pass counts.
-#[derive(Debug, Clone, Copy)]
+#[derive(Clone, Copy)]
 pub struct Pass {
     /// The tokens before the end of the text.
     pub tokens: usize,
@@ -86,7 +86,7 @@ pub(crate) fn lex(alloc: Global, text: &str) -> Result<Pass, NoMemory>
 }
 
 /// What is told of a token: its kind, and how many bytes it has.
-#[derive(Debug, Clone, Copy)]
+#[derive(Clone, Copy)]
 struct Told {
     kind: Kind,
     len: u32,

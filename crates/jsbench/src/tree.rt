@@ -5,7 +5,7 @@ use js_parser::Parser;
 use std::alloc::Global;
 
 /// What a pass counts.
-#[derive(Debug, Clone, Copy)]
+#[derive(Clone, Copy)]
 pub struct Read {
     /// The nodes.
     pub nodes: usize,
