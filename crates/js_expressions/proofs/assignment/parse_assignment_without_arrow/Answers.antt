@@ -187,16 +187,16 @@ pub returns-in_err-_power-clause-answers : goal.returns-in_err-_power-clause-ans
 returns-in_err-_power-clause-answers t c = λ text f a. let p = err_from_is_err_and c.from_residual-in_err-_power.result c.from_residual-in_err-_power.ensures.1 in rw (p.1, p.2) (memory_stops _ _ _ _ c.in_err-_power.ensures)
 
 pub returns-in_err-_power-clause-operand : goal.returns-in_err-_power-clause-operand
-returns-in_err-_power-clause-operand t c = λ text f a i. let p = err_from_is_err_and c.from_residual-in_err-_power.result c.from_residual-in_err-_power.ensures.1 in rw (p.1, p.2) (operand_memory _ _ _ _ _ c.in_err-_power.ensures)
+returns-in_err-_power-clause-operand t c = λ text f a i. let p = err_from_is_err_and c.from_residual-in_err-_power.result c.from_residual-in_err-_power.ensures.1 in rw (p.1, p.2) (operand_memory _ _ c.args.p.now c.args.p.now _ c.in_err-_power.ensures)
 
 pub returns-in_err-advance-clause-answers : goal.returns-in_err-advance-clause-answers
 returns-in_err-advance-clause-answers t c = λ text f a. let p = err_from_is_err_and c.from_residual-in_err-advance.result c.from_residual-in_err-advance.ensures.1 in rw (p.1, p.2) (memory_stops _ _ _ _ c.in_err-advance.ensures)
 
 pub returns-in_err-advance-clause-operand : goal.returns-in_err-advance-clause-operand
-returns-in_err-advance-clause-operand t c = λ text f a i. let p = err_from_is_err_and c.from_residual-in_err-advance.result c.from_residual-in_err-advance.ensures.1 in rw (p.1, p.2) (operand_memory _ _ _ _ _ c.in_err-advance.ensures)
+returns-in_err-advance-clause-operand t c = λ text f a i. let p = err_from_is_err_and c.from_residual-in_err-advance.result c.from_residual-in_err-advance.ensures.1 in rw (p.1, p.2) (operand_memory _ _ c.args.p.now c.args.p.now _ c.in_err-advance.ensures)
 
 pub returns-in_err-node-clause-answers : goal.returns-in_err-node-clause-answers
-returns-in_err-node-clause-answers t c = λ text f a. let p = err_from_is_err_and c.from_residual-in_err-node.result c.from_residual-in_err-node.ensures.1 in rw (p.1, p.2) (memory_stops _ _ _ _ c.in_err-node.ensures)
+returns-in_err-node-clause-answers t c = λ text f a. let p = err_from_is_err_and c.from_residual-in_err-node.result c.from_residual-in_err-node.ensures.1 in rw (p.1, p.2) tt
 
 pub returns-in_err-node-clause-operand : goal.returns-in_err-node-clause-operand
-returns-in_err-node-clause-operand t c = λ text f a i. let p = err_from_is_err_and c.from_residual-in_err-node.result c.from_residual-in_err-node.ensures.1 in rw (p.1, p.2) (operand_memory _ _ _ _ _ c.in_err-node.ensures)
+returns-in_err-node-clause-operand t c = λ text f a i. let p = err_from_is_err_and c.from_residual-in_err-node.result c.from_residual-in_err-node.ensures.1 in rw (p.1, p.2) tt
