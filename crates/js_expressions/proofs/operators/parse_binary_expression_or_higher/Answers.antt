@@ -1,6 +1,6 @@
-use Rattle.std.proofs.Common.{◌≡◌, ◌∙◌, sym, arith}
+use Rattle.std.proofs.Common.{◌∙◌, sym, arith}
 use Rattle.std.proofs.lemmas.Result.{err_from_is_err_and}
-use Rattle.js_expression_laws.proofs.CoalesceOperands.{operands_init, short_answer, sign_whole, right_room, same_so, grown_so, right_none, start_before, is_mixed, checked, left_held, left_stood, mixed_marked_so, mixed_stops, made_pair, operands_step, smaller}
+use Rattle.js_expression_laws.proofs.CoalesceOperands.{operands_init, short_answer, sign_whole, right_room, same_so, grown_so, right_none, start_before, checked, left_held, left_stood, mixed_marked_so, mixed_stops, made_pair, operands_step, smaller}
 use Rattle.js_expression_laws.proofs.Coalescing.{no_short}
 use Rattle.js_parsing_laws.proofs.Moving.{standing, stops_so, stops_behind}
 use Rattle.js_parsing_laws.proofs.Nesting.{nests_later}
