@@ -20,7 +20,8 @@ ghost use Rattle.js_parsing_laws.specs.States.{Standing};
 
 use crate::closing::is_arrow_behind_one;
 use crate::lookahead::is_parenthesized_head;
-use js_base::{Context, DiagnosticKind, Kind, NoMemory, Span};
+use js_base::{Context, DiagnosticKind, Kind, Span};
+use js_memory::NoMemory;
 use js_cursor::{ParserImpl, Stop};
 use js_expression_laws::forms::{ArrowHead, HeadLookahead};
 use js_lex::ParserConfig;

@@ -4,7 +4,8 @@ ghost use Rattle.std.specs.Prelude.{◌≡◌, IfOk, IsCharBoundary};
 ghost use Rattle.js_expression_laws.specs.Closings.{ArrowFound, ArrowStands, BracketPassed, LastClosed, Opened};
 ghost use Rattle.js_parsing_laws.specs.States.{Standing};
 
-use js_base::{Kind, NoMemory};
+use js_base::Kind;
+use js_memory::NoMemory;
 use js_cursor::ParserImpl;
 use js_expression_laws::forms::OpenBracket;
 use js_lex::ParserConfig;

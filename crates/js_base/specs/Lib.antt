@@ -8,11 +8,4 @@ pub mod Contexts
 pub mod Places
 pub mod Sources
 pub mod Spans
-pub mod Lists
 pub mod Diagnostics
-pub mod Characters
-pub mod Escapes
-pub mod Decoding
-pub mod CodePointEscapes
-pub mod DecodingSteps
-pub mod InvalidEscapes

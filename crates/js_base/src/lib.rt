@@ -1,20 +1,14 @@
-//! What every crate of the parser speaks of: spans, source types, kinds of lexemes, tokens, options,
-//! diagnostics and want of memory.
+//! What every crate of the parser speaks of: spans, source types, kinds of lexemes, tokens, options and diagnostics.
 #![tactic(auto)]
 
-mod code_point_escape;
 mod context;
-mod decode;
 mod diagnostic;
 mod diagnostic_text;
-mod escape;
 mod function_kind;
 mod keyword;
 mod kind;
 mod kind_set;
 mod kind_text;
-mod list;
-mod no_memory;
 mod operator;
 mod operator_map;
 mod options;
@@ -22,20 +16,13 @@ mod precedence;
 mod source_type;
 mod span;
 mod statement_context;
-mod steps;
-mod text;
 mod token;
 
-pub use code_point_escape::{CodePointEscape, CodePointStep};
 pub use context::Context;
-pub use decode::{decode_name, decode_string, decode_template};
 pub use diagnostic::{Diagnostic, DiagnosticClass, DiagnosticKind, Diagnostics};
-pub use escape::{InvalidEscape, invalid_escape};
 pub use function_kind::{FunctionKind, VariableDeclarationParent};
 pub use keyword::keyword_kind;
 pub use kind::Kind;
-pub use list::List;
-pub use no_memory::NoMemory;
 pub use operator::{
     AssignmentOperator, BinaryOperator, LogicalOperator, UnaryOperator, UpdateOperator,
 };
@@ -48,8 +35,6 @@ pub use precedence::{Precedence, kind_to_precedence};
 pub use source_type::SourceType;
 pub use span::{Span, Spans};
 pub use statement_context::{StatementContext, Tristate};
-pub use steps::{Ledger, Steps, TickLedger};
-pub use text::{JsStr, Text};
 pub use token::{Token, Tokens};
 
 /// The greatest length of a text in bytes: a place in it fits a `u32`, with room for small sums.

@@ -5,8 +5,8 @@ ghost use Rattle.js_base.specs.Spans.{LiesIn};
 ghost use Rattle.js_base.specs.declared.kind.Kind.TheVariants.{Eof};
 
 use crate::kind::Kind;
-use crate::list::List;
 use crate::span::Span;
+use js_memory::List;
 
 /// A placed lexeme (ECMA-262, chapter 12).
 #[derive(Debug, Clone, Copy, PartialEq, Eq)]

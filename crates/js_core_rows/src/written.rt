@@ -1,7 +1,8 @@
 //! How an answer is written in a row.
 
 use crate::called::Answer;
-use js_base::{Diagnostics, NoMemory};
+use js_base::Diagnostics;
+use js_memory::NoMemory;
 use js_core::Parser;
 use js_cursor::Stop;
 use js_tree::{NodeId, ParserAstBuilder};

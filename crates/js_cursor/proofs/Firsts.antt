@@ -12,7 +12,7 @@ use Rattle.js_base.specs.declared.source_type.SourceType.{SourceType}
 use Rattle.js_base.specs.declared.kind.Kind.{Kind}
 use Rattle.js_base.specs.declared.kind.Kind.TheVariants.{HashbangComment, RAngle, Undetermined}
 use Rattle.js_base.specs.declared.token.Token.{Token}
-use Rattle.js_base.specs.Characters.{is_line_terminator}
+use Rattle.js_text.specs.Characters.{is_line_terminator}
 use Rattle.js_base.specs.Kinds.{same_kind}
 use Rattle.js_base.specs.declared.TheConstants.{MAX_LEN}
 use Rattle.js_base.specs.Spans.{LiesIn}

@@ -5,7 +5,7 @@ use Rattle.std.proofs.Math.Seq.{take-append_seam}
 use Rattle.std.proofs.lemmas.Bool.{false≢true}
 use Rattle.js_base.specs.Spans.{LiesIn}
 use Rattle.js_base.specs.Kinds.{one_of_kinds}
-use Rattle.js_base.specs.Lists.{replaced}
+use Rattle.js_memory.specs.Lists.{replaced}
 use Rattle.js_base.specs.declared.kind.Kind.{Kind}
 use Rattle.js_base.specs.declared.kind.Kind.TheVariants.{LParen, LBrack, LCurly, TemplateHead, TemplateMiddle}
 use Rattle.js_base.specs.declared.diagnostic.Diagnostic.{Diagnostic}

@@ -8,8 +8,9 @@ ghost use Rattle.js_grammar.specs.Marks.{begins_marker, begins_some_marker, midd
 ghost use Rattle.js_cursor.specs.Markers.{lexeme_of, marker_of, or_else, middle_with, GivesPlain, Scanned};
 
 use crate::kinds::is_kind;
-use js_base::{Kind, MAX_LEN, NoMemory, Span, Token};
+use js_base::{Kind, MAX_LEN, Span, Token};
 use js_lex::{Lexer, LexerConfig};
+use js_memory::NoMemory;
 
 /// The markers behind a place: the one between the versions, and the one at the end.
 #[derive(Clone, Copy)]

@@ -12,8 +12,9 @@ use crate::kinds::{ends_statement, is_kind};
 use crate::marker::{Partners, is_marker, scan};
 use crate::parser::ParserImpl;
 use crate::stop::{ListStep, Stop};
-use js_base::{Diagnostic, DiagnosticKind, Kind, NoMemory, Span};
+use js_base::{Diagnostic, DiagnosticKind, Kind, Span};
 use js_lex::ParserConfig;
+use js_memory::NoMemory;
 
 /// A lexeme that can't stand there.
 fn unexpected_token(span: Span) -> Diagnostic

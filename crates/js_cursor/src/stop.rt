@@ -1,6 +1,6 @@
 //! Why a parse function stops.
 
-use js_base::NoMemory;
+use js_memory::NoMemory;
 use std::alloc::{AllocError, AllocFailed};
 
 /// Why a parse function stops.

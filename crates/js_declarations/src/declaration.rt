@@ -7,7 +7,8 @@ ghost use Rattle.js_parsing_laws.specs.Nesting.{CanNest, room};
 ghost use Rattle.js_parsing_laws.specs.States.{Standing};
 ghost use Rattle.js_declarations.specs.Declarations.{ChecksInitialiser, DeclaratorsRead, EndsDeclarator, NoDeclarators, ReadsDeclarator, ReadsOneDeclarator, is_constant, missing, no_initialiser};
 
-use js_base::{DiagnosticKind, Kind, NoMemory, Span};
+use js_base::{DiagnosticKind, Kind, Span};
+use js_memory::NoMemory;
 use js_cursor::{ParserImpl, Stop};
 use js_lex::ParserConfig;
 use js_parsing::diagnostics::diagnostic_at;

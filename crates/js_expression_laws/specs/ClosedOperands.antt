@@ -2,7 +2,7 @@
 use Rattle.std.specs.Prelude.{ℕ, ◌≡◌, ◌<◌, Bool, true, false, List, [], ◌∷◌, Option, Some, None, length, slice_index}
 use Rattle.js_base.specs.declared.kind.Kind.{Kind}
 use Rattle.js_base.specs.declared.kind.Kind.TheVariants.{Comma, Decimal, Ident, RBrack, RParen, Semicolon, Str}
-use Rattle.js_base.specs.Characters.{one_of}
+use Rattle.js_text.specs.Characters.{one_of}
 use Rattle.js_base.specs.Kinds.{one_of_kinds}
 use Rattle.js_tree.specs.declared.id.NodeId.{NodeId}
 use Rattle.js_tree.specs.declared.kind.NodeKind.TheVariants as node

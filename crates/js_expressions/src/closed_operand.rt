@@ -1,7 +1,7 @@
 //! Operands of one lexeme with a closing sign behind them (ECMA-262, section 13.15).
 
 ghost use Rattle.std.specs.Prelude.{◌≡◌, MatchResult};
-ghost use Rattle.js_base.specs.Characters.{one_of};
+ghost use Rattle.js_text.specs.Characters.{one_of};
 ghost use Rattle.js_cursor.specs.Moves.{OnlyMemory};
 ghost use Rattle.js_expression_laws.specs.ClosedOperands.{TakesClosed, TakesLexeme, ClosesAt, closing_bytes};
 ghost use Rattle.js_parsing_laws.specs.States.{Standing};

@@ -11,7 +11,8 @@ ghost use Rattle.js_parsing_laws.specs.Nesting.{CanNest, room};
 ghost use Rattle.js_expression_laws.specs.Rests.{update_kinds};
 ghost use Rattle.js_parsing_laws.specs.States.{Standing};
 
-use js_base::{NoMemory, Span, UpdateOperator, map_update_operator};
+use js_base::{Span, UpdateOperator, map_update_operator};
+use js_memory::NoMemory;
 use js_cursor::{ParserImpl, Stop};
 use js_lex::ParserConfig;
 use js_operands::left_hand_side::parse_lhs_expression_or_higher;

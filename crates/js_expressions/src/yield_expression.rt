@@ -13,7 +13,8 @@ ghost use Rattle.js_parsing_laws.specs.Moves.{MadeHere, plain_label};
 ghost use Rattle.js_parsing_laws.specs.Nesting.{CanNest, room};
 ghost use Rattle.js_parsing_laws.specs.States.{Standing};
 
-use js_base::{Kind, NoMemory, Span};
+use js_base::{Kind, Span};
+use js_memory::NoMemory;
 use js_cursor::{ParserImpl, Stop};
 use js_lex::ParserConfig;
 use js_parsing::lexemes::advance;

@@ -6,7 +6,7 @@ use Rattle.js_base.specs.declared.kind.Kind.TheVariants.{Eof, RegExp}
 use Rattle.js_base.specs.Kinds.{code, same_kind, one_of_kinds}
 use Rattle.js_grammar.specs.Grammar.{Lexeme, Lexemes, last, next, here}
 use Rattle.js_base.specs.Texts.{words}
-use Rattle.js_base.specs.Characters.{one_of}
+use Rattle.js_text.specs.Characters.{one_of}
 use Rattle.js_grammar.specs.Characters.{width}
 use Rattle.js_grammar.specs.Longest.{longest, joined}
 use Rattle.js_grammar.specs.Trivia.{are_trivia, lack_html_comments, after, within_line}

@@ -4,12 +4,12 @@ use Rattle.std.specs.Prelude.{is_some}
 use Rattle.std.specs.List.{list_all}
 use Rattle.std.proofs.lemmas.Bool.{eqb-true}
 use Rattle.js_base.specs.declared.kind.Kind.TheVariants.{Str}
-use Rattle.js_base.specs.Characters.{one_of, is_decimal}
+use Rattle.js_text.specs.Characters.{one_of, is_decimal}
 use Rattle.js_base.specs.Texts.{words}
 use Rattle.js_grammar.specs.Characters.{begins}
 use Rattle.js_grammar.specs.Longest.{none_longer}
-use Rattle.js_base.specs.Escapes.{in_string, code_points, line_feeds, line_feeds_after}
-use Rattle.js_base.specs.Decoding.{string_points}
+use Rattle.js_text.specs.Escapes.{in_string, code_points, line_feeds, line_feeds_after}
+use Rattle.js_text.specs.Decoding.{string_points}
 use Rattle.js_grammar.specs.Strings.{nothing_left, closes_string, string_inside, string_kind}
 use Rattle.js_grammar.specs.Lexemes.{plain_kind, lexemes_in, division, a_string, opening}
 use Rattle.js_grammar.specs.CoreTexts.{is_core_string, closes_core_string}

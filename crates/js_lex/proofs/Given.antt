@@ -11,7 +11,7 @@ use Rattle.js_grammar.specs.Settings.{Goal}
 use Rattle.js_grammar.specs.Characters.{begins}
 use Rattle.js_grammar.specs.Strings.{string_kind}
 use Rattle.js_grammar.specs.Lexemes.{division, kind_in, plain_kind, Opening, opening, a_string, kind_of}
-use Rattle.js_base.specs.Characters.{is_decimal}
+use Rattle.js_text.specs.Characters.{is_decimal}
 use Rattle.js_words.proofs.KindsOfLexemes.{plain_end, opened_is}
 use Rattle.js_lex.proofs.Again.{passed, given_start, cut_kind, cut_same}
 use Rattle.js_grammar.specs.Grammar.{Lexeme}

@@ -5,7 +5,7 @@ use Rattle.std.proofs.lemmas.Bool.{eqb-true}
 use Rattle.js_base.specs.declared.kind.Kind.{Kind}
 use Rattle.js_base.specs.declared.kind.Kind.TheVariants.{HashbangComment}
 use Rattle.js_base.specs.Texts.{words}
-use Rattle.js_base.specs.Characters.{is_line_terminator}
+use Rattle.js_text.specs.Characters.{is_line_terminator}
 use Rattle.js_grammar.specs.Characters.{begins}
 use Rattle.js_grammar.specs.Trivia.{within_line, after}
 use Rattle.js_grammar.specs.Longest.{longest, none_longer}

@@ -10,7 +10,7 @@ use Rattle.js_base.specs.declared.diagnostic.Diagnostic.{Diagnostic}
 use Rattle.js_base.specs.declared.kind.Kind.TheVariants.{Undetermined}
 use Rattle.js_base.specs.Kinds.{same_kind}
 use Rattle.js_base.specs.Spans.{LiesIn}
-use Rattle.js_base.specs.Lists.{replaced}
+use Rattle.js_memory.specs.Lists.{replaced}
 use Rattle.js_grammar.specs.Grammar.{Lexeme}
 use Rattle.js_grammar.specs.Settings.{Goal}
 use Rattle.js_grammar.specs.Characters.{width}

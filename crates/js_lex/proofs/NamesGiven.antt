@@ -8,9 +8,9 @@ use Rattle.js_base.specs.declared.kind.Kind.TheVariants.{Undetermined, Eof, RAng
 use Rattle.js_base.specs.declared.token.Token.{Token}
 use Rattle.js_base.specs.Kinds.{one_of_kinds}
 use Rattle.js_base.specs.KindSets.{identifier_name_kinds}
-use Rattle.js_base.specs.Characters.{is_decimal, is_scalar}
-use Rattle.js_base.specs.Escapes.{in_name, code_points}
-use Rattle.js_base.specs.Decoding.{utf8_of, only_if, name_text}
+use Rattle.js_text.specs.Characters.{is_decimal, is_scalar}
+use Rattle.js_text.specs.Escapes.{in_name, code_points}
+use Rattle.js_text.specs.Decoding.{utf8_of, only_if, name_text}
 use Rattle.js_grammar.specs.Characters.{width, begins, is_identifier_start, is_identifier_part}
 use Rattle.js_grammar.specs.Names.{is_plain_name, named, name_of, word_of}
 use Rattle.js_grammar.specs.Lexemes.{division, kind_in, kind_of, Opening, opening, a_name, a_punctuator}

@@ -1,7 +1,7 @@
 -- What a character is that opens one class of lexemes alone.
 use Rattle.std.proofs.Common.{◌≡◌, ℕ, ◌+◌, ◌==◌, Bool, true, false, List, [], ◌∷◌, refl, ap, ◌∙◌, subst, ◌&&◌, ◌||◌}
 use Rattle.std.proofs.lemmas.Bool.{eqb-true}
-use Rattle.js_base.specs.Characters.{one_of, is_decimal}
+use Rattle.js_text.specs.Characters.{one_of, is_decimal}
 use Rattle.js_grammar.specs.Characters.{is_identifier_start}
 use Rattle.js_grammar.specs.Lexemes.{a_name, a_number, a_string, a_template, a_private_name, a_punctuator, opening}
 use Rattle.js_grammar.specs.Lexemes.{Opening}

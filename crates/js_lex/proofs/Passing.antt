@@ -6,7 +6,7 @@ use Rattle.std.proofs.Math.Bool.{or-false, or_assoc}
 use Rattle.std.proofs.Math.Seq.{drop-append_seam, take-append_seam}
 use Rattle.std.proofs.lemmas.List.{map-append}
 use Rattle.js_base.specs.declared.span.Span.{Span}
-use Rattle.js_base.specs.Characters.{is_line_terminator}
+use Rattle.js_text.specs.Characters.{is_line_terminator}
 use Rattle.js_grammar.specs.Characters.{has_line_terminator, width}
 use Rattle.js_grammar.specs.Longest.{longest, none_begins, joined}
 use Rattle.js_grammar.specs.Trivia.{is_trivia_piece, are_trivia, is_html_comment, is_irregular}

@@ -9,8 +9,8 @@ use Rattle.js_base.specs.declared.diagnostic.DiagnosticKind.{DiagnosticKind}
 use Rattle.js_base.specs.declared.diagnostic.DiagnosticKind.TheVariants as fault
 use Rattle.js_base.specs.Kinds.{same_kind}
 use Rattle.js_base.proofs.KindLemmas.{kind_of_same}
-use Rattle.js_base.specs.Characters.{one_of}
-use Rattle.js_base.specs.Escapes.{in_name, before_all, code_points}
+use Rattle.js_text.specs.Characters.{one_of}
+use Rattle.js_text.specs.Escapes.{in_name, before_all, code_points}
 use Rattle.js_grammar.specs.Grammar.{Lexeme}
 use Rattle.js_grammar.specs.Settings.{Goal}
 use Rattle.js_grammar.specs.Characters.{width, is_identifier_start, has_line_terminator}

@@ -5,7 +5,7 @@ use Rattle.std.specs.List.{list_all}
 use Rattle.std.proofs.lemmas.Bool.{and_left, and_right}
 use Rattle.std.proofs.Math.Bool.{and-false, and-true, not-not, or-false}
 use Rattle.std.proofs.lemmas.List.Folds.{list_all-append, list_any-append}
-use Rattle.js_base.specs.Characters.{is_line_terminator}
+use Rattle.js_text.specs.Characters.{is_line_terminator}
 use Rattle.js_grammar.specs.Characters.{has_line_terminator, begins, width}
 use Rattle.js_grammar.specs.Longest.{longest, none_longer, none_begins}
 use Rattle.js_grammar.specs.Trivia.{after, within_line, closes_comment, is_blank, is_single_line_comment, is_multi_line_comment, is_html_open, is_html_close, is_html_comment, is_trivia_piece}
@@ -14,7 +14,7 @@ use Rattle.js_grammar.specs.LexicalFaults.{behind}
 use Rattle.js_grammar.proofs.LongestLemmas.{both-left, both-right, both, not-true, none_longer-at}
 use Rattle.js_grammar.proofs.Finding.{neither, neither-left, neither-right}
 use Rattle.js_grammar.proofs.CoreFirst.{lt-true}
-use Rattle.js_base.specs.Characters.{one_of}
+use Rattle.js_text.specs.Characters.{one_of}
 use Rattle.js_grammar.specs.Trivia.{is_irregular}
 use Rattle.js_words.specs.declared.byte_class.ByteClass.{ByteClass}
 use Rattle.js_words.specs.ByteClasses.{IsOf, Stays, is_trivia_class, begins_no_trivia, is_line_class, is_comment_class, stays_on_line, stays_in_comment}

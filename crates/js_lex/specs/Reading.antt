@@ -8,8 +8,8 @@ use Rattle.js_base.specs.declared.diagnostic.Diagnostic.{Diagnostic}
 use Rattle.js_base.specs.declared.diagnostic.DiagnosticKind.TheVariants.{RegExpFlag}
 use Rattle.js_base.specs.Kinds.{same_kind, one_of_kinds}
 use Rattle.js_base.specs.Spans.{LiesIn}
-use Rattle.js_base.specs.Characters.{one_of}
-use Rattle.js_base.specs.Lists.{replaced}
+use Rattle.js_text.specs.Characters.{one_of}
+use Rattle.js_memory.specs.Lists.{replaced}
 use Rattle.js_grammar.specs.Grammar.{Lexeme}
 use Rattle.js_grammar.specs.Settings.{Goal}
 use Rattle.js_grammar.specs.Characters.{width, has_line_terminator}

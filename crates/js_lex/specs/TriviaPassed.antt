@@ -1,6 +1,6 @@
 -- The trivia that a lexer passes, and what is kept of it.
 use Rattle.std.specs.Prelude.{ℕ, ◌+◌, ◌≡◌, ◌==◌, Bool, true, false, not, List, [], ◌∷◌, ◌++◌, Option, Some, None, IsTrue}
-use Rattle.js_base.specs.Characters.{is_line_terminator}
+use Rattle.js_text.specs.Characters.{is_line_terminator}
 use Rattle.js_base.specs.declared.span.Span.{Span}
 use Rattle.js_base.specs.declared.diagnostic.Diagnostic.{Diagnostic}
 use Rattle.js_base.specs.declared.diagnostic.DiagnosticKind.TheVariants.{HtmlCommentInModule}

@@ -3,7 +3,8 @@
 ghost use Rattle.std.specs.Prelude.{◌≡◌, ◌++◌, take, drop, map, IsTrue};
 ghost use Rattle.js_lex.specs.Comments.{attached, Follow};
 
-use js_base::{List, Span};
+use js_base::Span;
+use js_memory::List;
 
 /// The kinds of comments.
 #[derive(Debug, Clone, Copy, PartialEq, Eq)]

@@ -3,7 +3,7 @@
 ghost use Rattle.std.specs.Prelude.{◌≡◌, ◌<◌, ◌≤◌, Bool, IsTrue, IfSome, IsCharBoundary, codes};
 ghost use Rattle.js_grammar.specs.Longest.{none_begins};
 ghost use Rattle.js_grammar.specs.Trivia.{is_trivia_piece};
-ghost use Rattle.js_base.specs.Characters.{one_of};
+ghost use Rattle.js_text.specs.Characters.{one_of};
 ghost use Rattle.js_grammar.specs.Lexemes.{division};
 ghost use Rattle.js_lex.specs.TriviaPassed.{NoTrivia};
 ghost use Rattle.js_grammar.specs.Lexemes as lexemes;

@@ -13,7 +13,8 @@ ghost use Rattle.js_lex.specs.Settling.{Fits, Settled, GivesAtOnce, TellsLexeme}
 use crate::output::LexerOutput;
 use crate::plain_goal::{frequent_at, plain_at};
 use crate::trivia::{begins_no_trivia, pass_blanks, pass_trivia};
-use js_base::{Kind, MAX_LEN, NoMemory, SourceType, Span, Token};
+use js_base::{Kind, MAX_LEN, SourceType, Span, Token};
+use js_memory::NoMemory;
 use js_words::scan::{Fault, Scan, Scanned};
 
 /// The next token of the plain goal from a place on; of a punctuator that begins with `>` this sign alone. What is

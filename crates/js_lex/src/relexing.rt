@@ -10,7 +10,8 @@ ghost use Rattle.js_lex.specs.Settling.{Fits, SettledAgain, HasFlags, FlagsKept,
 
 use crate::output::LexerOutput;
 use crate::reading::{is_kept, settle_fault, token_of};
-use js_base::{DiagnosticKind, Kind, MAX_LEN, NoMemory, Span, Token};
+use js_base::{DiagnosticKind, Kind, MAX_LEN, Span, Token};
+use js_memory::NoMemory;
 use js_scan::regular_expression::{NONE_SEEN, RegularExpression, flag_at};
 use js_words::scan::{Scan, Scanned};
 

@@ -2,7 +2,7 @@
 //! comments).
 
 ghost use Rattle.std.specs.Prelude.{◌≡◌, ◌≤◌, ◌+◌, [], ◌∷◌, Bool, ◌&&◌, false, length, IfOk, OnErr, OnOk, Some, None, IsTrue, IsCharBoundary};
-ghost use Rattle.js_base.specs.Characters.{one_of};
+ghost use Rattle.js_text.specs.Characters.{one_of};
 ghost use Rattle.js_words.specs.ByteClasses as classes;
 ghost use Rattle.js_words.specs.ByteClasses.{Stays};
 ghost use Rattle.js_words.specs.Places.{Word};
@@ -12,7 +12,8 @@ ghost use Rattle.js_lex.specs.declared.comment.CommentKind.TheVariants.{Line};
 
 use crate::comment::{Comment, CommentKind, attach};
 use crate::output::LexerOutput;
-use js_base::{DiagnosticKind, MAX_LEN, NoMemory, Span};
+use js_base::{DiagnosticKind, MAX_LEN, Span};
+use js_memory::NoMemory;
 use js_words::byte_class::class_of;
 use js_words::character::{Character, character_of, next_character};
 use js_words::class::{is_line_terminator, is_white_space};

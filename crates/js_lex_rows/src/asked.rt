@@ -5,7 +5,9 @@ ghost use Rattle.std.specs.Prelude.{◌≡◌};
 use crate::written::{
     push_blanks, push_comma, push_comments, push_faults, push_token, push_tokens,
 };
-use js_base::{Diagnostic, JsStr, Kind, NoMemory, Token, Tokens};
+use js_base::{Diagnostic, Kind, Token, Tokens};
+use js_text::JsStr;
+use js_memory::NoMemory;
 use js_lex::{Lexer, LexerConfig, LexerOutput};
 use std::alloc::{AllocError, Global};
 

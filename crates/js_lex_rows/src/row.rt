@@ -1,7 +1,8 @@
 //! A row, and what comes of it.
 
 use crate::asked::{Asked, asked_of, first_of};
-use js_base::{MAX_LEN, NoMemory, SourceType};
+use js_base::{MAX_LEN, SourceType};
+use js_memory::NoMemory;
 use js_lex::{
     Lexer, LexerConfig, NoTokensLexerConfig, NoTokensParserConfig, ParserConfig,
     RuntimeLexerConfig, RuntimeParserConfig, TokensLexerConfig, TokensParserConfig,

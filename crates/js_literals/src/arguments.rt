@@ -9,7 +9,8 @@ ghost use Rattle.js_parsing_laws.specs.Stands.{StandsHere};
 ghost use Rattle.js_parsing_laws.specs.Nesting.{CanNest, room};
 ghost use Rattle.js_parsing_laws.specs.States.{Standing};
 
-use js_base::{Diagnostic, DiagnosticKind, Kind, NoMemory, Span};
+use js_base::{Diagnostic, DiagnosticKind, Kind, Span};
+use js_memory::NoMemory;
 use js_cursor::{ListStep, ParserImpl, Stop};
 use js_lex::ParserConfig;
 use js_parsing::context::assignment_with_in;

@@ -13,7 +13,8 @@ ghost use Rattle.js_tree.specs.Labels.{number_of};
 ghost use Rattle.js_operand_laws.specs.Functions.{BeginsFunction, FunctionBehind, FunctionHere, NamesFunction, TakesName, TakesParts};
 
 use crate::leaf::parse_name;
-use js_base::{DiagnosticKind, Kind, NoMemory, Span};
+use js_base::{DiagnosticKind, Kind, Span};
+use js_memory::NoMemory;
 use js_cursor::{ParserImpl, Stop};
 use js_lex::ParserConfig;
 use js_operand_laws::forms::{FunctionForm, FunctionParts};

@@ -12,7 +12,8 @@ ghost use Rattle.js_parsing_laws.specs.Answers.{Answers};
 ghost use Rattle.js_tree.specs.Labels.{number_of};
 ghost use Rattle.std.specs.Prelude.{cond, ◌+◌};
 
-use js_base::{DiagnosticKind, Kind, NoMemory, Span, Token};
+use js_base::{DiagnosticKind, Kind, Span, Token};
+use js_memory::NoMemory;
 use js_cursor::{ParserImpl, Stop};
 use js_lex::ParserConfig;
 use js_operand_laws::forms::PassedPart;

@@ -16,7 +16,8 @@ ghost use Rattle.js_targets.specs.Taken.{EndsTarget};
 ghost use Rattle.js_statement_laws.specs.ForParts.{BeginsHead, ChecksAsync, ChecksLet, FaultOf, FindsHead, HeadExpressionRead, HeadFault, IsAsyncAlone, NoneBegins, TakesHeadTarget, TakesPartWithoutIn, TellsHead, is_var, may_stand};
 
 use crate::declaration_statement::begins_let_declaration;
-use js_base::{DiagnosticKind, Kind, NoMemory, Span, Token};
+use js_base::{DiagnosticKind, Kind, Span, Token};
+use js_memory::NoMemory;
 use js_cursor::{ParserImpl, Stop};
 use js_declarations::head::{
     HeadForm, goes_through, parse_declarators_behind, parse_head_declarator,

@@ -18,7 +18,8 @@ ghost use Rattle.js_statement_laws.specs.ForWords.{ChecksAwait, ChecksEnding, Pa
 ghost use Rattle.js_tree.specs.Labels.{number_of};
 
 use crate::for_parts::parse_part_without_in;
-use js_base::{DiagnosticKind, Kind, NoMemory, Span};
+use js_base::{DiagnosticKind, Kind, Span};
+use js_memory::NoMemory;
 use js_cursor::{ParserImpl, Stop};
 use js_lex::ParserConfig;
 use js_literals::leaf::close_parentheses;

@@ -5,7 +5,7 @@ use Rattle.std.specs.List.{list_all}
 use Rattle.std.proofs.lemmas.Bool.{false≢true, and_parts, and_from, eqb-true, eq-eqb}
 use Rattle.js_base.specs.declared.diagnostic.Diagnostic.{Diagnostic}
 use Rattle.js_base.specs.declared.diagnostic.DiagnosticKind.TheVariants.{RegExpFlag}
-use Rattle.js_base.specs.Characters.{one_of}
+use Rattle.js_text.specs.Characters.{one_of}
 use Rattle.js_grammar.specs.Characters.{width}
 use Rattle.js_grammar.specs.RegularExpressions.{are_flags}
 use Rattle.js_lex.specs.Reading.{is_wrong_flag, flag_faults}

@@ -7,7 +7,7 @@ use Rattle.std.proofs.lemmas.Str.{len_utf8_ascii}
 use Rattle.std.proofs.lemmas.List.{append_cancel_left}
 use Rattle.js_base.specs.declared.kind.Kind.{Kind}
 use Rattle.js_base.specs.declared.kind.Kind.TheVariants.{NoSubstitutionTemplate, TemplateHead, TemplateMiddle, TemplateTail}
-use Rattle.js_base.specs.Characters.{is_decimal}
+use Rattle.js_text.specs.Characters.{is_decimal}
 use Rattle.js_base.specs.Kinds.{one_of_kinds}
 use Rattle.js_grammar.specs.Characters.{begins, width}
 use Rattle.js_grammar.specs.Grammar.{Lexeme}

@@ -22,7 +22,8 @@ ghost use Rattle.js_operand_laws.specs.declared.forms.LinkBase.TheVariants as ba
 use crate::new_target::parse_new_target;
 use crate::primary::parse_primary_expression;
 use crate::super_word::{check_new_callee, is_super_alone, parse_super_member};
-use js_base::{DiagnosticKind, Kind, NoMemory, Span};
+use js_base::{DiagnosticKind, Kind, Span};
+use js_memory::NoMemory;
 use js_cursor::{ParserImpl, Stop};
 use js_lex::ParserConfig;
 use js_literals::arguments::parse_call_arguments;

@@ -10,7 +10,8 @@ ghost use Rattle.js_parsing_laws.specs.Classes.{EndsParse};
 ghost use Rattle.js_parsing_laws.specs.Stands.{StandsHere};
 ghost use Rattle.js_parsing_laws.specs.States.{Standing};
 
-use js_base::{DiagnosticKind, Kind, NoMemory, Span};
+use js_base::{DiagnosticKind, Kind, Span};
+use js_memory::NoMemory;
 use js_cursor::{ParserImpl, Stop};
 use js_lex::ParserConfig;
 use js_parsing::diagnostics::diagnostic_at;

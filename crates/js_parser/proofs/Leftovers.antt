@@ -7,7 +7,7 @@ use Rattle.js_base.specs.declared.diagnostic.Diagnostic.{Diagnostic}
 use Rattle.js_base.specs.declared.diagnostic.DiagnosticKind.{DiagnosticKind}
 use Rattle.js_base.specs.declared.diagnostic.DiagnosticKind.TheVariants.{CoverInitializedName, RegExpFlagUAndV, TemplateLiteral}
 use Rattle.js_base.specs.declared.diagnostic.DiagnosticClass.TheVariants.{Early}
-use Rattle.js_base.specs.Decoding.{cooked}
+use Rattle.js_text.specs.Decoding.{cooked}
 use Rattle.js_base.specs.Diagnostics.{class_of}
 use Rattle.js_base.specs.declared.span.Span.{Span}
 use Rattle.js_base.specs.Spans.{LiesIn}

@@ -1,6 +1,6 @@
 -- What is told of the nodes that break an early rule, in the order of the tree.
 use Rattle.std.specs.Prelude.{ℕ, cond, List, [], ◌∷◌, ◌++◌, Option, Some, None, is_some, chars, nat_lt, suc}
-use Rattle.js_base.specs.Decoding.{cooked}
+use Rattle.js_text.specs.Decoding.{cooked}
 use Rattle.js_base.specs.declared.diagnostic.Diagnostic.{Diagnostic}
 use Rattle.js_base.specs.declared.diagnostic.DiagnosticKind.{DiagnosticKind}
 use Rattle.js_base.specs.declared.diagnostic.DiagnosticKind.TheVariants.{RegExpFlagUAndV, TemplateLiteral}

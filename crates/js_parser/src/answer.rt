@@ -13,13 +13,14 @@ ghost use Rattle.js_parser.specs.Taken.{ProgramTaken, ProgramRefused};
 
 use crate::early::early_errors;
 use js_base::{
-    Diagnostic, DiagnosticClass, DiagnosticKind, Diagnostics, Kind, NoMemory, SourceType, Span,
-    Spans, Tokens,
+    Diagnostic, DiagnosticClass, DiagnosticKind, Diagnostics, Kind, SourceType, Span, Spans, Tokens,
 };
 use js_core::Parser;
 use js_lex::Comments;
-use js_record::{ModuleRecord, ModuleRecordBuilder};
+use js_memory::NoMemory;
+use js_record::{ModuleRecord, ModuleVisits};
 use js_tree::{NodeId, ParserAstBuilder, Tree};
+use js_visits::ModuleRecordBuilder;
 use std::alloc::Global;
 
 /// A program.

@@ -13,9 +13,10 @@ ghost use Rattle.js_parser.specs.Parsed.{options_of, Answers, IsAnswer};
 
 use crate::answer::{ParserReturn, overlong, refused, taken};
 use crate::program::parse_program;
-use js_base::{MAX_LEN, NoMemory, ParseOptions, SourceType};
+use js_base::{MAX_LEN, ParseOptions, SourceType};
 use js_cursor::{ParserImpl, Stop};
 use js_lex::{LexerConfig, NoTokensParserConfig, ParserConfig, RuntimeParserConfig};
+use js_memory::NoMemory;
 use std::alloc::Global;
 
 /// The parser of one text.

@@ -9,9 +9,10 @@ ghost use Rattle.js_cursor.specs.Starts.{Starts};
 ghost use Rattle.js_parsing_laws.specs.Moves.{MadeHere, plain_label};
 ghost use Rattle.js_parser.specs.Taken.{ProgramTaken, ProgramStops};
 
-use js_base::{Kind, NoMemory, Span};
+use js_base::{Kind, Span};
 use js_core::{Parser, parse_statements};
 use js_cursor::Stop;
+use js_memory::NoMemory;
 use js_tree::{NodeFlags, NodeId, NodeKind, Op};
 
 /// The children of Program.

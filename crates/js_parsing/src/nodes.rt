@@ -1,7 +1,7 @@
 //! Nodes without flags, made at a parser's place.
 
 ghost use Rattle.std.specs.Prelude.{◌≡◌, ◌∷◌, [], true, false, Some, IfOk, chars, slice_range};
-ghost use Rattle.js_base.specs.Decoding.{name_text};
+ghost use Rattle.js_text.specs.Decoding.{name_text};
 ghost use Rattle.js_base.specs.declared.kind.Kind.TheVariants.{Str};
 ghost use Rattle.js_grammar.specs.Strings.{string_kind};
 ghost use Rattle.js_tree.specs.Labels.{number_of};
@@ -10,7 +10,9 @@ ghost use Rattle.js_tree.specs.declared.op.Op.TheVariants as op;
 ghost use Rattle.js_parsing_laws.specs.Moves.{MadeHere, plain_label};
 ghost use Rattle.js_parsing_laws.specs.NodeTexts.{IsKept, SpellsName, is_name_node, is_textual, spelled_at};
 
-use js_base::{NoMemory, Span, Text, Token, decode_name};
+use js_base::{Span, Token};
+use js_text::{Text, decode_name};
+use js_memory::NoMemory;
 use js_cursor::ParserImpl;
 use js_lex::ParserConfig;
 use js_tree::{NodeFlags, NodeId, NodeKind, Op};

@@ -9,7 +9,7 @@ use Rattle.js_cursor.specs.Parsers.{Parser}
 use Rattle.js_parsing_laws.specs.Moves.{MadeHere, plain_label}
 use Rattle.std.proofs.Common.{false}
 use Rattle.std.specs.Prelude.{Result, Ok, Err, IfOk, None, chars}
-use Rattle.js_base.specs.declared.no_memory.NoMemory.{NoMemory}
+use Rattle.js_memory.specs.declared.no_memory.NoMemory.{NoMemory}
 use Rattle.js_base.specs.declared.span.Span.{Span}
 use Rattle.js_tree.specs.declared.flags.NodeFlags.{NodeFlags}
 use Rattle.js_tree.specs.declared.kind.NodeKind.{NodeKind}

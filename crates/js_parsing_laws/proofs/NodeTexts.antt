@@ -2,7 +2,7 @@
 use Rattle.std.proofs.Common.{ℕ, ◌≡◌, ◌+◌, ◌++◌, Bool, true, false, not, ◌&&◌, ◌||◌, List, Option, Some, refl, sym, ap, subst, ◌∙◌}
 use Rattle.std.specs.Prelude.{IsSome, chars, slice_range}
 use Rattle.std.proofs.lemmas.Bool.{false≢true, or_left}
-use Rattle.js_base.specs.Decoding.{name_text}
+use Rattle.js_text.specs.Decoding.{name_text}
 use Rattle.js_base.specs.KindSets.{identifier_name_kinds}
 use Rattle.js_base.specs.Kinds.{same_kind, one_of_kinds}
 use Rattle.js_base.specs.Texts.{words}

@@ -4,7 +4,7 @@ use Rattle.std.specs.Prelude.{codes, is_some}
 use Rattle.std.proofs.lemmas.Bool.{false≢true, and_from, eqb-true}
 use Rattle.js_base.specs.declared.kind.Kind.{Kind}
 use Rattle.js_base.specs.declared.kind.Kind.TheVariants.{Eof, HashbangComment, RCurly, RegExp, Slash, SlashEq, TemplateMiddle, TemplateTail}
-use Rattle.js_base.specs.Characters.{one_of}
+use Rattle.js_text.specs.Characters.{one_of}
 use Rattle.js_base.specs.Kinds.{same_kind, one_of_kinds}
 use Rattle.js_base.specs.Texts.{words, punctuators}
 use Rattle.js_base.proofs.KindLemmas.{kind_of_same}

@@ -1,6 +1,6 @@
 -- What a node keeps beside its label, by the text that it stands for: its name where that has an escape (ECMA-262, 12.7.1); and that the text of a string is one.
 use Rattle.std.specs.Prelude.{ℕ, ◌≡◌, Bool, true, false, cond, List, Option, Some, None, IsSome, is_some, chars, slice_range}
-use Rattle.js_base.specs.Decoding.{name_text}
+use Rattle.js_text.specs.Decoding.{name_text}
 use Rattle.js_base.specs.Spans.{LiesIn}
 use Rattle.js_base.specs.declared.kind.Kind.TheVariants.{Str}
 use Rattle.js_base.specs.declared.token.Token.{Token}

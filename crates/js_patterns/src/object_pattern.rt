@@ -19,7 +19,8 @@ ghost use Rattle.js_tree.specs.Labels.{kind_of, number_of};
 ghost use Rattle.js_tree.specs.Nodes.{node_at};
 
 use crate::binding::{check_behind_rest, finish_rest, parse_binding_element, parse_nested_binding};
-use js_base::{Diagnostic, DiagnosticKind, Kind, NoMemory, Span, Token};
+use js_base::{Diagnostic, DiagnosticKind, Kind, Span, Token};
+use js_memory::NoMemory;
 use js_cursor::{ParserImpl, Stop};
 use js_lex::ParserConfig;
 use js_literals::leaf::parse_name;

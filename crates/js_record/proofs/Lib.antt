@@ -3,7 +3,6 @@ pub mod FirstLemmas
 pub mod ExportLemmas
 pub mod DistinctLemmas
 pub mod CheckedLemmas
-pub mod PartLemmas
 pub mod LineLemmas
 pub mod KindLemmas
 pub mod ShownLemmas

@@ -1,7 +1,5 @@
-pub mod Names
 pub mod Firsts
 pub mod Places
-pub mod Options
 pub mod Exports
 pub mod Distinct
 pub mod NodeKinds

@@ -2,21 +2,12 @@
 #![tactic(auto)]
 
 mod builder;
-mod copied;
 mod distinct;
-mod entry;
 mod lines;
-mod name;
-mod part;
 mod placing;
 mod reading;
 mod record;
 mod visiting;
 
-pub use builder::ModuleRecordBuilder;
-pub use entry::{
-    DynamicImport, DynamicImports, ExportEntries, ExportEntry, ImportEntries, ImportEntry,
-    RequestedModule, RequestedModules,
-};
-pub use name::{ExportExportName, ExportImportName, ExportLocalName, ImportImportName, NameSpan};
+pub use builder::ModuleVisits;
 pub use record::ModuleRecord;

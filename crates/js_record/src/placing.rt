@@ -7,13 +7,16 @@ ghost use Rattle.js_grammar.specs.ModuleRecords as def;
 ghost use Rattle.js_grammar.specs.ModuleRecords.{imported_local, taken, no_local, to_indirect, place, place_imported, place_requested, if_local, if_indirect, if_star};
 ghost use Rattle.js_record.specs.Firsts.{AreFirst};
 ghost use Rattle.js_record.specs.Places.{placed_of};
-ghost use Rattle.js_record.specs.Names.{taken_name_of};
+ghost use Rattle.js_visits.specs.Names.{taken_name_of};
 
-use crate::copied::Copied;
-use crate::entry::{ExportEntries, ExportEntry, ImportEntries, ImportEntry};
-use crate::name::{ExportImportName, ExportLocalName, ImportImportName, NameSpan};
 use indexmap::IndexMap;
-use js_base::{List, NoMemory, Span, Text};
+use js_base::Span;
+use js_memory::{List, NoMemory};
+use js_text::Text;
+use js_visits::{
+    Copied, ExportEntries, ExportEntry, ExportImportName, ExportLocalName, ImportEntries,
+    ImportEntry, ImportImportName, NameSpan,
+};
 use std::alloc::Global;
 
 /// Adds the import entry at a place of the list, if it is the first one that has its local name.

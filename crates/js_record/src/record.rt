@@ -6,15 +6,15 @@ ghost use Rattle.js_grammar.specs.ModuleRecords.{own_export_names, with_request,
 ghost use Rattle.js_record.specs.Exports.{IsMadeOf, made};
 
 use crate::distinct::are_all_distinct;
-use crate::entry::{
-    DynamicImport, DynamicImports, ExportEntries, ExportEntry, ImportEntries, ImportEntry,
-    RequestedModules,
-};
-use crate::name::NameSpan;
-use crate::part::{Part, Request, listed};
 use crate::placing::{Places, place_all};
 use indexmap::IndexMap;
-use js_base::{Diagnostic, DiagnosticKind, Diagnostics, List, NoMemory, Span, Spans, Text};
+use js_base::{Diagnostic, DiagnosticKind, Diagnostics, Span, Spans};
+use js_memory::{List, NoMemory};
+use js_text::Text;
+use js_visits::{
+    DynamicImport, DynamicImports, ExportEntries, ExportEntry, ImportEntries, ImportEntry,
+    NameSpan, Part, Request, RequestedModules, listed,
+};
 use std::alloc::Global;
 use std::marker::Model;
 

@@ -2,7 +2,7 @@
 use Rattle.std.proofs.Common.{◌≡◌, ◌==◌, ℕ, Bool, true, false, List, [], ◌∷◌, ◌++◌, refl, sym, ap, ◌∙◌, not, ◌||◌}
 use Rattle.std.specs.Prelude.{codes}
 use Rattle.std.proofs.lemmas.List.Folds.{list_any-append}
-use Rattle.js_base.specs.Characters.{one_of}
+use Rattle.js_text.specs.Characters.{one_of}
 use Rattle.js_scan.specs.declared.regular_expression.Seen.{Seen}
 use Rattle.js_scan.specs.RegularExpressionParts.{SeenIn, TellsFlag}
 

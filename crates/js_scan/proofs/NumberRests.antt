@@ -6,7 +6,7 @@ use Rattle.std.specs.List.{list_all}
 use Rattle.std.proofs.lemmas.Bool.{eqb-true}
 use Rattle.js_base.specs.declared.kind.Kind.{Kind}
 use Rattle.js_base.specs.declared.kind.Kind.TheVariants.{Decimal, Float, PositiveExponential, NegativeExponential, DecimalBigInt}
-use Rattle.js_base.specs.Characters.{one_of, is_decimal}
+use Rattle.js_text.specs.Characters.{one_of, is_decimal}
 use Rattle.js_grammar.specs.Characters.{begins}
 use Rattle.js_grammar.specs.Numbers.{Rest, ends, suffix, digits, signed, exponent, fraction, decimal_rest, integer_rest, has_separator, stops_number}
 use Rattle.js_grammar.specs.LexicalFaults.{behind}

@@ -10,7 +10,7 @@ use Rattle.js_base.specs.declared.diagnostic.DiagnosticKind.{DiagnosticKind}
 use Rattle.js_base.specs.declared.diagnostic.DiagnosticKind.TheVariants as fault
 use Rattle.js_base.specs.Kinds.{code, same_kind, one_of_kinds}
 use Rattle.js_base.specs.Texts.{words}
-use Rattle.js_base.specs.Characters.{one_of, is_decimal, is_hex, is_octal, is_binary}
+use Rattle.js_text.specs.Characters.{one_of, is_decimal, is_hex, is_octal, is_binary}
 use Rattle.js_grammar.specs.Characters.{begins}
 use Rattle.js_grammar.specs.Longest.{longest, none_longer}
 use Rattle.js_grammar.specs.Numbers.{Rest, ends, suffix, digits, signed, exponent, fraction, decimal_rest, integer_rest, legacy, zero_rest, number_kind, has_separator, stops_number, is_number}

@@ -4,7 +4,7 @@ use Rattle.std.specs.Prelude.{nat_lt, nat_le, IsCharBoundary}
 use Rattle.std.specs.List.{list_all, list_any}
 use Rattle.std.specs.Char.{is_digit, digit_value}
 use Rattle.std.proofs.lemmas.Bool.Decides.{nat_tests}
-use Rattle.js_base.specs.Characters.{one_of, is_decimal, is_hex}
+use Rattle.js_text.specs.Characters.{one_of, is_decimal, is_hex}
 use Rattle.js_grammar.specs.Characters.{begins}
 use Rattle.js_grammar.specs.Numbers.{Rest, digits, legacy, has_separator}
 use Rattle.js_grammar.specs.LexicalFaults.{behind}

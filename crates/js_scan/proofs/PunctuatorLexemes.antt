@@ -13,7 +13,7 @@ use Rattle.js_base.specs.declared.kind.Kind.TheVariants.{Slash, PrivateIdentifie
 use Rattle.js_base.specs.declared.diagnostic.DiagnosticKind.TheVariants as fault
 use Rattle.js_base.specs.Kinds.{same_kind}
 use Rattle.js_base.specs.Texts.{text_of, punctuators, words}
-use Rattle.js_base.specs.Characters.{one_of, is_decimal}
+use Rattle.js_text.specs.Characters.{one_of, is_decimal}
 use Rattle.js_grammar.specs.Characters.{begins, is_identifier_start, width}
 use Rattle.js_grammar.specs.CoreTexts.{starts}
 use Rattle.js_grammar.specs.Longest.{Class, none_longer, none_begins}

@@ -4,7 +4,7 @@ use Rattle.std.proofs.lemmas.Bool.{eqb-true}
 use Rattle.std.proofs.lemmas.Bool.Decides.{nat_tests}
 use Rattle.js_base.specs.declared.kind.Kind.TheVariants.{Dot, Dot3, Question, QuestionDot, Question2, Slash, SlashEq}
 use Rattle.js_base.specs.Texts.{punctuators}
-use Rattle.js_base.specs.Characters.{is_decimal}
+use Rattle.js_text.specs.Characters.{is_decimal}
 use Rattle.js_grammar.specs.Characters.{begins}
 use Rattle.js_grammar.specs.Lexemes.{punctuator_kind}
 use Rattle.js_grammar.specs.LexicalFaults.{behind}

@@ -8,7 +8,7 @@ use Rattle.js_base.specs.declared.kind.Kind.{Kind}
 use Rattle.js_base.specs.declared.kind.Kind.TheVariants.{QuestionDot, Slash}
 use Rattle.js_base.specs.Kinds.{same_kind}
 use Rattle.js_base.specs.Texts.{text_of, punctuators}
-use Rattle.js_base.specs.Characters.{one_of, is_decimal}
+use Rattle.js_text.specs.Characters.{one_of, is_decimal}
 use Rattle.js_grammar.specs.Characters.{begins}
 use Rattle.js_grammar.specs.Lexemes.{may_precede, punctuator_kind, Opening, opening, a_name, a_number, a_string, a_template, a_private_name, a_punctuator}
 use Rattle.js_grammar.specs.LexicalFaults.{behind}

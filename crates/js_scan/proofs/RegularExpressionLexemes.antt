@@ -7,7 +7,7 @@ use Rattle.js_base.specs.declared.kind.Kind.{Kind}
 use Rattle.js_base.specs.declared.kind.Kind.TheVariants.{RegExp}
 use Rattle.js_base.specs.declared.diagnostic.DiagnosticKind.TheVariants.{UnterminatedRegexp, UnterminatedComment}
 use Rattle.js_base.specs.Texts.{words}
-use Rattle.js_base.specs.Characters.{one_of, is_line_terminator}
+use Rattle.js_text.specs.Characters.{one_of, is_line_terminator}
 use Rattle.js_grammar.specs.Characters.{is_identifier_part, begins}
 use Rattle.js_grammar.specs.Trivia.{within_line}
 use Rattle.js_grammar.specs.Longest.{longest, none_longer, none_begins}

@@ -1,7 +1,7 @@
 -- What a scan of a pattern, and one of flags, has read.
 use Rattle.std.proofs.Common.{◌≡◌, ℕ, true, false, List, [], ◌∷◌, ◌++◌, refl, ◌∙◌, not}
 use Rattle.std.specs.Prelude.{IsCharBoundary}
-use Rattle.js_base.specs.Characters.{is_line_terminator}
+use Rattle.js_text.specs.Characters.{is_line_terminator}
 use Rattle.js_grammar.specs.Trivia.{within_line}
 use Rattle.js_grammar.specs.RegularExpressions.{behind_pattern}
 use Rattle.js_grammar.proofs.Finding.{all-append}

@@ -5,10 +5,10 @@ use Rattle.std.specs.List.{list_all}
 use Rattle.std.proofs.lemmas.Bool.{eqb-true, eq-eqb}
 use Rattle.std.proofs.lemmas.Bool.Decides.{nat_tests}
 use Rattle.js_base.specs.declared.kind.Kind.TheVariants.{Str}
-use Rattle.js_base.specs.Characters.{one_of}
-use Rattle.js_base.specs.Escapes.{in_string, Stage, Step, outside, backslash, unicode, nul, due, braced, octal, step, finish, line_feeds, line_feeds_after}
-use Rattle.js_base.specs.InvalidEscapes.{is_right}
-use Rattle.js_base.proofs.EscapeLemmas.{is_backslash, right_from, right-on, right-stops}
+use Rattle.js_text.specs.Characters.{one_of}
+use Rattle.js_text.specs.Escapes.{in_string, Stage, Step, outside, backslash, unicode, nul, due, braced, octal, step, finish, line_feeds, line_feeds_after}
+use Rattle.js_text.specs.InvalidEscapes.{is_right}
+use Rattle.js_text.proofs.EscapeLemmas.{is_backslash, right_from, right-on, right-stops}
 use Rattle.js_grammar.specs.Characters.{begins}
 use Rattle.js_grammar.specs.Longest.{longest, none_longer, none_begins}
 use Rattle.js_grammar.specs.Strings.{nothing_left, closes_string, string_inside, string_kind}

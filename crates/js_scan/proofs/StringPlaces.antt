@@ -9,10 +9,10 @@ use Rattle.std.proofs.lemmas.Str.{IsUtf8-drop, encodes-chars, encodes-append, ch
 use Rattle.js_base.specs.declared.kind.Kind.{Kind}
 use Rattle.js_base.specs.declared.kind.Kind.TheVariants.{Str}
 use Rattle.js_base.specs.declared.diagnostic.DiagnosticKind.TheVariants as fault
-use Rattle.js_base.specs.declared.escape.InvalidEscape.{InvalidEscape}
-use Rattle.js_base.specs.Characters.{one_of, is_decimal}
+use Rattle.js_text.specs.declared.escape.InvalidEscape.{InvalidEscape}
+use Rattle.js_text.specs.Characters.{one_of, is_decimal}
 use Rattle.js_base.specs.Texts.{words}
-use Rattle.js_base.specs.InvalidEscapes.{is_right, bytes_of, IsInvalidEscape}
+use Rattle.js_text.specs.InvalidEscapes.{is_right, bytes_of, IsInvalidEscape}
 use Rattle.js_grammar.specs.Characters.{begins, width}
 use Rattle.js_grammar.specs.LexicalFaults.{behind, is_closed_string}
 use Rattle.js_grammar.specs.Lexemes.{a_string, division, is_escaped, is_separated, Opening}
@@ -27,7 +27,7 @@ use Rattle.js_words.proofs.Places.{none_passed, then, one_character, width-appen
 use Rattle.js_words.proofs.Plain.{is_lexeme, no_lexeme}
 use Rattle.js_scan.proofs.StringLemmas.{one_within, none_within, and_on, a_string_kind, longest_string, quote_opens, wrong_none, open_none, never_closes, longest_open, none_closed, open_before, unclosed_before, never_right, closed_now}
 use Rattle.js_words.specs.Faults.{PartsEnd, fault_kind, kind_of_fault}
-use Rattle.js_base.specs.Escapes.{line_feeds}
+use Rattle.js_text.specs.Escapes.{line_feeds}
 use Rattle.js_grammar.specs.Longest.{none_begins}
 use Rattle.js_grammar.specs.Strings.{closes_string}
 use Rattle.std.proofs.lemmas.List.{append_cancel_left}

@@ -1,7 +1,7 @@
 -- What a scan of a number, or of what is left of one, answers at a place.
 use Rattle.std.specs.Prelude.{ℕ, ◌≡◌, ◌≤◌, Bool, true, false, ◌&&◌, ◌||◌, List, [], ◌∷◌, ◌++◌, ◌==◌, IsCharBoundary, IsTrue, is_some, Some, None, Result, MatchResult}
 use Rattle.std.specs.List.{list_all}
-use Rattle.js_base.specs.Characters.{is_decimal}
+use Rattle.js_text.specs.Characters.{is_decimal}
 use Rattle.js_grammar.specs.Characters.{begins, is_identifier_start}
 use Rattle.js_grammar.specs.Numbers.{Rest, digits, legacy, has_separator, stops_number}
 use Rattle.js_grammar.specs.LexicalFaults.{behind}

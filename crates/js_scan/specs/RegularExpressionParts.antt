@@ -2,7 +2,7 @@
 use Rattle.std.specs.Prelude.{ℕ, ◌≡◌, Bool, true, false, not, ◌&&◌, ◌||◌, ◌==◌, List, [], ◌∷◌, codes, ◌++◌, Option, Some, None, Result, MatchResult, IsTrue}
 use Rattle.std.specs.Str.{byte}
 use Rattle.js_base.specs.declared.kind.Kind.TheVariants.{RegExp}
-use Rattle.js_base.specs.Characters.{one_of, is_line_terminator}
+use Rattle.js_text.specs.Characters.{one_of, is_line_terminator}
 use Rattle.js_grammar.specs.Characters.{begins}
 use Rattle.js_grammar.specs.Trivia.{within_line}
 use Rattle.js_grammar.specs.LexicalFaults.{behind}

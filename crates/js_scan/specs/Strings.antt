@@ -1,8 +1,8 @@
 -- What is known of the inside of a string while it is scanned (ECMA-262, 12.9.4).
 use Rattle.std.specs.Prelude.{ℕ, ◌+◌, ◌≡◌, ◌≤◌, ◌⊎◌, Bool, true, false, not, ◌&&◌, ◌||◌, List, [], ◌∷◌, ◌++◌, ◌==◌}
 use Rattle.std.specs.List.{list_all}
-use Rattle.js_base.specs.Characters.{one_of}
-use Rattle.js_base.specs.Escapes.{line_feeds}
+use Rattle.js_text.specs.Characters.{one_of}
+use Rattle.js_text.specs.Escapes.{line_feeds}
 use Rattle.js_grammar.specs.Characters.{begins}
 use Rattle.js_grammar.specs.Strings.{nothing_left, closes_string}
 use Rattle.js_grammar.specs.LexicalFaults.{behind, lacks_line_end}

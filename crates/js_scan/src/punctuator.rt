@@ -1,7 +1,7 @@
 //! Punctuators (ECMA-262, section 12.8), and characters at which no token begins.
 
 ghost use Rattle.std.specs.Prelude.{◌≡◌, ◌+◌, true, false, [], ◌∷◌, Some, IfSome, IsCharBoundary, IsTrue, codes};
-ghost use Rattle.js_base.specs.Characters.{one_of};
+ghost use Rattle.js_text.specs.Characters.{one_of};
 ghost use Rattle.js_grammar.specs.CoreTexts.{starts};
 ghost use Rattle.js_grammar.specs.LexicalFaults.{behind};
 ghost use Rattle.js_grammar.specs.Lexemes.{division};

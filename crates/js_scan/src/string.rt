@@ -1,7 +1,7 @@
 //! String literals (ECMA-262, section 12.9.4).
 
 ghost use Rattle.std.specs.Prelude.{◌≡◌, ◌<◌, ◌∷◌, [], true, false, IsCharBoundary};
-ghost use Rattle.js_base.specs.Characters.{one_of};
+ghost use Rattle.js_text.specs.Characters.{one_of};
 ghost use Rattle.js_base.specs.declared.kind.Kind.TheVariants.{Str};
 ghost use Rattle.js_grammar.specs.Characters.{begins};
 ghost use Rattle.js_grammar.specs.LexicalFaults.{behind};
@@ -10,7 +10,8 @@ ghost use Rattle.js_words.specs.Places.{Peeks};
 ghost use Rattle.js_words.specs.Scans.{Scans};
 ghost use Rattle.js_scan.specs.Strings.{IsInner, Passes, OneCharacter, Escapes, EndsLine, IsInside, StandsBetween};
 
-use js_base::{DiagnosticKind, Kind, invalid_escape};
+use js_base::{DiagnosticKind, Kind};
+use js_text::invalid_escape;
 use js_words::character::character_of;
 use js_words::part::parts_end;
 use js_words::place::byte_at;

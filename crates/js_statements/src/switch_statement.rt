@@ -13,7 +13,8 @@ ghost use Rattle.js_statement_laws.specs.SwitchStatements.{AllClauses, ClauseBeg
 ghost use Rattle.js_statement_laws.specs.declared.forms.StatementList.TheVariants.{Clause};
 
 use crate::statement_list::parse_directives_and_statements;
-use js_base::{Diagnostic, DiagnosticKind, Kind, NoMemory, Span};
+use js_base::{Diagnostic, DiagnosticKind, Kind, Span};
+use js_memory::NoMemory;
 use js_cursor::{ParserImpl, Stop};
 use js_lex::ParserConfig;
 use js_loops::compound_statement::parse_paren_expression;

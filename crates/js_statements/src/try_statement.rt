@@ -17,7 +17,8 @@ ghost use Rattle.js_tree.specs.declared.kind.NodeKind.TheVariants as node;
 ghost use Rattle.js_tree.specs.declared.op.Op.TheVariants as op;
 
 use crate::block::parse_block;
-use js_base::{DiagnosticKind, Kind, NoMemory, Span};
+use js_base::{DiagnosticKind, Kind, Span};
+use js_memory::NoMemory;
 use js_cursor::{ParserImpl, Stop};
 use js_lex::ParserConfig;
 use js_parsing::diagnostics::diagnostic_at;

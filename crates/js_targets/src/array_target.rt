@@ -24,7 +24,8 @@ use crate::cover::{
     child_at, is_literal, is_object, only_child, refuse_target, simple_target, two_children,
 };
 use crate::widening::{Notes, Widening, tell_places};
-use js_base::{AssignmentOperator, DiagnosticKind, NoMemory, Span};
+use js_base::{AssignmentOperator, DiagnosticKind, Span};
+use js_memory::NoMemory;
 use js_cursor::{ParserImpl, Stop};
 use js_lex::ParserConfig;
 use js_parsing::diagnostics::{diagnostic_at, kept_so_far};

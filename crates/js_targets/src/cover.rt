@@ -14,7 +14,8 @@ ghost use Rattle.js_tree.specs.Nodes.{node_at};
 ghost use Rattle.js_targets.specs.Targets.{Converted, IsTarget, OfNode, Only, Stood, Two, one_node, slot_of, target_of, unnoted};
 ghost use Rattle.js_targets.specs.Targets as target;
 
-use js_base::{Diagnostic, DiagnosticKind, NoMemory};
+use js_base::{Diagnostic, DiagnosticKind};
+use js_memory::NoMemory;
 use js_cursor::{ParserImpl, Stop};
 use js_lex::ParserConfig;
 use js_parsing::diagnostics::kept_so_far;

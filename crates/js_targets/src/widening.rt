@@ -11,7 +11,8 @@ ghost use Rattle.js_targets.specs.Taken.{PlaceTold, PlacesTold};
 ghost use Rattle.js_targets.specs.Targets.{Each, Ended, Fits, Spotted};
 ghost use Rattle.js_targets.specs.declared.widening.Widening.TheVariants as widening;
 
-use js_base::{DiagnosticKind, Kind, NoMemory, Span};
+use js_base::{DiagnosticKind, Kind, Span};
+use js_memory::NoMemory;
 use js_cursor::ParserImpl;
 use js_lex::ParserConfig;
 use js_parsing::diagnostics::diagnostic_at;

@@ -7,11 +7,13 @@ ghost use Rattle.js_base.specs.Contexts.{bits_of};
 
 use js_base::{
     AssignmentOperator, BinaryOperator, Context, Diagnostic, DiagnosticClass, DiagnosticKind,
-    Diagnostics, FunctionKind, Kind, LogicalOperator, NoMemory, ParseOptions, Precedence,
-    SourceType, Span, Spans, StatementContext, Steps, Text, TickLedger, Token, Tokens,
-    UnaryOperator, UpdateOperator, kind_to_precedence, map_assignment_operator,
-    map_binary_operator, map_logical_operator, map_unary_operator, map_update_operator,
+    Diagnostics, FunctionKind, Kind, LogicalOperator, ParseOptions, Precedence, SourceType, Span,
+    Spans, StatementContext, Token, Tokens, UnaryOperator, UpdateOperator, kind_to_precedence,
+    map_assignment_operator, map_binary_operator, map_logical_operator, map_unary_operator,
+    map_update_operator,
 };
+use js_memory::{NoMemory, Steps, TickLedger};
+use js_text::Text;
 use std::alloc::Global;
 use std::cmp::Ordering;
 use std::hash::{DefaultHasher, Hash, Hasher};

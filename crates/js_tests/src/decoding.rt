@@ -1,9 +1,9 @@
 //! What the insides of strings, parts of templates and names stand for.
 
 ghost use Rattle.std.specs.Prelude.{IsTrue, IsSome, chars};
-ghost use Rattle.js_base.specs.Decoding.{name_text};
+ghost use Rattle.js_text.specs.Decoding.{name_text};
 
-use js_base::{JsStr, decode_name, decode_string, decode_template, invalid_escape};
+use js_text::{JsStr, decode_name, decode_string, decode_template, invalid_escape};
 use std::alloc::Global;
 
 /// Whether a text has these code units.

@@ -1,7 +1,7 @@
 //! Records of declarations whose trees are made by hand, as rows of plain data.
 
 ghost use Rattle.std.specs.Prelude.{◌≡◌, ◌<◌, length, Some, IsSome, IsTrue, chars};
-ghost use Rattle.js_base.specs.Decoding.{name_text};
+ghost use Rattle.js_text.specs.Decoding.{name_text};
 ghost use Rattle.js_base.specs.declared.kind.Kind.TheVariants.{Str};
 ghost use Rattle.js_grammar.specs.NodeNames.{without_sign, IsReadFrom};
 ghost use Rattle.js_grammar.specs.Strings.{string_kind};
@@ -10,9 +10,11 @@ ghost use Rattle.js_record.specs.NodeKinds.{is_string, is_word};
 ghost use Rattle.js_record.specs.Shown.{IsRead, label_at};
 
 use crate::rows::{is_so, lies_in, slots_of};
-use js_base::{Diagnostics, NoMemory, SourceType, Span};
-use js_record::{ModuleRecord, ModuleRecordBuilder};
+use js_base::{Diagnostics, SourceType, Span};
+use js_memory::NoMemory;
+use js_record::{ModuleRecord, ModuleVisits};
 use js_tree::{NodeFlags, NodeId, NodeKind, Op, ParserAstBuilder};
+use js_visits::ModuleRecordBuilder;
 use std::alloc::Global;
 
 /// Makes the node of a declaration over slots that were made before, and visits it, as a parse function does.

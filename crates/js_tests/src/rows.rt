@@ -3,7 +3,8 @@
 ghost use Rattle.std.specs.Prelude.{IsTrue};
 ghost use Rattle.js_base.specs.Spans.{LiesIn};
 
-use js_base::{NoMemory, Span};
+use js_base::Span;
+use js_memory::NoMemory;
 use js_tree::NodeId;
 use std::alloc::Global;
 

@@ -5,7 +5,9 @@ ghost use Rattle.js_base.specs.declared.kind.Kind.TheVariants.{Str};
 ghost use Rattle.js_grammar.specs.Strings.{string_kind};
 
 use crate::rows::{is_so, lies_in, slots_of};
-use js_base::{AssignmentOperator, JsStr, NoMemory, Span, Text};
+use js_base::{AssignmentOperator, Span};
+use js_memory::NoMemory;
+use js_text::{JsStr, Text};
 use js_tree::{
     BigintBase, ClauseWord, DeclarationKind, MethodKind, NodeFlags, NodeId, NodeKind, NumberBase,
     Op, ParserAstBuilder, PropertyKind, Tree,

@@ -11,7 +11,7 @@ use Rattle.js_base.specs.declared.kind.Kind.TheVariants.{LParen, RCurly, Slash, 
 use Rattle.js_base.specs.Kinds.{code, same_kind, one_of_kinds}
 use Rattle.js_base.specs.Texts.{text_of, words, punctuators}
 use Rattle.js_base.specs.Keywords.{first_with_text, keyword_of}
-use Rattle.js_base.specs.Characters.{one_of, is_decimal, is_hex, is_octal, is_binary}
+use Rattle.js_text.specs.Characters.{one_of, is_decimal, is_hex, is_octal, is_binary}
 use Rattle.js_grammar.specs.Characters.{begins, is_identifier_part}
 use Rattle.js_grammar.specs.Longest.{Class, none_longer, none_begins}
 use Rattle.js_grammar.specs.Trivia.{is_trivia_piece, is_blank, is_single_line_comment, is_multi_line_comment, is_html_open, is_html_close, after, within_line}

@@ -3,10 +3,10 @@ use Rattle.std.proofs.Common.{◌≡◌, ◌<◌, ◌≤◌, ◌==◌, ℕ, ◌+
 use Rattle.std.proofs.lemmas.Bool.{cases_lt}
 use Rattle.std.proofs.lemmas.Bool.Decides.{nat_tests}
 use Rattle.std.specs.Char.{len_utf8}
-use Rattle.js_base.specs.CodePointEscapes.{stage_of, fits}
-use Rattle.js_base.specs.declared.code_point_escape.CodePointEscape.{CodePointEscape}
-use Rattle.js_base.specs.declared.code_point_escape.CodePointEscape.TheVariants.{Unicode, Due, Braced}
-use Rattle.js_base.specs.Escapes.{in_name, read_from, outside, backslash, unicode, nul, due, braced, octal, before_all, code_points, Stage, Step, step, finish, go}
+use Rattle.js_text.specs.CodePointEscapes.{stage_of, fits}
+use Rattle.js_text.specs.declared.code_point_escape.CodePointEscape.{CodePointEscape}
+use Rattle.js_text.specs.declared.code_point_escape.CodePointEscape.TheVariants.{Unicode, Due, Braced}
+use Rattle.js_text.specs.Escapes.{in_name, read_from, outside, backslash, unicode, nul, due, braced, octal, before_all, code_points, Stage, Step, step, finish, go}
 use Rattle.js_grammar.specs.Names.{has_backslash}
 use Rattle.js_grammar.specs.Characters.{begins}
 use Rattle.js_grammar.specs.LexicalFaults.{behind}

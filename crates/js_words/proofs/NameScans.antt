@@ -6,8 +6,8 @@ use Rattle.js_base.specs.declared.kind.Kind.{Kind}
 use Rattle.js_base.specs.declared.kind.Kind.TheVariants.{PrivateIdentifier}
 use Rattle.js_base.specs.declared.diagnostic.DiagnosticKind.TheVariants.{InvalidEscape, InvalidCharacter}
 use Rattle.js_base.specs.declared.diagnostic.DiagnosticKind.{DiagnosticKind}
-use Rattle.js_base.specs.Characters.{is_decimal}
-use Rattle.js_base.specs.Escapes.{in_name, code_points}
+use Rattle.js_text.specs.Characters.{is_decimal}
+use Rattle.js_text.specs.Escapes.{in_name, code_points}
 use Rattle.js_base.specs.Keywords.{keyword_of}
 use Rattle.js_grammar.specs.Characters.{begins, is_identifier_start}
 use Rattle.js_grammar.specs.Longest.{none_begins}

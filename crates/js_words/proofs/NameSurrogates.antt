@@ -8,7 +8,7 @@ use Rattle.ucd_table.specs.Rows.{Range, in_ranges}
 use Rattle.ucd_derived.specs.Binary.{is_id_start, is_id_continue}
 use Rattle.ucd_derived.specs.IdStartRanges.{id_start_ranges}
 use Rattle.ucd_derived.specs.IdContinueRanges.{id_continue_ranges}
-use Rattle.js_base.specs.Characters.{is_scalar}
+use Rattle.js_text.specs.Characters.{is_scalar}
 use Rattle.js_grammar.proofs.LongestLemmas.{both-left, both-right}
 use Rattle.js_words.specs.declared.name.Position.{Position}
 use Rattle.js_words.specs.declared.name.Position.TheVariants.{Start, Part}

@@ -7,7 +7,7 @@ use Rattle.std.proofs.lemmas.Bool.Decides.{nat_tests}
 use Rattle.std.proofs.lemmas.Str.{IsUtf8-drop, encode_ascii, encodes-chars}
 use Rattle.js_base.specs.declared.kind.Kind.{Kind}
 use Rattle.js_base.specs.declared.kind.Kind.TheVariants.{Ident}
-use Rattle.js_base.specs.Escapes.{in_name}
+use Rattle.js_text.specs.Escapes.{in_name}
 use Rattle.js_base.specs.Keywords.{keyword_of}
 use Rattle.js_grammar.specs.Characters.{is_identifier_start, is_identifier_part}
 use Rattle.js_grammar.specs.Names.{is_plain_name, has_backslash}

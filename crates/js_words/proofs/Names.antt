@@ -5,7 +5,7 @@ use Rattle.std.specs.List.{list_all}
 use Rattle.std.proofs.lemmas.List.Folds.{list_any-append}
 use Rattle.js_base.specs.declared.kind.Kind.TheVariants.{PrivateIdentifier}
 use Rattle.js_base.specs.Keywords.{keyword_of}
-use Rattle.js_base.specs.Escapes.{in_name, before_all, code_points}
+use Rattle.js_text.specs.Escapes.{in_name, before_all, code_points}
 use Rattle.js_grammar.specs.Characters.{is_identifier_start, is_identifier_part}
 use Rattle.js_grammar.specs.Longest.{longest, none_longer}
 use Rattle.js_grammar.specs.Names.{is_plain_name, named, name_of, word_of, private_of, private_kind, has_backslash}

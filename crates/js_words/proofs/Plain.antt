@@ -2,7 +2,7 @@
 use Rattle.std.proofs.Common.{◌≡◌, ℕ, Bool, true, List, [], ◌∷◌, ◌++◌, refl, sym, ap, subst, ◌∙◌, not, ◌||◌, Some}
 use Rattle.std.specs.Prelude.{is_some}
 use Rattle.js_base.specs.declared.kind.Kind.{Kind}
-use Rattle.js_base.specs.Characters.{is_decimal}
+use Rattle.js_text.specs.Characters.{is_decimal}
 use Rattle.js_grammar.specs.Characters.{begins}
 use Rattle.js_grammar.specs.Longest.{Class, longest, none_longer}
 use Rattle.js_grammar.specs.Numbers.{is_number, stops_number}

@@ -1,6 +1,6 @@
 -- What a byte of a text is to the scans.
 use Rattle.std.specs.Prelude.{ℕ, ◌≡◌, ◌<◌, ◌+◌, ◌==◌, List, Bool, true, false, not, ◌&&◌, ◌||◌, [], ◌∷◌, nat_lt, codes}
-use Rattle.js_base.specs.Characters.{is_line_terminator, is_decimal, one_of}
+use Rattle.js_text.specs.Characters.{is_line_terminator, is_decimal, one_of}
 use Rattle.js_grammar.specs.Characters.{is_identifier_start}
 use Rattle.js_words.specs.Places.{Word}
 use Rattle.js_grammar.specs.Trivia.{is_blank}

@@ -2,7 +2,7 @@
 use Rattle.std.specs.Prelude.{ℕ, ◌≡◌, ◌<◌, ◌≤◌, Bool, true, false, not, ◌&&◌, List, [], ◌∷◌, ◌++◌, Option, Some, None, length, take, nat_lt}
 use Rattle.std.specs.List.{list_all}
 use Rattle.js_base.specs.declared.kind.Kind.TheVariants.{Ident}
-use Rattle.js_base.specs.Escapes.{in_name, code_points, before_all}
+use Rattle.js_text.specs.Escapes.{in_name, code_points, before_all}
 use Rattle.js_base.specs.Keywords.{keyword_of}
 use Rattle.js_grammar.specs.Characters.{is_identifier_start, is_identifier_part, begins}
 use Rattle.js_grammar.specs.Names.{is_plain_name, has_backslash}

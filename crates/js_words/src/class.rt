@@ -1,7 +1,7 @@
 //! Classes of characters (ECMA-262, sections 11.1, 12.2, 12.3 and 12.7).
 
 ghost use Rattle.std.specs.Prelude.{◌≡◌};
-ghost use Rattle.js_base.specs.Characters as base;
+ghost use Rattle.js_text.specs.Characters as base;
 ghost use Rattle.js_grammar.specs.Characters as grammar;
 
 use unicode::properties::{GeneralCategory, is_id_continue, is_id_start};

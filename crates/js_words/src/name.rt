@@ -18,7 +18,8 @@ use crate::part::{ascii_parts_end, parts_end};
 use crate::place::{byte_at, is_at};
 use crate::scan::{Fault, Scan, Scanned};
 use crate::word::kind_of_word;
-use js_base::{CodePointEscape, CodePointStep, DiagnosticKind, Kind};
+use js_base::{DiagnosticKind, Kind};
+use js_text::{CodePointEscape, CodePointStep};
 
 /// Where a code point stands in a name.
 #[derive(Clone, Copy)]

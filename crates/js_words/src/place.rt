@@ -2,7 +2,7 @@
 
 ghost use Rattle.std.specs.Prelude.{◌≡◌, ◌≤◌, ◌<◌, ◌+◌, ◌==◌, ℕ, [], ◌∷◌, length, nat_lt, IsTrue, IsCharBoundary};
 ghost use Rattle.std.specs.List.{list_all};
-ghost use Rattle.js_base.specs.Characters.{one_of};
+ghost use Rattle.js_text.specs.Characters.{one_of};
 ghost use Rattle.js_grammar.specs.CoreTexts.{starts};
 ghost use Rattle.js_grammar.specs.LexicalFaults.{behind};
 ghost use Rattle.js_words.specs.Places.{Word, PeeksAt, Finds, in_radix};

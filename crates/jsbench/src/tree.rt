@@ -1,6 +1,7 @@
 //! One pass of the parser over a text.
 
-use js_base::{NoMemory, SourceType};
+use js_base::SourceType;
+use js_memory::NoMemory;
 use js_parser::Parser;
 use std::alloc::Global;
 

@@ -7,7 +7,7 @@ ghost use Rattle.jsparse.specs.Words.{settings_of};
 
 use crate::lines::diagnostic_lines;
 use crate::words::Settings;
-use js_base::NoMemory;
+use js_memory::NoMemory;
 use js_parser::Parser;
 use std::alloc::Global;
 

@@ -4,7 +4,7 @@ ghost use Rattle.std.specs.Prelude.{◌≡◌, ◌<◌, ◌≤◌, [], Some, len
 ghost use Rattle.jsparse.specs.Ends.{Room, RoomWrite, IsFault};
 
 use crate::ends::{Failed, Sink};
-use js_base::NoMemory;
+use js_memory::NoMemory;
 use std::alloc::Global;
 use std::marker::Model;
 

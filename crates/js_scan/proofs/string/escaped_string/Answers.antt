@@ -1,5 +1,5 @@
 use Rattle.std.proofs.Common.{subst, sym, ap, ◌∙◌, List, ℕ, ◌+◌, arith}
-use Rattle.js_base.specs.InvalidEscapes.{is_right, IsInvalidEscape}
+use Rattle.js_text.specs.InvalidEscapes.{is_right, IsInvalidEscape}
 use Rattle.js_scan.proofs.StringPlaces.{part_chars, within_text, backslash_stands, a_string_stands, ill_formed}
 use Rattle.js_scan.proofs.string.escaped_string.Goals as goal
 

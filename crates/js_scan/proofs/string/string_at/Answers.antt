@@ -1,5 +1,5 @@
 use Rattle.std.proofs.Common.{ap, ◌∙◌}
-use Rattle.js_base.specs.InvalidEscapes.{is_right}
+use Rattle.js_text.specs.InvalidEscapes.{is_right}
 use Rattle.js_grammar.proofs.LongestLemmas.{not-true}
 use Rattle.js_scan.proofs.StringLemmas.{plain_right}
 use Rattle.js_scan.proofs.StringPlaces.{not-false, quoted, between, unterminated, a_string_stands}

@@ -1,7 +1,7 @@
 use Rattle.std.proofs.Common.{◌≡◌, ℕ, List, refl, sym, subst}
 use Rattle.std.specs.Prelude.{IsSome, codes}
 use Rattle.std.specs.Str.{chars}
-use Rattle.js_base.specs.Decoding.{name_text}
+use Rattle.js_text.specs.Decoding.{name_text}
 use Rattle.js_tests.proofs.decoding.is_escaped.Goals as goal
 
 known : (n bs : List ℕ) → IsSome (name_text (chars n)) → bs ≡ n → IsSome (name_text (chars bs))

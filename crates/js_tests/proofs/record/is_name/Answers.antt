@@ -1,7 +1,7 @@
 use Rattle.std.proofs.Common.{◌≡◌, ℕ, List, refl, sym, subst}
 use Rattle.std.specs.Prelude.{IsSome, codes}
 use Rattle.std.specs.Str.{chars}
-use Rattle.js_base.specs.Decoding.{name_text}
+use Rattle.js_text.specs.Decoding.{name_text}
 use Rattle.js_grammar.specs.NodeNames.{without_sign}
 use Rattle.js_tests.proofs.record.is_name.Goals as goal
 

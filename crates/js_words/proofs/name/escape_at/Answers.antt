@@ -1,5 +1,5 @@
 use Rattle.std.proofs.Common.{sym, subst, ◌==◌}
-use Rattle.js_base.specs.Escapes.{in_name}
+use Rattle.js_text.specs.Escapes.{in_name}
 use Rattle.js_words.specs.Places.{Finds}
 use Rattle.js_words.proofs.NameEscapes.{begun-unicode, begun-more, escape-unbegun, escape-ends, escape-cut, escape-fails}
 use Rattle.js_words.proofs.name.escape_at.Goals as goal

@@ -1,5 +1,5 @@
 use Rattle.std.proofs.Common.{length, ◌-◌}
-use Rattle.js_base.specs.CodePointEscapes.{stage_of}
+use Rattle.js_text.specs.CodePointEscapes.{stage_of}
 use Rattle.js_words.proofs.NameEscapes.{Begun}
 use Rattle.js_words.proofs.name.escape_at.Given as goal
 

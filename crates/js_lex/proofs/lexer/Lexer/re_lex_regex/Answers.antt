@@ -1,6 +1,6 @@
 use Rattle.std.proofs.Common.{◌≡◌, ◌+◌, ℕ, List, [], ◌∷◌, false, subst, ap, sym, Some}
 use Rattle.std.specs.Prelude.{IsUtf8, codes, Ok}
-use Rattle.js_base.specs.Characters.{one_of}
+use Rattle.js_text.specs.Characters.{one_of}
 use Rattle.js_base.specs.declared.diagnostic.Diagnostic.{Diagnostic}
 use Rattle.js_grammar.specs.Characters.{begins}
 use Rattle.js_grammar.specs.LexicalFaults.{behind}

@@ -1,0 +1,3 @@
+pub mod SurrogateLemmas
+pub mod DecodingLemmas
+pub mod EscapeLemmas

@@ -1,0 +1,6 @@
+pub mod Characters
+pub mod Escapes
+pub mod Decoding
+pub mod CodePointEscapes
+pub mod DecodingSteps
+pub mod InvalidEscapes
