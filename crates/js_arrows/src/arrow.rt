@@ -21,13 +21,13 @@ ghost use Rattle.js_parsing_laws.specs.States.{Standing};
 use crate::closing::is_arrow_behind_one;
 use crate::lookahead::is_parenthesized_head;
 use js_base::{Context, DiagnosticKind, Kind, Span};
-use js_memory::NoMemory;
 use js_cursor::{ParserImpl, Stop};
 use js_expression_laws::forms::{ArrowHead, HeadLookahead};
 use js_lex::ParserConfig;
 use js_literals::arguments::parse_call_arguments;
 use js_literals::function::function_flags;
 use js_literals::leaf::parse_name;
+use js_memory::NoMemory;
 use js_parsing::context::{
     assignment_in_arrow, body_in_arrow, context, in_async_head, set_context,
 };

@@ -5,10 +5,10 @@ ghost use Rattle.js_expression_laws.specs.Closings.{ArrowFound, ArrowStands, Bra
 ghost use Rattle.js_parsing_laws.specs.States.{Standing};
 
 use js_base::Kind;
-use js_memory::NoMemory;
 use js_cursor::ParserImpl;
 use js_expression_laws::forms::OpenBracket;
 use js_lex::ParserConfig;
+use js_memory::NoMemory;
 
 /// Whether `=>` stands behind the parentheses that begin behind a place. It is false, too, where a sign that begins with
 /// `>` stands between them, since of such a sign the lexer tells a part, where a slash does, with which a regular

@@ -7,10 +7,10 @@ ghost use Rattle.js_parsing_laws.specs.States.{Standing};
 use crate::called::call;
 use crate::written::push_answer;
 use js_base::{Kind, MAX_LEN, ParseOptions, SourceType};
-use js_memory::NoMemory;
 use js_core::Parser;
 use js_cursor::ParserImpl;
 use js_lex::RuntimeParserConfig;
+use js_memory::NoMemory;
 use std::alloc::Global;
 
 /// A row: the call with the word that it takes, the text, and what has to come.

@@ -2,9 +2,9 @@
 
 use crate::called::Answer;
 use js_base::Diagnostics;
-use js_memory::NoMemory;
 use js_core::Parser;
 use js_cursor::Stop;
+use js_memory::NoMemory;
 use js_tree::{NodeId, ParserAstBuilder};
 use std::alloc::AllocError;
 

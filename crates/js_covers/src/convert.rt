@@ -8,9 +8,9 @@ ghost use Rattle.js_targets.specs.Targets as target;
 ghost use Rattle.js_tree.specs.Labels.{kind_of};
 ghost use Rattle.js_covers.specs.Covered.{AnyLabel, Answered, CoversAs, Finishes, IsAssignment, IsLiteral, IsProperty, KeepsInitialiser, ReadBefore, an_expression, element_answer, in_a_literal, in_a_property, in_a_target, in_an_element, literal_answer, no_places, property_answer, simple_answer, target_answer};
 
-use js_memory::NoMemory;
 use js_cursor::{ParserImpl, Stop};
 use js_lex::ParserConfig;
+use js_memory::NoMemory;
 use js_targets::array_target::{
     convert_assignment, convert_literal, convert_property, convert_target,
 };

@@ -8,9 +8,9 @@ ghost use Rattle.js_parsing_laws.specs.States.{Standing};
 ghost use Rattle.js_declarations.specs.Declarations.{ChecksInitialiser, DeclaratorsRead, EndsDeclarator, NoDeclarators, ReadsDeclarator, ReadsOneDeclarator, is_constant, missing, no_initialiser};
 
 use js_base::{DiagnosticKind, Kind, Span};
-use js_memory::NoMemory;
 use js_cursor::{ParserImpl, Stop};
 use js_lex::ParserConfig;
+use js_memory::NoMemory;
 use js_parsing::diagnostics::diagnostic_at;
 use js_parsing::lexemes::{advance, name_stands};
 use js_parsing::nodes::{make_two, make_with_optional};

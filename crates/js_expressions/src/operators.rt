@@ -23,10 +23,13 @@ ghost use Rattle.js_parsing_laws.specs.Operators.{power_of};
 ghost use Rattle.js_parsing_laws.specs.States.{Standing};
 
 use crate::unary::{begins_await, parse_unary_expression_or_higher};
-use js_base::{BinaryOperator, Diagnostic, DiagnosticKind, Kind, LogicalOperator, map_binary_operator, map_logical_operator};
-use js_memory::NoMemory;
+use js_base::{
+    BinaryOperator, Diagnostic, DiagnosticKind, Kind, LogicalOperator, map_binary_operator,
+    map_logical_operator,
+};
 use js_cursor::{ParserImpl, Stop};
 use js_lex::ParserConfig;
+use js_memory::NoMemory;
 use js_parsing::diagnostics::kept_so_far;
 use js_parsing::lexemes::{advance, operator_here, reads_here};
 use js_parsing::nodes::make_two;

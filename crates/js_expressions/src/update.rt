@@ -12,9 +12,9 @@ ghost use Rattle.js_expression_laws.specs.Rests.{update_kinds};
 ghost use Rattle.js_parsing_laws.specs.States.{Standing};
 
 use js_base::{Span, UpdateOperator, map_update_operator};
-use js_memory::NoMemory;
 use js_cursor::{ParserImpl, Stop};
 use js_lex::ParserConfig;
+use js_memory::NoMemory;
 use js_operands::left_hand_side::parse_lhs_expression_or_higher;
 use js_parsing::diagnostics::kept_so_far;
 use js_parsing::lexemes::{advance, ends_operand};

@@ -14,9 +14,9 @@ ghost use Rattle.js_parsing_laws.specs.Nesting.{CanNest, room};
 ghost use Rattle.js_parsing_laws.specs.States.{Standing};
 
 use js_base::{Kind, Span};
-use js_memory::NoMemory;
 use js_cursor::{ParserImpl, Stop};
 use js_lex::ParserConfig;
+use js_memory::NoMemory;
 use js_parsing::lexemes::advance;
 use js_parsing::nodes::make_optional;
 use js_parsing_laws::nested::Nested;

@@ -6,9 +6,9 @@ use crate::written::{
     push_blanks, push_comma, push_comments, push_faults, push_token, push_tokens,
 };
 use js_base::{Diagnostic, Kind, Token, Tokens};
-use js_text::JsStr;
-use js_memory::NoMemory;
 use js_lex::{Lexer, LexerConfig, LexerOutput};
+use js_memory::NoMemory;
+use js_text::JsStr;
 use std::alloc::{AllocError, Global};
 
 /// What a word asks for.

@@ -2,11 +2,11 @@
 
 use crate::asked::{Asked, asked_of, first_of};
 use js_base::{MAX_LEN, SourceType};
-use js_memory::NoMemory;
 use js_lex::{
     Lexer, LexerConfig, NoTokensLexerConfig, NoTokensParserConfig, ParserConfig,
     RuntimeLexerConfig, RuntimeParserConfig, TokensLexerConfig, TokensParserConfig,
 };
+use js_memory::NoMemory;
 use std::alloc::{AllocError, Global};
 
 /// A row: how a text is read, what is asked for, the text as it is written in the row, and what has to come.

@@ -10,9 +10,9 @@ ghost use Rattle.js_parsing_laws.specs.Nesting.{CanNest, room};
 ghost use Rattle.js_parsing_laws.specs.States.{Standing};
 
 use js_base::{Diagnostic, DiagnosticKind, Kind, Span};
-use js_memory::NoMemory;
 use js_cursor::{ListStep, ParserImpl, Stop};
 use js_lex::ParserConfig;
+use js_memory::NoMemory;
 use js_parsing::context::assignment_with_in;
 use js_parsing::lexemes::{advance, stands};
 use js_parsing::nodes::make_one;

@@ -14,9 +14,9 @@ ghost use Rattle.js_operand_laws.specs.Functions.{BeginsFunction, FunctionBehind
 
 use crate::leaf::parse_name;
 use js_base::{DiagnosticKind, Kind, Span};
-use js_memory::NoMemory;
 use js_cursor::{ParserImpl, Stop};
 use js_lex::ParserConfig;
+use js_memory::NoMemory;
 use js_operand_laws::forms::{FunctionForm, FunctionParts};
 use js_parsing::context::{body_of_function, parameters_of_function};
 use js_parsing::diagnostics::diagnostic_at;

@@ -13,9 +13,9 @@ ghost use Rattle.js_tree.specs.Labels.{number_of};
 ghost use Rattle.std.specs.Prelude.{cond, ◌+◌};
 
 use js_base::{DiagnosticKind, Kind, Span, Token};
-use js_memory::NoMemory;
 use js_cursor::{ParserImpl, Stop};
 use js_lex::ParserConfig;
+use js_memory::NoMemory;
 use js_operand_laws::forms::PassedPart;
 use js_parsing::context::expression_with_in;
 use js_parsing::diagnostics::diagnostic_at;

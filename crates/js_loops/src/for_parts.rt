@@ -17,12 +17,12 @@ ghost use Rattle.js_statement_laws.specs.ForParts.{BeginsHead, ChecksAsync, Chec
 
 use crate::declaration_statement::begins_let_declaration;
 use js_base::{DiagnosticKind, Kind, Span, Token};
-use js_memory::NoMemory;
 use js_cursor::{ParserImpl, Stop};
 use js_declarations::head::{
     HeadForm, goes_through, parse_declarators_behind, parse_head_declarator,
 };
 use js_lex::ParserConfig;
+use js_memory::NoMemory;
 use js_parsing::diagnostics::{diagnostic_at, kept_so_far};
 use js_parsing::lexemes::{advance, stands};
 use js_parsing::nodes::{make_list, make_one};

@@ -19,10 +19,10 @@ ghost use Rattle.js_tree.specs.Labels.{number_of};
 
 use crate::for_parts::parse_part_without_in;
 use js_base::{DiagnosticKind, Kind, Span};
-use js_memory::NoMemory;
 use js_cursor::{ParserImpl, Stop};
 use js_lex::ParserConfig;
 use js_literals::leaf::close_parentheses;
+use js_memory::NoMemory;
 use js_parsing::context::{context, set_context};
 use js_parsing::diagnostics::diagnostic_at;
 use js_parsing::lexemes::{advance, stands};

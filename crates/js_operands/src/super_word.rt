@@ -14,9 +14,9 @@ ghost use Rattle.js_parsing_laws.specs.States.{Standing};
 
 use crate::left_hand_side::{link_here, parse_link, parse_member_expression_rest};
 use js_base::{DiagnosticKind, Kind, Span};
-use js_memory::NoMemory;
 use js_cursor::{ParserImpl, Stop};
 use js_lex::ParserConfig;
+use js_memory::NoMemory;
 use js_operand_laws::forms::LinkBase;
 use js_parsing::diagnostics::diagnostic_at;
 use js_parsing::lexemes::{advance, stands};

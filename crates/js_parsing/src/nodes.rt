@@ -11,10 +11,10 @@ ghost use Rattle.js_parsing_laws.specs.Moves.{MadeHere, plain_label};
 ghost use Rattle.js_parsing_laws.specs.NodeTexts.{IsKept, SpellsName, is_name_node, is_textual, spelled_at};
 
 use js_base::{Span, Token};
-use js_text::{Text, decode_name};
-use js_memory::NoMemory;
 use js_cursor::ParserImpl;
 use js_lex::ParserConfig;
+use js_memory::NoMemory;
+use js_text::{Text, decode_name};
 use js_tree::{NodeFlags, NodeId, NodeKind, Op};
 
 /// No flag at all.

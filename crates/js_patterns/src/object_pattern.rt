@@ -20,11 +20,11 @@ ghost use Rattle.js_tree.specs.Nodes.{node_at};
 
 use crate::binding::{check_behind_rest, finish_rest, parse_binding_element, parse_nested_binding};
 use js_base::{Diagnostic, DiagnosticKind, Kind, Span, Token};
-use js_memory::NoMemory;
 use js_cursor::{ParserImpl, Stop};
 use js_lex::ParserConfig;
 use js_literals::leaf::parse_name;
 use js_literals::property_name::parse_property_name;
+use js_memory::NoMemory;
 use js_operand_laws::forms::PropertyName;
 use js_parsing::context::assignment_with_in;
 use js_parsing::diagnostics::diagnostic_at;

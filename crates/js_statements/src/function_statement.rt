@@ -12,10 +12,10 @@ ghost use Rattle.js_parsing_laws.specs.Statements.{TakesStatement};
 ghost use Rattle.js_statement_laws.specs.FunctionStatements.{ChecksPlain, fault_of_body, told_of_body};
 
 use js_base::{DiagnosticKind, Span};
-use js_memory::NoMemory;
 use js_cursor::{ParserImpl, Stop};
 use js_lex::ParserConfig;
 use js_literals::function::{make_function, parse_function_parts};
+use js_memory::NoMemory;
 use js_operand_laws::forms::FunctionForm;
 use js_parsing::diagnostics::diagnostic_at;
 use js_parsing_laws::nested::Nested;

@@ -14,10 +14,10 @@ ghost use Rattle.js_statement_laws.specs.declared.forms.StatementList.TheVariant
 
 use crate::statement_list::parse_directives_and_statements;
 use js_base::{Diagnostic, DiagnosticKind, Kind, Span};
-use js_memory::NoMemory;
 use js_cursor::{ParserImpl, Stop};
 use js_lex::ParserConfig;
 use js_loops::compound_statement::parse_paren_expression;
+use js_memory::NoMemory;
 use js_parsing::diagnostics::diagnostic_at;
 use js_parsing::lexemes::advance;
 use js_parsing::nodes::make_list;

@@ -18,9 +18,9 @@ ghost use Rattle.js_tree.specs.declared.op.Op.TheVariants as op;
 
 use crate::block::parse_block;
 use js_base::{DiagnosticKind, Kind, Span};
-use js_memory::NoMemory;
 use js_cursor::{ParserImpl, Stop};
 use js_lex::ParserConfig;
+use js_memory::NoMemory;
 use js_parsing::diagnostics::diagnostic_at;
 use js_parsing::lexemes::{advance, stands};
 use js_parsing::nodes::{make_one, no_flags};

@@ -14,11 +14,11 @@ ghost use Rattle.js_parsing_laws.specs.Statements.{TakesAnywhere};
 ghost use Rattle.js_statement_laws.specs.WordStatements.{ChecksOperand, ChecksReturn, JumpsHere, TakesArgument, TakesLabel, late_operand, stray_return};
 
 use js_base::{DiagnosticKind, Kind, Span};
-use js_memory::NoMemory;
 use js_cursor::{ParserImpl, Stop};
 use js_lex::ParserConfig;
 use js_literals::leaf::parse_name;
 use js_loops::semicolon::end_statement;
+use js_memory::NoMemory;
 use js_parsing::diagnostics::diagnostic_at;
 use js_parsing::lexemes::{advance, name_stands};
 use js_parsing::nodes::{make_leaf, make_one, make_optional};

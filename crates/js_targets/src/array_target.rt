@@ -25,9 +25,9 @@ use crate::cover::{
 };
 use crate::widening::{Notes, Widening, tell_places};
 use js_base::{AssignmentOperator, DiagnosticKind, Span};
-use js_memory::NoMemory;
 use js_cursor::{ParserImpl, Stop};
 use js_lex::ParserConfig;
+use js_memory::NoMemory;
 use js_parsing::diagnostics::{diagnostic_at, kept_so_far};
 use js_parsing::nodes::no_flags;
 use js_tree::{NodeFlags, NodeId, NodeKind, Op, ParserAstBuilder};

@@ -15,9 +15,9 @@ ghost use Rattle.js_targets.specs.Targets.{Converted, IsTarget, OfNode, Only, St
 ghost use Rattle.js_targets.specs.Targets as target;
 
 use js_base::{Diagnostic, DiagnosticKind};
-use js_memory::NoMemory;
 use js_cursor::{ParserImpl, Stop};
 use js_lex::ParserConfig;
+use js_memory::NoMemory;
 use js_parsing::diagnostics::kept_so_far;
 use js_tree::{NodeId, NodeKind, ParserAstBuilder};
 

@@ -12,9 +12,9 @@ ghost use Rattle.js_targets.specs.Targets.{Each, Ended, Fits, Spotted};
 ghost use Rattle.js_targets.specs.declared.widening.Widening.TheVariants as widening;
 
 use js_base::{DiagnosticKind, Kind, Span};
-use js_memory::NoMemory;
 use js_cursor::ParserImpl;
 use js_lex::ParserConfig;
+use js_memory::NoMemory;
 use js_parsing::diagnostics::diagnostic_at;
 
 /// A place of an array or object literal where it may be wider than a target.

@@ -21,8 +21,8 @@ use crate::op::Op;
 use crate::reading::{digits_of, with_line_feeds};
 use crate::tree::Tree;
 use js_base::Span;
-use js_text::{JsStr, Text, decode_template};
 use js_memory::NoMemory;
+use js_text::{JsStr, Text, decode_template};
 use std::alloc::Global;
 use std::marker::Model;
 

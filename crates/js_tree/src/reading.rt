@@ -15,8 +15,8 @@ use crate::columns::Columns;
 use crate::id::NodeId;
 use crate::kind::NodeKind;
 use js_base::Span;
-use js_text::{JsStr, Text, decode_string};
 use js_memory::NoMemory;
+use js_text::{JsStr, Text, decode_string};
 use std::alloc::{AllocError, Global};
 
 /// The text at a span.

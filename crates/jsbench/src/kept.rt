@@ -4,8 +4,8 @@ ghost use Rattle.std.specs.Prelude.{IsTrue, ◌<◌, length};
 ghost use Rattle.js_base.specs.Spans.{LiesIn};
 
 use js_base::{SourceType, Span};
-use js_memory::NoMemory;
 use js_lex::TokensParserConfig;
+use js_memory::NoMemory;
 use js_parser::{Parser, ParserReturn};
 use js_tree::{NodeId, NodeKind, Tree};
 use std::alloc::Global;

@@ -6,8 +6,8 @@ ghost use Rattle.js_base.specs.declared.kind.Kind.TheVariants as kinds;
 ghost use Rattle.js_lex.specs.Reading.{WasGiven};
 
 use js_base::{Kind, MAX_LEN, SourceType, Token};
-use js_memory::NoMemory;
 use js_lex::{Lexer, NoTokensLexerConfig};
+use js_memory::NoMemory;
 use std::alloc::Global;
 
 /// What a pass counts.
