@@ -4,9 +4,8 @@ ghost use Rattle.std.specs.Prelude.{true, false, ◌≡◌, ◌≤◌, ◌+◌, 
 ghost use Rattle.js_base.specs.declared.kind.Kind.TheVariants.{Arrow, LParen};
 ghost use Rattle.js_cursor.specs.Moves.{OnlyMemory};
 ghost use Rattle.js_grammar.specs.Trees.{arrow_function_expression};
-ghost use Rattle.js_grammar.specs.Productions.{at, Params};
-ghost use Rattle.js_parsing_laws.specs.Answers.{Answers};
-ghost use Rattle.js_expression_laws.specs.Arrows.{ArgumentsTold, ArrowBehind, AsyncHeadBegins, AttemptsHead, ChecksLine, EntersHead, FindsAsyncHead, FindsHead, HeadBehindAsync, HeadStands, IsHeadOf, LooksForHead, NamesHead, NoHeadHere, NoOperandHere, OperandExcluded, ReadsArrowBody, ReadsBody, ReadsHead, SearchesHead, SearchesPlainHead, Single, SlashFound, TriesHead, TriesParameters, Unmoved, arrow_label};
+ghost use Rattle.js_grammar.specs.Productions.{at};
+ghost use Rattle.js_expression_laws.specs.Arrows.{ArgumentsTold, ArrowBehind, AsyncHeadBegins, AttemptsHead, ChecksLine, EntersHead, FindsAsyncHead, HeadBehindAsync, HeadStands, IsHeadOf, LooksForHead, NamesHead, NoHeadHere, NoOperandHere, OperandExcluded, ReadsArrowBody, ReadsBody, ReadsHead, SearchesHead, SearchesPlainHead, Single, SlashFound, TriesHead, TriesParameters, Unmoved, arrow_label};
 ghost use Rattle.js_expression_laws.specs.HeadOperands.{IsNoTarget};
 ghost use Rattle.js_expression_laws.specs.Lists.{AsyncListBegins, SearchesList, TriesArrow};
 ghost use Rattle.js_base.specs.Kinds.{one_of_kinds};

@@ -1,6 +1,6 @@
 //! Where the parentheses close that begin at a place.
 
-ghost use Rattle.std.specs.Prelude.{◌≡◌, IfOk, IsCharBoundary};
+ghost use Rattle.std.specs.Prelude.{IfOk, IsCharBoundary};
 ghost use Rattle.js_expression_laws.specs.Closings.{ArrowFound, ArrowStands, BracketPassed, LastClosed, Opened};
 ghost use Rattle.js_parsing_laws.specs.States.{Standing};
 
@@ -14,7 +14,7 @@ use js_memory::NoMemory;
 /// `>` stands between them, since of such a sign the lexer tells a part, where a slash does, with which a regular
 /// expression may begin, and where a template with an expression in it does, since its other parts are lexemes of another
 /// lexical goal.
-pub fn is_arrow_behind_one<C: ParserConfig>(
+pub(crate) fn is_arrow_behind_one<C: ParserConfig>(
     p: &ParserImpl<'_, C>,
     start: u32,
 ) -> Result<bool, NoMemory>

@@ -12,7 +12,7 @@ use js_expression_laws::forms::HeadLookahead;
 use js_lex::ParserConfig;
 
 /// What may begin with the parenthesis that stands here.
-pub fn is_parenthesized_head<C: ParserConfig>(
+pub(crate) fn is_parenthesized_head<C: ParserConfig>(
     p: &mut ParserImpl<'_, C>,
 ) -> Result<HeadLookahead, Stop>
     requires at { Standing p.old }

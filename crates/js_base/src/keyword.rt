@@ -2,7 +2,7 @@
 
 ghost use Rattle.std.specs.Prelude.{◌≡◌, filter};
 ghost use Rattle.js_base.specs.Keywords.{begins_with, first_with_text, keyword_of};
-ghost use Rattle.js_base.specs.Texts.{text_of, words};
+ghost use Rattle.js_base.specs.Texts.{words};
 
 use crate::kind::Kind;
 

@@ -1,6 +1,6 @@
 //! Placed lexemes.
 
-ghost use Rattle.std.specs.Prelude.{◌≡◌, ◌≤◌, false, slice_range};
+ghost use Rattle.std.specs.Prelude.{◌≡◌, false, slice_range};
 ghost use Rattle.js_base.specs.Spans.{LiesIn};
 ghost use Rattle.js_base.specs.declared.kind.Kind.TheVariants.{Eof};
 

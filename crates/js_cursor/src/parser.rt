@@ -1,15 +1,14 @@
 //! The parser's state.
 
 ghost use Rattle.std.specs.Prelude.{◌≡◌, length, ◌≢◌, ◌≤◌, ◌⊎◌, ◌↔◌, IsTrue, IfOk, OnOk, OnErr, MatchResult, ◌+◌, ◌<◌};
-ghost use Rattle.js_base.specs.declared.kind.Kind.TheVariants.{RAngle, RCurly, Slash, SlashEq, Eof, Undetermined};
-ghost use Rattle.js_grammar.specs.Lexemes.{template_tail};
+ghost use Rattle.js_base.specs.declared.kind.Kind.TheVariants.{RAngle, RCurly, Slash, SlashEq, Eof};
 ghost use Rattle.js_base.specs.Sources.{is_goal};
 ghost use Rattle.js_base.specs.declared.source_type.Goal.TheVariants.{Unambiguous};
 ghost use Rattle.js_base.specs.Contexts.{bits_of};
 ghost use Rattle.js_cursor.specs.Notes.{is_noted};
 ghost use Rattle.js_cursor.specs.Starts.{AtStart, Starts};
 ghost use Rattle.js_cursor.specs.Places.{IsAt};
-ghost use Rattle.js_cursor.specs.Moves.{IsWhole, Passed, Completed, ReadAgain, IsRegularExpression, IsTemplatePart, Peeks, Told, MovesOn, OnlyMemory, Enters, Leaves, NotesArrow, NotesNoOperand};
+ghost use Rattle.js_cursor.specs.Moves.{IsWhole, Passed, Completed, IsRegularExpression, IsTemplatePart, Peeks, Told, MovesOn, OnlyMemory, Enters, Leaves, NotesArrow, NotesNoOperand};
 
 use crate::kinds::{is_kind, is_last};
 use crate::state::ParserState;

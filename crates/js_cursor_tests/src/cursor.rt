@@ -1,6 +1,6 @@
 //! Rows of what the moves over lexemes answer.
 
-ghost use Rattle.std.specs.Prelude.{◌≡◌, ◌≤◌, ◌<◌, length, IfOk, IfSome};
+ghost use Rattle.std.specs.Prelude.{◌≡◌, ◌<◌, IfOk, IfSome};
 ghost use Rattle.js_base.specs.declared.TheConstants.{MAX_LEN};
 ghost use Rattle.js_cursor.specs.Checkpoints.{GoesOn};
 ghost use Rattle.js_cursor.specs.Places.{IsAt};

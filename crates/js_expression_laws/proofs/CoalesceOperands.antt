@@ -342,12 +342,6 @@ module _ {text : List ℕ} {f : Flags} where
       pub left_stood : Stood v.nodes left
       left_stood = record { lo = length p.nodes; hi = length q.nodes; label = s.label; slots = s.slots; holds = left_held }
 
-      pub mixed_then : {a b : Bool} → a ≡ is_or_and s.label.op → a ≡ true → b ≡ a → b ≡ is_mixed
-      mixed_then e h i = rw (sym e ∙ h) (i ∙ h)
-
-      pub mixed_else : {a b c : Bool} → a ≡ is_or_and s.label.op → a ≡ false → b ≡ c → c ≡ is_or_and x.answer.label.op → b ≡ is_mixed
-      mixed_else e h i j = rw (sym e ∙ h) (i ∙ j)
-
       pair_stops : (y : Lexeme) → Plain text v.prev_token_end y → IsTrue (seen (looser 5 f.in_ (row_of pair_label pair_slots)) y || seen beside y)
       pair_stops y l = x.answer.stops y l
 

@@ -16,7 +16,7 @@ use js_tree::{NodeId, NodeKind, NumberBase, Op};
 /// AssignmentExpression: no production goes on with these signs, and each of them is a lexeme by itself (section 12.8). None
 /// where no such operand stands here, and nothing is read then.
 #[inline(always)]
-pub fn parse_closed_operand<C: ParserConfig>(
+pub(crate) fn parse_closed_operand<C: ParserConfig>(
     p: &mut ParserImpl<'_, C>,
 ) -> Result<Option<NodeId>, Stop>
     requires { Standing p.old }

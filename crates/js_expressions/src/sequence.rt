@@ -1,6 +1,6 @@
 //! The comma operator (ECMA-262, section 13.16).
 
-ghost use Rattle.std.specs.Prelude.{◌≡◌, ◌≤◌, ◌∷◌, [], Some};
+ghost use Rattle.std.specs.Prelude.{Some};
 ghost use Rattle.js_base.specs.declared.kind.Kind.TheVariants.{Comma};
 ghost use Rattle.js_grammar.specs.Productions.{at, Expression};
 ghost use Rattle.js_expression_laws.specs.HeadOperands.{TellsOperand};

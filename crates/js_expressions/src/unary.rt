@@ -43,7 +43,7 @@ pub fn parse_unary_expression_or_higher<C: ParserConfig, N: Nested<C>>(
 /// Whether an AwaitExpression begins here: `await` is an operator where the parameter Await is on, but for the parameters of
 /// an asynchronous arrow function (ECMA-262, sections 15.8 and 15.9).
 #[inline(always)]
-pub fn begins_await<C: ParserConfig>(p: &ParserImpl<'_, C>) -> bool
+pub(crate) fn begins_await<C: ParserConfig>(p: &ParserImpl<'_, C>) -> bool
     ensures { IsTrue result ↔ AwaitsHere p.now }
 {
     p.at(Kind::Await) && p.ctx.reads_await()

@@ -24,7 +24,7 @@ use js_tree::{NodeFlags, NodeId, NodeKind, Op};
 
 /// Whether a YieldExpression begins here: `yield` is no name where the parameter Yield is on.
 #[inline(always)]
-pub fn begins_yield<C: ParserConfig>(p: &ParserImpl<'_, C>) -> bool
+pub(crate) fn begins_yield<C: ParserConfig>(p: &ParserImpl<'_, C>) -> bool
     ensures { IsTrue result ↔ BeginsYield p.now }
 {
     p.at(Kind::Yield) && !p.cur_token().escaped() && p.ctx.has_yield()
@@ -32,7 +32,7 @@ pub fn begins_yield<C: ParserConfig>(p: &ParserImpl<'_, C>) -> bool
 
 /// A YieldExpression: `yield` alone, or with an AssignmentExpression on its line, before which a `*` may stand.
 #[inline(never)]
-pub fn parse_yield_expression<C: ParserConfig, N: Nested<C>>(
+pub(crate) fn parse_yield_expression<C: ParserConfig, N: Nested<C>>(
     p: &mut ParserImpl<'_, C>,
     nested: &N,
 ) -> Result<NodeId, Stop>

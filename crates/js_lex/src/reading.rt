@@ -1,8 +1,7 @@
 //! How a token is made of what a scan answers, and what is kept of it.
 
-ghost use Rattle.std.specs.Prelude.{Ok, Err, ◌≡◌, ◌≤◌, ◌<◌, ◌+◌, [], ◌∷◌, true, length, IfOk, IfSome, OnOk, OnErr, IsCharBoundary, false};
+ghost use Rattle.std.specs.Prelude.{Ok, Err, ◌≡◌, ◌≤◌, ◌<◌, ◌+◌, [], length, IfOk, IfSome, OnOk, OnErr, IsCharBoundary, false};
 ghost use Rattle.js_grammar.specs.Lexemes.{division};
-ghost use Rattle.js_words.specs.Scans.{Scans};
 ghost use Rattle.js_lex.specs.Kept.{Grows, Extends};
 ghost use Rattle.js_lex.specs.States.{goal_of};
 ghost use Rattle.js_lex.specs.Reading as reading;

@@ -1,7 +1,7 @@
 //! To read a token again, by another lexical goal: a slash as a regular expression, a brace as a template part, a `>` as
 //! the longest punctuator (ECMA-262, chapter 12).
 
-ghost use Rattle.std.specs.Prelude.{◌≡◌, ◌≤◌, ◌+◌, ℕ, List, [], ◌∷◌, false, codes, length, IfOk, OnOk, OnErr, IsCharBoundary};
+ghost use Rattle.std.specs.Prelude.{◌≡◌, ◌≤◌, ℕ, List, [], false, length, IfOk, OnOk, OnErr, IsCharBoundary};
 ghost use Rattle.js_base.specs.declared.kind.Kind.TheVariants.{RegExp};
 ghost use Rattle.js_words.specs.Places.{Word};
 ghost use Rattle.js_lex.specs.Kept.{Grows, Extends};

@@ -7,7 +7,7 @@ use js_lex::{
     RuntimeLexerConfig, RuntimeParserConfig, TokensLexerConfig, TokensParserConfig,
 };
 use js_memory::NoMemory;
-use std::alloc::{AllocError, Global};
+use std::alloc::Global;
 
 /// A row: how a text is read, what is asked for, the text as it is written in the row, and what has to come.
 #[derive(Clone, Copy)]

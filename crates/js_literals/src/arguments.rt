@@ -84,7 +84,7 @@ pub fn parse_argument<C: ParserConfig, N: Nested<C>>(
 }
 
 /// A SpreadElement (ECMA-262, section 13.2.4).
-pub fn parse_spread_element<C: ParserConfig, N: Nested<C>>(
+pub(crate) fn parse_spread_element<C: ParserConfig, N: Nested<C>>(
     p: &mut ParserImpl<'_, C>,
     nested: &N,
 ) -> Result<NodeId, Stop>

@@ -5,7 +5,7 @@ ghost use Rattle.js_base.specs.Contexts.{has_flag, yield_flag, await_flag};
 ghost use Rattle.js_base.specs.Kinds.{one_of_kinds};
 ghost use Rattle.js_base.specs.declared.kind.Kind.TheVariants.{Colon, Comma, Dot3, Eq, LCurly, LParen, RBrack, RCurly, RParen, Star};
 ghost use Rattle.js_cursor.specs.Moves.{Opened};
-ghost use Rattle.js_grammar.specs.Productions.{at, body_of, computed_flag, flag, generator_flag, method_flag, params_of, shorthand_flag, Primary, Property};
+ghost use Rattle.js_grammar.specs.Productions.{at, computed_flag, flag, method_flag, shorthand_flag, Primary, Property};
 ghost use Rattle.js_tree.specs.Labels.{number_of};
 ghost use Rattle.js_tree.specs.declared.op.PropertyKind.TheVariants.{Init};
 ghost use Rattle.js_operand_laws.specs.Objects.{NoProperties, Properties, ReadsAccessor, ReadsAsyncMethod, ReadsBehindName, begins_async, ReadsMethod, ReadsShorthand, ReadsValue, TakesProperty, ends_name_kinds, flags_of_form, form_of, function_label, kind_of_form, method_left, property_label};

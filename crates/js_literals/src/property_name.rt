@@ -1,6 +1,6 @@
 //! Names of properties (ECMA-262, section 13.2.5).
 
-ghost use Rattle.std.specs.Prelude.{◌≡◌, true, false};
+ghost use Rattle.std.specs.Prelude.{true, false};
 ghost use Rattle.js_base.specs.declared.kind.Kind.TheVariants.{LBrack};
 ghost use Rattle.js_operand_laws.specs.PropertyNames.{NamesComputed, NamesPlainly, NamesProperty};
 ghost use Rattle.js_parsing_laws.specs.Nesting.{CanNest, room};
@@ -15,7 +15,7 @@ use js_operand_laws::forms::PropertyName;
 use js_parsing::context::assignment_with_in;
 use js_parsing::lexemes::{advance, stands};
 use js_parsing_laws::nested::Nested;
-use js_tree::{NodeId, NodeKind, Op};
+use js_tree::NodeId;
 
 /// A PropertyName (ECMA-262, section 13.2.5): a word, a string, a number, or an AssignmentExpression in brackets.
 pub fn parse_property_name<C: ParserConfig, N: Nested<C>>(

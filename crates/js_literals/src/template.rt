@@ -1,16 +1,15 @@
 //! Templates, and tagged ones (ECMA-262, sections 13.2.8, 13.3.11); behind an optional chain none may stand (13.3.1.1).
 
-ghost use Rattle.std.specs.Prelude.{◌≡◌, ◌≤◌, ◌∷◌, [], true, IfOk, MatchResult};
+ghost use Rattle.std.specs.Prelude.{◌≡◌, ◌≤◌, [], true, IfOk, MatchResult};
 ghost use Rattle.js_base.specs.Kinds.{one_of_kinds};
 ghost use Rattle.js_cursor.specs.Moves.{OnlyMemory};
 ghost use Rattle.js_operand_laws.specs.Templates.{BeginsPart, ReadsTagged, TakesPart, StandingPart, TagsTemplate, TakesTemplate, TellsTemplate, element_label, heads, inside_end, inside_fits, last_parts};
 ghost use Rattle.js_parsing_laws.specs.Moves.{MadeHere};
 ghost use Rattle.js_parsing_laws.specs.Nesting.{CanNest, room};
 ghost use Rattle.js_parsing_laws.specs.States.{Standing};
-ghost use Rattle.js_grammar.specs.Productions.{at, tail_flag, Primary};
+ghost use Rattle.js_grammar.specs.Productions.{at, Primary};
 ghost use Rattle.js_parsing_laws.specs.Answers.{Answers};
-ghost use Rattle.js_tree.specs.Labels.{number_of};
-ghost use Rattle.std.specs.Prelude.{cond, ◌+◌};
+ghost use Rattle.std.specs.Prelude.{◌+◌};
 
 use js_base::{DiagnosticKind, Kind, Span, Token};
 use js_cursor::{ParserImpl, Stop};

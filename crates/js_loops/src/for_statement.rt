@@ -13,7 +13,7 @@ ghost use Rattle.js_parsing_laws.specs.NodeTexts.{is_textual};
 ghost use Rattle.js_parsing_laws.specs.Stands.{StandsHere};
 ghost use Rattle.js_parsing_laws.specs.States.{Standing};
 ghost use Rattle.js_parsing_laws.specs.Statements.{TakesAnywhere};
-ghost use Rattle.js_statement_laws.specs.ForHeads.{AtEnd, EndsPart, TakesFirst, TakesHead, TakesParensHead, TakesPart, TakesRest, node_of};
+ghost use Rattle.js_statement_laws.specs.ForHeads.{AtEnd, EndsPart, TakesFirst, TakesHead, TakesParensHead, TakesPart, TakesRest};
 ghost use Rattle.js_statement_laws.specs.ForWords.{ChecksAwait, ChecksEnding, PassesAwait, await_at, for_label, is_of, may_end_by, no_of_from};
 ghost use Rattle.js_tree.specs.Labels.{number_of};
 

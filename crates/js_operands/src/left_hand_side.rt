@@ -3,7 +3,7 @@
 ghost use Rattle.std.specs.Prelude.{◌≡◌, ◌≤◌, ◌∷◌, [], Some, IfOk, cond, true, false};
 ghost use Rattle.js_base.specs.declared.kind.Kind.TheVariants.{Dot, LBrack, LParen, QuestionDot};
 ghost use Rattle.js_cursor.specs.Moves.{GivesUp};
-ghost use Rattle.js_grammar.specs.Productions.{at, optional_flag, IdentifierName, LeftHandSide};
+ghost use Rattle.js_grammar.specs.Productions.{at, optional_flag, LeftHandSide};
 ghost use Rattle.js_tree.specs.Labels.{number_of};
 ghost use Rattle.js_parsing_laws.specs.Answers.{Answers};
 ghost use Rattle.js_grammar.specs.Marks.{Mark};
@@ -107,7 +107,7 @@ fn refuse_chain<C: ParserConfig>(p: &mut ParserImpl<'_, C>) -> Stop
 }
 
 /// The names, the expressions in brackets and the templates behind a member.
-pub fn parse_member_expression_rest<C: ParserConfig, N: Nested<C>>(
+pub(crate) fn parse_member_expression_rest<C: ParserConfig, N: Nested<C>>(
     p: &mut ParserImpl<'_, C>,
     nested: &N,
     start: u32,
@@ -180,7 +180,7 @@ fn parse_optional_chain<C: ParserConfig, N: Nested<C>>(
 }
 
 /// Whether a link stands here that goes on with such a base.
-pub fn link_here<C: ParserConfig>(p: &ParserImpl<'_, C>, base: LinkBase) -> bool
+pub(crate) fn link_here<C: ParserConfig>(p: &ParserImpl<'_, C>, base: LinkBase) -> bool
     ensures { LinkHere p.now base result }
 {
     if stands(p, Kind::Dot) {
@@ -237,7 +237,7 @@ fn parse_chain_link<C: ParserConfig, N: Nested<C>>(
 
 /// The link without `?.` that stands here, behind what was read.
 #[inline(never)]
-pub fn parse_link<C: ParserConfig, N: Nested<C>>(
+pub(crate) fn parse_link<C: ParserConfig, N: Nested<C>>(
     p: &mut ParserImpl<'_, C>,
     nested: &N,
     start: u32,

@@ -1,6 +1,6 @@
 //! `new.target` (ECMA-262, section 13.3.12).
 
-ghost use Rattle.std.specs.Prelude.{◌≡◌, IfOk, false, true};
+ghost use Rattle.std.specs.Prelude.{IfOk, false, true};
 ghost use Rattle.js_base.specs.declared.kind.Kind.TheVariants.{Dot, Target};
 ghost use Rattle.js_cursor.specs.Moves.{GivesUp};
 ghost use Rattle.js_cursor.specs.Places.{IsAt, goal};
@@ -22,7 +22,7 @@ use js_tree::{NodeId, NodeKind, Op};
 /// `new.target` from its dot on, behind a `new` that began at a place (ECMA-262, section 13.3.12). Where it may not stand,
 /// that is told, and reading goes on.
 #[inline(never)]
-pub fn parse_new_target<C: ParserConfig>(
+pub(crate) fn parse_new_target<C: ParserConfig>(
     p: &mut ParserImpl<'_, C>,
     start: u32,
 ) -> Result<NodeId, Stop>

@@ -1,28 +1,22 @@
 //! Names, literals and parentheses (ECMA-262, section 13.2).
 
-ghost use Rattle.std.specs.Prelude.{◌≡◌, true, false, MatchResult, ◌<◌, length};
+ghost use Rattle.std.specs.Prelude.{◌≡◌, true, false, ◌<◌, length};
 ghost use Rattle.js_base.specs.KindSets.{number_kinds};
 ghost use Rattle.js_base.specs.Kinds.{one_of_kinds};
-ghost use Rattle.js_base.specs.declared.kind.Kind.TheVariants.{LParen, Percent, RParen, Str};
+ghost use Rattle.js_base.specs.declared.kind.Kind.TheVariants.{LParen, Percent, Str};
 ghost use Rattle.js_grammar.specs.Productions.{at, Primary};
-ghost use Rattle.js_cursor.specs.Moves.{OnlyMemory, Opened};
 ghost use Rattle.js_parsing_laws.specs.Answers.{Answers};
 ghost use Rattle.js_tree.specs.Labels.{kind_of};
 ghost use Rattle.js_tree.specs.declared.kind.NodeKind.TheVariants as node;
-ghost use Rattle.js_tree.specs.declared.op.Op.TheVariants as op;
 ghost use Rattle.js_operand_laws.specs.Marked.{Marks, MarksNode};
 ghost use Rattle.js_operand_laws.specs.Marked as marked;
-ghost use Rattle.js_parsing_laws.specs.Moves.{IsWholeHere, TakesLeaf};
-ghost use Rattle.js_parsing_laws.specs.Lexemes.{read_word, slashes};
+ghost use Rattle.js_parsing_laws.specs.Lexemes.{slashes};
 ghost use Rattle.js_parsing_laws.specs.Nesting.{CanNest, room};
-ghost use Rattle.js_parsing_laws.specs.NodeTexts.{is_name_node, is_textual};
-ghost use Rattle.js_operand_laws.specs.Numbers.{node_of_number, op_of_number};
-ghost use Rattle.js_parsing_laws.specs.Moves.{Passes};
 ghost use Rattle.js_parsing_laws.specs.Stands.{NameHere};
 ghost use Rattle.js_parsing_laws.specs.States.{Standing};
 
 use crate::left_hand_side::parse_with_arguments;
-use js_base::{Kind, Span};
+use js_base::Kind;
 use js_cursor::{ParserImpl, Stop};
 use js_lex::ParserConfig;
 use js_literals::array::parse_array_expression;

@@ -26,7 +26,7 @@ use js_tree::{NodeId, NodeKind, Op};
 
 /// What begins with `super`: a MemberExpression, or this word alone before arguments.
 #[inline(never)]
-pub fn parse_super_member<C: ParserConfig, N: Nested<C>>(
+pub(crate) fn parse_super_member<C: ParserConfig, N: Nested<C>>(
     p: &mut ParserImpl<'_, C>,
     nested: &N,
 ) -> Result<NodeId, Stop>
@@ -89,7 +89,7 @@ fn parse_super_property<C: ParserConfig, N: Nested<C>>(
 }
 
 /// Whether what was read is the word `super` alone, by whether this word began it.
-pub fn is_super_alone<C: ParserConfig>(p: &ParserImpl<'_, C>, begins: bool, callee: NodeId) -> bool
+pub(crate) fn is_super_alone<C: ParserConfig>(p: &ParserImpl<'_, C>, begins: bool, callee: NodeId) -> bool
     requires { callee.0 < length p.now.nodes }
     ensures { result ≡ (begins && is_super_word (kind_of (node_at p.now.nodes callee).kind)) }
 {
@@ -97,7 +97,7 @@ pub fn is_super_alone<C: ParserConfig>(p: &ParserImpl<'_, C>, begins: bool, call
 }
 
 /// Tells of a `super` that `new` stands before, which began at a place, and of its arguments.
-pub fn check_new_callee<C: ParserConfig>(
+pub(crate) fn check_new_callee<C: ParserConfig>(
     p: &mut ParserImpl<'_, C>,
     super_alone: bool,
     start: u32,

@@ -1,6 +1,6 @@
 //! What stands at a parser's place.
 
-ghost use Rattle.std.specs.Prelude.{◌≡◌, ◌↔◌, IsTrue, MatchResult};
+ghost use Rattle.std.specs.Prelude.{◌≡◌, MatchResult};
 ghost use Rattle.js_cursor.specs.Moves.{OnlyMemory};
 ghost use Rattle.js_cursor.specs.Places.{IsAt};
 ghost use Rattle.js_parsing_laws.specs.Answers.{StopsUnbuilt};
@@ -13,7 +13,7 @@ ghost use Rattle.js_parsing_laws.specs.Operators.{power_of};
 ghost use Rattle.js_parsing_laws.specs.Moves.{IsCompleted, IsWholeHere, Moves, OperatorHere};
 
 use crate::diagnostics::kept_so_far;
-use js_base::{Kind, Span, Token};
+use js_base::{Kind, Token};
 use js_cursor::{ParserImpl, Stop};
 use js_lex::ParserConfig;
 

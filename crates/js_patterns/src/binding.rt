@@ -9,14 +9,13 @@ ghost use Rattle.js_grammar.specs.Productions.{at, BElement, Binding, BindingRes
 ghost use Rattle.js_parsing_laws.specs.Classes.{EndsParse};
 ghost use Rattle.js_parsing_laws.specs.Answers.{Answers};
 ghost use Rattle.js_pattern_laws.specs.Bindings.{closers, elements_left, initialiser_kind, EndsRest, FinishesRest, InitialisesRest, RestBegins};
-ghost use Rattle.js_parsing_laws.specs.Told.{unrelated_at};
 ghost use Rattle.js_parsing_laws.specs.Lists.{ListRead, ListStops, ReadsItem, ReadsOneMore};
 ghost use Rattle.js_parsing_laws.specs.Stands.{StandsHere};
 ghost use Rattle.js_parsing_laws.specs.Nesting.{CanNest, room};
 ghost use Rattle.js_parsing_laws.specs.States.{Standing};
 
 use crate::object_pattern::parse_object_pattern;
-use js_base::{Diagnostic, DiagnosticKind, Kind, Span};
+use js_base::{Diagnostic, DiagnosticKind, Kind};
 use js_cursor::{ParserImpl, Stop};
 use js_lex::ParserConfig;
 use js_literals::leaf::parse_name;

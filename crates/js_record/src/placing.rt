@@ -1,13 +1,12 @@
 //! Which list an export entry goes to: ParseModule (ECMA-262, 16.2.1.7.1), step 10.
 
-ghost use Rattle.std.specs.Prelude.{◌≡◌, ◌++◌, ◌∷◌, [], IfOk, OnOk, Some, ◌<◌, ◌+◌, length, take, cond};
+ghost use Rattle.std.specs.Prelude.{◌≡◌, ◌++◌, IfOk, OnOk, Some, ◌<◌, ◌+◌, length, take};
 ghost use Rattle.std.specs.List.{flat_map};
 ghost use Rattle.std.specs.Option.{option_copied};
 ghost use Rattle.js_grammar.specs.ModuleRecords as def;
 ghost use Rattle.js_grammar.specs.ModuleRecords.{imported_local, taken, no_local, to_indirect, place, place_imported, place_requested, if_local, if_indirect, if_star};
 ghost use Rattle.js_record.specs.Firsts.{AreFirst};
 ghost use Rattle.js_record.specs.Places.{placed_of};
-ghost use Rattle.js_visits.specs.Names.{taken_name_of};
 
 use indexmap::IndexMap;
 use js_base::Span;

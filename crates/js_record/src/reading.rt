@@ -3,7 +3,7 @@
 ghost use Rattle.std.specs.Prelude.{◌≡◌, ◌<◌, length, true, IfOk, Some, All, IsSome};
 ghost use Rattle.js_base.specs.Spans.{LiesIn};
 ghost use Rattle.js_grammar.specs.NodeNames.{word_at, string_at, name_at, IsReadFrom};
-ghost use Rattle.js_grammar.specs.Modules.{named, no_name, specifier as specified};
+ghost use Rattle.js_grammar.specs.Modules.{named, specifier as specified};
 ghost use Rattle.js_tree.specs.declared.kind.NodeKind.TheVariants as node;
 ghost use Rattle.js_tree.specs.Nodes.{node_at};
 ghost use Rattle.js_record.specs.NodeKinds.{is_word, is_string};

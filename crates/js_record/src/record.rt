@@ -1,8 +1,8 @@
 //! A module record, of all that the declarations of a module add: ParseModule (ECMA-262, 16.2.1.7.1), step 10.
 
-ghost use Rattle.std.specs.Prelude.{◌≡◌, ◌++◌, ◌∷◌, ◌↔◌, [], IfOk, IsTrue, OnOk, bytes_eq, fold, map, position};
-ghost use Rattle.std.specs.List.{flat_map, IsDistinct};
-ghost use Rattle.js_grammar.specs.ModuleRecords.{own_export_names, with_request, with_binding, replaced_by, replaced, if_local, if_indirect, if_star, default_places, defaults_among, duplicate_export, duplicate_defaults, record_of_part, errors_of_part};
+ghost use Rattle.std.specs.Prelude.{◌≡◌, ◌++◌, ◌↔◌, [], IfOk, IsTrue, OnOk, bytes_eq, fold, map};
+ghost use Rattle.std.specs.List.{IsDistinct};
+ghost use Rattle.js_grammar.specs.ModuleRecords.{own_export_names, with_request, with_binding, replaced_by, replaced, default_places, defaults_among, duplicate_export, duplicate_defaults, record_of_part, errors_of_part};
 ghost use Rattle.js_record.specs.Exports.{IsMadeOf, made};
 
 use crate::distinct::are_all_distinct;

@@ -1,7 +1,7 @@
 //! Numbers (ECMA-262, section 12.9.3), outside strict mode.
 
-ghost use Rattle.std.specs.Prelude.{◌≡◌, ◌≤◌, ◌<◌, ◌==◌, true, false, [], ◌∷◌, IsCharBoundary, IfErr};
-ghost use Rattle.js_text.specs.Characters.{is_decimal, one_of};
+ghost use Rattle.std.specs.Prelude.{◌≡◌, ◌≤◌, ◌<◌, ◌==◌, true, false, IsCharBoundary, IfErr};
+ghost use Rattle.js_text.specs.Characters.{is_decimal};
 ghost use Rattle.js_base.specs.declared.diagnostic.DiagnosticKind.TheVariants.{InvalidNumber};
 ghost use Rattle.js_base.specs.declared.kind.Kind.TheVariants.{Float};
 ghost use Rattle.js_grammar.specs.Characters.{begins};

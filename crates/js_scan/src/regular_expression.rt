@@ -1,6 +1,6 @@
 //! Regular expression literals (ECMA-262, section 12.9.5) and their flags.
 
-ghost use Rattle.std.specs.Prelude.{◌≡◌, ◌≤◌, ◌+◌, ◌||◌, [], ◌∷◌, IsCharBoundary, MatchResult, codes, chars, false, not};
+ghost use Rattle.std.specs.Prelude.{◌≡◌, ◌+◌, ◌||◌, [], ◌∷◌, IsCharBoundary, MatchResult, codes, false, not};
 ghost use Rattle.js_text.specs.Characters.{one_of};
 ghost use Rattle.js_grammar.specs.Characters.{begins};
 ghost use Rattle.js_grammar.specs.Lexemes.{regular_expression};

@@ -1,6 +1,6 @@
 //! Template parts (ECMA-262, section 12.9.6).
 
-ghost use Rattle.std.specs.Prelude.{◌≡◌, ◌+◌, [], ◌∷◌, IsCharBoundary};
+ghost use Rattle.std.specs.Prelude.{◌+◌, [], ◌∷◌, IsCharBoundary};
 ghost use Rattle.js_grammar.specs.Lexemes.{division, template_tail};
 ghost use Rattle.js_scan.specs.declared.template.Before.TheVariants.{Other};
 ghost use Rattle.js_words.specs.Places.{Word};

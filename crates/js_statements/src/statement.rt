@@ -1,18 +1,17 @@
 //! Statements (ECMA-262, chapter 14).
 
-ghost use Rattle.std.specs.Prelude.{◌≡◌, ◌≤◌, ◌&&◌, ◌↔◌, IsTrue, true, false, MatchResult};
+ghost use Rattle.std.specs.Prelude.{◌≡◌, ◌≤◌, ◌&&◌, ◌↔◌, IsTrue, true, false};
 ghost use Rattle.js_base.specs.Kinds.{one_of_kinds};
 ghost use Rattle.js_base.specs.Contexts.{has_flag, in_flag};
 ghost use Rattle.js_base.specs.declared.kind.Kind.TheVariants.{Colon, Const, Semicolon};
 ghost use Rattle.js_grammar.specs.Productions.{at, ListItem, Sub};
 ghost use Rattle.js_operand_laws.specs.Functions.{NoFunctionHere};
-ghost use Rattle.js_parsing_laws.specs.Answers.{Stops};
 ghost use Rattle.js_parsing_laws.specs.Lexemes.{keyword_kind};
 ghost use Rattle.js_parsing_laws.specs.Nesting.{CanNest, room};
 ghost use Rattle.js_parsing_laws.specs.NodeTexts.{SpellsName};
 ghost use Rattle.js_parsing_laws.specs.Stands.{StandsHere};
 ghost use Rattle.js_parsing_laws.specs.States.{Standing};
-ghost use Rattle.js_parsing_laws.specs.Statements.{EndsStatement, IsLabel, LabelsStatement, NoEnd, TakesAnywhere, TakesStatement, link_kinds, statement_kinds};
+ghost use Rattle.js_parsing_laws.specs.Statements.{IsLabel, LabelsStatement, TakesAnywhere, TakesStatement, statement_kinds};
 ghost use Rattle.js_statement_laws.specs.LetStatements.{TakesUndeclared};
 
 use crate::block::parse_block_statement;
@@ -23,7 +22,7 @@ use crate::word_statement::{
     parse_break_statement, parse_continue_statement, parse_debugger_statement,
     parse_return_statement, parse_throw_statement,
 };
-use js_base::{Kind, Span, Token};
+use js_base::{Kind, Token};
 use js_cursor::{ParserImpl, Stop};
 use js_lex::ParserConfig;
 use js_literals::function::function_stands;

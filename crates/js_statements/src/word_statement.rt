@@ -13,7 +13,7 @@ ghost use Rattle.js_parsing_laws.specs.States.{Standing};
 ghost use Rattle.js_parsing_laws.specs.Statements.{TakesAnywhere};
 ghost use Rattle.js_statement_laws.specs.WordStatements.{ChecksOperand, ChecksReturn, JumpsHere, TakesArgument, TakesLabel, late_operand, stray_return};
 
-use js_base::{DiagnosticKind, Kind, Span};
+use js_base::{DiagnosticKind, Span};
 use js_cursor::{ParserImpl, Stop};
 use js_lex::ParserConfig;
 use js_literals::leaf::parse_name;

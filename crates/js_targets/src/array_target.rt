@@ -1,15 +1,13 @@
 //! Array and object literals read as targets (ECMA-262, section 13.15.5).
 
-ghost use Rattle.std.specs.Prelude.{◌≡◌, ◌≤◌, ◌++◌, IfOk, List, [], ◌∷◌, Some, None, true, false, cond, length};
+ghost use Rattle.std.specs.Prelude.{◌≡◌, ◌≤◌, ◌++◌, IfOk, [], ◌∷◌, Some, None, true, false, cond, length};
 ghost use Rattle.std.specs.Option.{option_map};
 ghost use Rattle.js_grammar.specs.Trees.{assignment_target_with_default, end, tree};
-ghost use Rattle.js_grammar.specs.Productions.{has_flag, shorthand_flag};
 ghost use Rattle.js_tree.specs.declared.kind.NodeKind.TheVariants as node;
 ghost use Rattle.js_tree.specs.declared.op.Op.TheVariants as op;
 ghost use Rattle.js_parsing_laws.specs.NodeTexts.{is_textual};
 ghost use Rattle.js_parsing_laws.specs.Moves.{plain_label};
 ghost use Rattle.js_tree.specs.Labels.{kind_of, op_of, label_of};
-ghost use Rattle.js_tree.specs.Nodes.{label, node_at};
 ghost use Rattle.js_cursor.specs.Places.{goal};
 ghost use Rattle.js_grammar.specs.Marks.{Mark};
 ghost use Rattle.js_cursor.specs.Moves.{GivesUp};

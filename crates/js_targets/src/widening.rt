@@ -1,6 +1,6 @@
 //! Where a literal may be wider than the target that it is read as (ECMA-262, section 13.15.5).
 
-ghost use Rattle.std.specs.Prelude.{◌≡◌, IfOk};
+ghost use Rattle.std.specs.Prelude.{IfOk};
 ghost use Rattle.js_base.specs.declared.diagnostic.DiagnosticKind.TheVariants as fault;
 ghost use Rattle.js_grammar.specs.Marks.{Mark};
 ghost use Rattle.js_cursor.specs.Moves.{Keeps};

@@ -1,6 +1,6 @@
 //! The first ill-formed escape in the inside of a string literal.
 
-ghost use Rattle.std.specs.Prelude.{◌≡◌, ◌++◌, ◌∷◌, [], List, ℕ, IsTrue, IfSome, chars};
+ghost use Rattle.std.specs.Prelude.{◌≡◌, List, ℕ, IsTrue, IfSome, chars};
 ghost use Rattle.js_text.specs.CodePointEscapes.{fits};
 ghost use Rattle.js_text.specs.DecodingSteps.{state_of};
 ghost use Rattle.js_text.specs.InvalidEscapes.{TellsEscape, IsRead, ReadsOn, ReadsAs, bytes_of};

@@ -2,7 +2,6 @@
 
 ghost use Rattle.std.specs.Prelude.{◌≡◌, ◌++◌, ◌<◌, length, IfOk, OnOk, ℕ, List};
 ghost use Rattle.js_grammar.specs.Trees.{Label, Slots};
-ghost use Rattle.js_tree.specs.Nodes.{node_at};
 ghost use Rattle.js_tree.specs.Holding.{Stands};
 ghost use Rattle.js_tree.specs.Binding.{Binds};
 ghost use Rattle.js_tree.specs.Labels.{kind_of};

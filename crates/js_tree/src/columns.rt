@@ -1,6 +1,6 @@
 //! Nodes in columns: of each number one entry in each column, and the children of all nodes in one column of slots.
 
-ghost use Rattle.std.specs.Prelude.{◌≡◌, ◌+◌, ◌<◌, ◌≤◌, ◌∷◌, [], ◌++◌, IfOk, OnOk, IsTrue, ◌↔◌, ℕ, length, is_some, map, vec_len, OnErr};
+ghost use Rattle.std.specs.Prelude.{◌≡◌, ◌+◌, ◌<◌, ◌≤◌, ◌∷◌, [], ◌++◌, IfOk, OnOk, IsTrue, ◌↔◌, ℕ, length, map, vec_len, OnErr};
 ghost use Rattle.std.specs.Ordering.{nat_cmp};
 ghost use Rattle.std.specs.BTreeMap.{get};
 ghost use Rattle.std.specs.Option.{option_copied};
@@ -9,7 +9,6 @@ ghost use Rattle.js_tree.specs.Rooms.{HasRoom};
 ghost use Rattle.js_tree.specs.Rows.{entry_of};
 ghost use Rattle.js_tree.specs.declared.op.Op.TheVariants as op;
 ghost use Rattle.std.specs.Vec.{vec_capacity};
-ghost use Rattle.js_tree.specs.Labels.{number_of};
 ghost use Rattle.js_tree.specs.Nodes.{node_at, no_flags, new_node, empty_program, flags_set, program_node};
 ghost use Rattle.js_tree.specs.Holding.{Makes, with_program};
 

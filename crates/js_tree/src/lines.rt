@@ -1,11 +1,11 @@
 //! The lines of a tree.
 
-ghost use Rattle.std.specs.Prelude.{◌≡◌, ◌++◌, ◌∷◌, ◌<◌, ◌≤◌, ◌^◌, ◌*◌, ◌+◌, [], ℕ, length, IfOk, OnOk, Some, cond, get_or};
+ghost use Rattle.std.specs.Prelude.{◌≡◌, ◌++◌, ◌∷◌, ◌<◌, ◌≤◌, ◌^◌, ◌+◌, [], length, IfOk, OnOk, Some, cond, get_or};
 ghost use Rattle.std.specs.Fmt.{decimal};
 ghost use Rattle.std.specs.Option.{option_copied};
 ghost use Rattle.js_grammar.specs.Lines.{op_text, flag_words, words_of, kind_text, label_text, places_text, indent, tree_text};
 ghost use Rattle.js_grammar.specs.Trees.{Tree as SeenTree};
-ghost use Rattle.js_tree.specs.Labels.{op_of, number_of};
+ghost use Rattle.js_tree.specs.Labels.{op_of};
 ghost use Rattle.js_tree.specs.Nodes.{node_at, label};
 ghost use Rattle.js_tree.specs.Holding.{IsTree};
 ghost use Rattle.js_tree.specs.Walking.{text_at, line_at, pending, within, spaced};

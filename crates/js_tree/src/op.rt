@@ -1,8 +1,5 @@
 //! What tells nodes of one kind apart: operators, words and bases.
 
-ghost use Rattle.std.specs.Prelude.{◌≡◌};
-ghost use Rattle.js_grammar.specs.Lines.{op_text};
-ghost use Rattle.js_tree.specs.Labels.{op_of};
 
 use js_base::{AssignmentOperator, BinaryOperator, LogicalOperator, UnaryOperator, UpdateOperator};
 

@@ -1,14 +1,14 @@
 //! The tree of a program.
 
-ghost use Rattle.std.specs.Prelude.{◌≡◌, ◌<◌, ◌↔◌, ◌∷◌, [], false, length, map, is_some, slice_get, IfOk, IsTrue, Some, None, ℕ, List, chars};
+ghost use Rattle.std.specs.Prelude.{◌≡◌, ◌<◌, ◌↔◌, false, length, map, is_some, slice_get, IfOk, IsTrue, Some, ℕ, List, chars};
 ghost use Rattle.js_base.specs.Spans.{LiesIn};
 ghost use Rattle.js_grammar.specs.Trees.{Label, Slots, Tree as SeenTree};
 ghost use Rattle.js_grammar.specs.CoverInitialisers.{initialised_in};
 ghost use Rattle.js_grammar.specs.Lines.{tree_text};
 ghost use Rattle.js_tree.specs.Covering.{HasNone, placed};
 ghost use Rattle.js_tree.specs.Counting.{IsCount};
-ghost use Rattle.js_tree.specs.Nodes.{node_at, new_node, empty_program, flags_set, program_node};
-ghost use Rattle.js_tree.specs.Holding.{Makes, Stands, HoldsAll, IsTree, with_program, program_tree};
+ghost use Rattle.js_tree.specs.Nodes.{node_at};
+ghost use Rattle.js_tree.specs.Holding.{Stands, IsTree};
 ghost use Rattle.js_tree.specs.Sources.{text_of, name_of, IsString, units_of, raw_bytes, digit_bytes, IsKey, prop_name_of};
 ghost use Rattle.js_tree.specs.Binding.{Binds};
 ghost use Rattle.js_text.specs.Decoding.{cooked};

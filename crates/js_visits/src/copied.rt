@@ -2,7 +2,7 @@
 
 ghost use Rattle.std.specs.Prelude.{◌≡◌, IfOk};
 
-use crate::entry::{DynamicImport, ExportEntry, ImportEntry, RequestedModule};
+use crate::entry::{DynamicImport, ExportEntry, ImportEntry};
 use crate::name::{
     ExportExportName, ExportImportName, ExportLocalName, ImportImportName, NameSpan,
 };

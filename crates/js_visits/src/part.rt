@@ -1,6 +1,6 @@
 //! What one declaration, `import()` or `import.meta` adds to a record.
 
-ghost use Rattle.std.specs.Prelude.{◌≡◌, ◌++◌, IfOk, OnOk};
+ghost use Rattle.std.specs.Prelude.{◌≡◌, IfOk, OnOk};
 ghost use Rattle.js_grammar.specs.ModuleRecords.{nothing, joined, whole};
 ghost use Rattle.js_grammar.specs.Modules.{syntax};
 

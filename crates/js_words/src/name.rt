@@ -1,6 +1,6 @@
 //! Names and private names (ECMA-262, section 12.7).
 
-ghost use Rattle.std.specs.Prelude.{◌≡◌, ◌<◌, ◌≤◌, ℕ, ◌+◌, Bool, ◌||◌, ◌==◌, List, [], ◌∷◌, ◌++◌, true, false, length, MatchOption, IfSome, IsCharBoundary, IsTrue};
+ghost use Rattle.std.specs.Prelude.{◌≡◌, ◌<◌, ◌≤◌, ℕ, ◌+◌, Bool, ◌||◌, ◌==◌, List, [], ◌∷◌, ◌++◌, true, false, MatchOption, IfSome, IsCharBoundary, IsTrue};
 ghost use Rattle.js_base.specs.Keywords.{keyword_of};
 ghost use Rattle.js_grammar.specs.Characters.{begins, is_identifier_start, is_identifier_part};
 ghost use Rattle.js_grammar.specs.LexicalFaults.{behind};
@@ -8,7 +8,7 @@ ghost use Rattle.js_grammar.specs.Lexemes.{division};
 ghost use Rattle.js_words.specs.Names as names;
 ghost use Rattle.js_base.specs.declared.diagnostic.DiagnosticKind.TheVariants.{InvalidEscape};
 ghost use Rattle.js_words.specs.Faults.{PartsEnd};
-ghost use Rattle.js_words.specs.Places.{Word, High};
+ghost use Rattle.js_words.specs.Places.{Word};
 ghost use Rattle.js_words.specs.Scans.{Scans, IsScanned, IsStopped};
 
 use crate::byte_class::class_of;

@@ -1,6 +1,6 @@
 //! Bytes and characters at a place of a text.
 
-ghost use Rattle.std.specs.Prelude.{◌≡◌, ◌≤◌, ◌<◌, ◌+◌, ◌==◌, ℕ, [], ◌∷◌, length, nat_lt, IsTrue, IsCharBoundary};
+ghost use Rattle.std.specs.Prelude.{◌≡◌, ◌≤◌, ◌<◌, ◌+◌, ◌==◌, [], ◌∷◌, length, nat_lt, IsTrue, IsCharBoundary};
 ghost use Rattle.std.specs.List.{list_all};
 ghost use Rattle.js_text.specs.Characters.{one_of};
 ghost use Rattle.js_grammar.specs.CoreTexts.{starts};
