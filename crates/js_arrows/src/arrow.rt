@@ -34,13 +34,13 @@ use js_parsing::diagnostics::{diagnostic_at, kept_so_far};
 use js_parsing::lexemes::{advance, is_name, name_stands, stands};
 use js_parsing::nodes::{make_one, make_with_optional};
 use js_parsing_laws::nested::Nested;
-use js_patterns::parameters::parse_formal_parameters;
+use js_pattern_laws::patterns::Patterns;
 use js_tree::{NodeId, NodeKind, Op};
 
 /// The head of an arrow function, where it stands here with `=>` behind it: a name, or a list in parentheses, and `async`
 /// before either. None where no arrow function stands, and the parser is then where it was. `Fatal` where nothing but one
 /// can stand.
-pub fn parse_arrow_head<C: ParserConfig, N: Nested<C>>(
+pub fn parse_arrow_head<C: ParserConfig, N: Patterns<C>>(
     p: &mut ParserImpl<'_, C>,
     nested: &N,
 ) -> Result<Option<ArrowHead>, Stop>
@@ -76,7 +76,7 @@ fn head_of(found: Option<NodeId>, is_async: bool) -> Option<ArrowHead>
 /// An arrow function whose parameters stand in parentheses, behind `async` on their line or not (ECMA-262, sections 15.3
 /// and 15.9). None where no such parameters stand here with `=>` behind them, on their line or on another; the parser is
 /// then where it was. `Fatal` where none stands here and nothing else can.
-pub fn try_parse_parenthesized_arrow_function_expression<C: ParserConfig, N: Nested<C>>(
+pub fn try_parse_parenthesized_arrow_function_expression<C: ParserConfig, N: Patterns<C>>(
     p: &mut ParserImpl<'_, C>,
     nested: &N,
 ) -> Result<Option<NodeId>, Stop>
@@ -93,7 +93,7 @@ pub fn try_parse_parenthesized_arrow_function_expression<C: ParserConfig, N: Nes
 }
 
 /// The head of an arrow function whose parameters stand in parentheses.
-fn parse_list_head<C: ParserConfig, N: Nested<C>>(
+fn parse_list_head<C: ParserConfig, N: Patterns<C>>(
     p: &mut ParserImpl<'_, C>,
     nested: &N,
 ) -> Result<Option<ArrowHead>, Stop>
@@ -125,7 +125,7 @@ fn begins_async_list<C: ParserConfig>(p: &mut ParserImpl<'_, C>) -> Result<bool,
 }
 
 /// The parameters of an arrow function without `async`, where they stand here with `=>` behind them.
-fn parse_plain_head<C: ParserConfig, N: Nested<C>>(
+fn parse_plain_head<C: ParserConfig, N: Patterns<C>>(
     p: &mut ParserImpl<'_, C>,
     nested: &N,
 ) -> Result<Option<NodeId>, Stop>
@@ -145,7 +145,7 @@ fn parse_plain_head<C: ParserConfig, N: Nested<C>>(
 
 /// The parameters of an asynchronous arrow function, where `async` stands here, they on its line, and `=>` behind them
 /// (ECMA-262, section 15.9): an attempt, which is taken back where it fails.
-fn parse_async_head<C: ParserConfig, N: Nested<C>>(
+fn parse_async_head<C: ParserConfig, N: Patterns<C>>(
     p: &mut ParserImpl<'_, C>,
     nested: &N,
 ) -> Result<Option<NodeId>, Stop>
@@ -193,7 +193,7 @@ fn begins_parameters(kind: Kind) -> bool
 /// The parameters of an asynchronous arrow function, behind its `async`. None: no asynchronous arrow function begins with
 /// the word, and the parser is somewhere behind. What begins with a parenthesis may be the arguments of a call too, also
 /// where `...` stands behind it.
-fn parse_head_behind_async<C: ParserConfig, N: Nested<C>>(
+fn parse_head_behind_async<C: ParserConfig, N: Patterns<C>>(
     p: &mut ParserImpl<'_, C>,
     nested: &N,
 ) -> Result<Option<NodeId>, Stop>
@@ -266,7 +266,7 @@ fn parse_single_parameter<C: ParserConfig>(p: &mut ParserImpl<'_, C>) -> Result<
 }
 
 /// FormalParameters in parentheses, where `=>` stands behind them.
-fn parse_head_at_parenthesis<C: ParserConfig, N: Nested<C>>(
+fn parse_head_at_parenthesis<C: ParserConfig, N: Patterns<C>>(
     p: &mut ParserImpl<'_, C>,
     nested: &N,
 ) -> Result<Option<NodeId>, Stop>
@@ -290,7 +290,7 @@ fn parse_head_at_parenthesis<C: ParserConfig, N: Nested<C>>(
 
 /// FormalParameters in parentheses and `=>` behind them, where nothing else can stand: what stops them is final.
 #[inline(never)]
-fn parse_certain_head<C: ParserConfig, N: Nested<C>>(
+fn parse_certain_head<C: ParserConfig, N: Patterns<C>>(
     p: &mut ParserImpl<'_, C>,
     nested: &N,
 ) -> Result<NodeId, Stop>
@@ -300,7 +300,7 @@ fn parse_certain_head<C: ParserConfig, N: Nested<C>>(
     requires certain { NoOperandHere p.old }
     ensures { ReadsHead p.old p.new result }
 {
-    let parameters = parse_formal_parameters(p, nested)?;
+    let parameters = nested.formal_parameters(p)?;
     if p.at(Kind::Arrow) {
         return Ok(parameters);
     }
@@ -310,7 +310,7 @@ fn parse_certain_head<C: ParserConfig, N: Nested<C>>(
 
 /// FormalParameters in parentheses, behind `async` or not, where `=>` stands behind them and no operand stands: an attempt.
 #[inline(never)]
-fn attempt_head<C: ParserConfig, N: Nested<C>>(
+fn attempt_head<C: ParserConfig, N: Patterns<C>>(
     p: &mut ParserImpl<'_, C>,
     nested: &N,
     is_async: bool,
@@ -336,7 +336,7 @@ fn attempt_head<C: ParserConfig, N: Nested<C>>(
 
 /// FormalParameters in parentheses, behind `async` or not, where `=>` stands behind them, whatever else may stand there.
 #[inline(always)]
-fn try_parse_head<C: ParserConfig, N: Nested<C>>(
+fn try_parse_head<C: ParserConfig, N: Patterns<C>>(
     p: &mut ParserImpl<'_, C>,
     nested: &N,
     is_async: bool,
@@ -365,7 +365,7 @@ fn in_head(outer: Context, is_async: bool) -> Context
 
 /// FormalParameters in parentheses, where `=>` stands behind them. Where they don't, that is noted, and not tried again.
 #[inline(always)]
-fn try_parse_parameters<C: ParserConfig, N: Nested<C>>(
+fn try_parse_parameters<C: ParserConfig, N: Patterns<C>>(
     p: &mut ParserImpl<'_, C>,
     nested: &N,
 ) -> Result<Option<NodeId>, Stop>
@@ -430,7 +430,7 @@ fn has_slash(text: &str, start: u32, end: u32) -> bool
 /// which nothing is told are arguments over the same lexemes. Where something was told of them, no text is known that comes
 /// here, nor is it proved that there is none; the answer then is want of memory.
 #[inline(never)]
-fn attempt_head_again<C: ParserConfig, N: Nested<C>>(
+fn attempt_head_again<C: ParserConfig, N: Patterns<C>>(
     p: &mut ParserImpl<'_, C>,
     nested: &N,
     is_async: bool,
@@ -497,7 +497,7 @@ fn is_arrow_due<C: ParserConfig, N: Nested<C>>(
 /// FormalParameters in parentheses, where they can be read and `=>` stands behind them, also where something is told of
 /// them. None: no arrow function stands here, and the parser is somewhere behind.
 #[inline(always)]
-fn parse_parenthesized_head<C: ParserConfig, N: Nested<C>>(
+fn parse_parenthesized_head<C: ParserConfig, N: Patterns<C>>(
     p: &mut ParserImpl<'_, C>,
     nested: &N,
 ) -> Result<Option<NodeId>, Stop>
@@ -506,7 +506,7 @@ fn parse_parenthesized_head<C: ParserConfig, N: Nested<C>>(
     requires open { p.old.token.kind ≡ LParen }
     ensures { MatchResult result (λ found. LooksForHead p.old p.new found) OnlyMemory }
 {
-    match parse_formal_parameters(p, nested) {
+    match nested.formal_parameters(p) {
         Ok(parameters) => {
             if p.at(Kind::Arrow) {
                 Ok(Some(parameters))

@@ -6,6 +6,9 @@ use js_cursor::{ParserImpl, Stop};
 use js_expressions::sequence::parse_sequence_expression;
 use js_lex::RuntimeParserConfig;
 use js_parsing_laws::nested::{Goal, MethodForm, Nested};
+use js_pattern_laws::patterns::Patterns;
+use js_patterns::binding::parse_binding_pattern;
+use js_patterns::parameters::parse_formal_parameters;
 use js_statement_laws::sequences::Sequences;
 use js_tree::NodeId;
 
@@ -76,6 +79,23 @@ impl<F: Fn(&mut ParserImpl<'_, RuntimeParserConfig>, Goal) -> Result<NodeId, Sto
         form: MethodForm,
     ) -> Result<NodeId, Stop> {
         (self.0)(p, Goal::MethodParameters(form))
+    }
+}
+
+impl<F: Fn(&mut ParserImpl<'_, RuntimeParserConfig>, Goal) -> Result<NodeId, Stop>> Patterns<
+    RuntimeParserConfig,
+> for By<F> {
+    #[inline(always)]
+    fn binding_pattern(&self, p: &mut ParserImpl<'_, RuntimeParserConfig>) -> Result<NodeId, Stop> {
+        parse_binding_pattern(p, self)
+    }
+
+    #[inline(always)]
+    fn formal_parameters(
+        &self,
+        p: &mut ParserImpl<'_, RuntimeParserConfig>,
+    ) -> Result<NodeId, Stop> {
+        parse_formal_parameters(p, self)
     }
 }
 

@@ -20,7 +20,7 @@ use js_arrows::arrow;
 use js_base::{Kind, Precedence, StatementContext};
 use js_cursor::{ParserImpl, Stop};
 use js_expressions::assignment::parse_assignment_expression;
-use js_expressions::operators::{parse_exponentiation_expression, parse_operators};
+use js_expressions::operators::{self, parse_exponentiation_expression, parse_operators};
 use js_expressions::sequence::parse_sequence_expression;
 use js_expressions::unary::parse_unary_expression_or_higher;
 use js_lex::{ParserConfig, RuntimeParserConfig};

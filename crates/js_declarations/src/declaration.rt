@@ -14,12 +14,11 @@ use js_memory::NoMemory;
 use js_parsing::diagnostics::diagnostic_at;
 use js_parsing::lexemes::{advance, name_stands};
 use js_parsing::nodes::{make_two, make_with_optional};
-use js_parsing_laws::nested::Nested;
-use js_patterns::binding::parse_binding_pattern;
+use js_pattern_laws::patterns::Patterns;
 use js_tree::{DeclarationKind, NodeId, NodeKind, Op};
 
 /// The declarators behind the word of a declaration, with commas between them (ECMA-262, sections 14.3.1 and 14.3.2).
-pub fn parse_declarators<C: ParserConfig, N: Nested<C>>(
+pub fn parse_declarators<C: ParserConfig, N: Patterns<C>>(
     p: &mut ParserImpl<'_, C>,
     nested: &N,
     kind: DeclarationKind,
@@ -39,7 +38,7 @@ pub fn parse_declarators<C: ParserConfig, N: Nested<C>>(
 }
 
 /// A declarator, and the comma behind it, where one stands there: whether another one is due.
-fn parse_declarator_and_comma<C: ParserConfig, N: Nested<C>>(
+fn parse_declarator_and_comma<C: ParserConfig, N: Patterns<C>>(
     p: &mut ParserImpl<'_, C>,
     nested: &N,
     kind: DeclarationKind,
@@ -59,7 +58,7 @@ fn parse_declarator_and_comma<C: ParserConfig, N: Nested<C>>(
 }
 
 /// A VariableDeclaration (ECMA-262, section 14.3.2) or a LexicalBinding (14.3.1): what is bound, and an initialiser or none.
-fn parse_variable_declarator<C: ParserConfig, N: Nested<C>>(
+fn parse_variable_declarator<C: ParserConfig, N: Patterns<C>>(
     p: &mut ParserImpl<'_, C>,
     nested: &N,
     kind: DeclarationKind,
@@ -73,7 +72,7 @@ fn parse_variable_declarator<C: ParserConfig, N: Nested<C>>(
     }
     let start = p.cur_start();
     let is_name = name_stands(p);
-    let binding = parse_binding_pattern(p, nested)?;
+    let binding = nested.binding_pattern(p)?;
     if !p.at(Kind::Eq) {
         let span = p.end_span(start);
         let node = make_bare_declarator(p, kind, is_name, span, binding)?;

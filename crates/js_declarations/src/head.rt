@@ -12,8 +12,7 @@ use js_cursor::{ParserImpl, Stop};
 use js_lex::ParserConfig;
 use js_parsing::lexemes::{advance, name_stands, stands};
 use js_parsing::nodes::{make_two, make_with_optional};
-use js_parsing_laws::nested::Nested;
-use js_patterns::binding::parse_binding_pattern;
+use js_pattern_laws::patterns::Patterns;
 use js_tree::{DeclarationKind, NodeId, NodeKind, Op};
 
 /// What the first declarator in the head of a `for` is made of.
@@ -39,7 +38,7 @@ pub struct HeadDeclarator {
 }
 
 /// The first declarator in the head of a `for`. Before `in` and `of` none needs an initialiser.
-pub fn parse_head_declarator<C: ParserConfig, N: Nested<C>>(
+pub fn parse_head_declarator<C: ParserConfig, N: Patterns<C>>(
     p: &mut ParserImpl<'_, C>,
     nested: &N,
     kind: DeclarationKind,
@@ -53,7 +52,7 @@ pub fn parse_head_declarator<C: ParserConfig, N: Nested<C>>(
     }
     let start = p.cur_start();
     let is_name = name_stands(p);
-    let binding = parse_binding_pattern(p, nested)?;
+    let binding = nested.binding_pattern(p)?;
     if goes_through(p) {
         let span = p.end_span(start);
         let node = make_with_optional(p, NodeKind::VariableDeclarator, span, binding, None)?;
@@ -82,7 +81,7 @@ pub fn parse_head_declarator<C: ParserConfig, N: Nested<C>>(
 }
 
 /// All declarators of a head, of which the first one was read up to here: the others stand behind a comma.
-pub fn parse_declarators_behind<C: ParserConfig, N: Nested<C>>(
+pub fn parse_declarators_behind<C: ParserConfig, N: Patterns<C>>(
     p: &mut ParserImpl<'_, C>,
     nested: &N,
     kind: DeclarationKind,

@@ -31,12 +31,13 @@ use js_parsing::diagnostics::kept_so_far;
 use js_parsing::lexemes::{advance, operator_here};
 use js_parsing::nodes::{make_three, make_two};
 use js_parsing_laws::nested::Nested;
+use js_pattern_laws::patterns::Patterns;
 use js_targets::array_target::literal_target;
 use js_targets::cover::{cover, is_array_or_object, refuse_target, tell_not_simple};
 use js_tree::{NodeId, NodeKind, Op};
 
 /// An AssignmentExpression (ECMA-262, section 13.15).
-pub fn parse_assignment_expression<C: ParserConfig, N: Nested<C>>(
+pub fn parse_assignment_expression<C: ParserConfig, N: Patterns<C>>(
     p: &mut ParserImpl<'_, C>,
     nested: &N,
 ) -> Result<NodeId, Stop>
@@ -53,7 +54,7 @@ pub fn parse_assignment_expression<C: ParserConfig, N: Nested<C>>(
 
 /// An AssignmentExpression, whatever stands here.
 #[inline(always)]
-fn parse_any_assignment<C: ParserConfig, N: Nested<C>>(
+fn parse_any_assignment<C: ParserConfig, N: Patterns<C>>(
     p: &mut ParserImpl<'_, C>,
     nested: &N,
 ) -> Result<NodeId, Stop>

@@ -14,11 +14,11 @@ use js_cursor::{ParserImpl, Stop};
 use js_lex::ParserConfig;
 use js_parsing::lexemes::advance;
 use js_parsing::nodes::make_list;
-use js_parsing_laws::nested::Nested;
+use js_pattern_laws::patterns::Patterns;
 use js_tree::{NodeId, NodeKind, Op};
 
 /// An Expression (ECMA-262, section 13.16).
-pub fn parse_sequence_expression<C: ParserConfig, N: Nested<C>>(
+pub fn parse_sequence_expression<C: ParserConfig, N: Patterns<C>>(
     p: &mut ParserImpl<'_, C>,
     nested: &N,
 ) -> Result<NodeId, Stop>

@@ -21,11 +21,11 @@ use js_lex::ParserConfig;
 use js_parsing::diagnostics::diagnostic_at;
 use js_parsing::lexemes::{advance, stands};
 use js_parsing::nodes::make_list;
-use js_parsing_laws::nested::Nested;
+use js_pattern_laws::patterns::Patterns;
 use js_tree::{DeclarationKind, NodeId, NodeKind, Op};
 
 /// A VariableStatement (ECMA-262, section 14.3.2).
-pub fn parse_variable_statement<C: ParserConfig, N: Nested<C>>(
+pub fn parse_variable_statement<C: ParserConfig, N: Patterns<C>>(
     p: &mut ParserImpl<'_, C>,
     nested: &N,
 ) -> Result<NodeId, Stop>
@@ -39,7 +39,7 @@ pub fn parse_variable_statement<C: ParserConfig, N: Nested<C>>(
 }
 
 /// A LexicalDeclaration in a list of statements (ECMA-262, section 14.3.1).
-pub fn parse_lexical_declaration<C: ParserConfig, N: Nested<C>>(
+pub fn parse_lexical_declaration<C: ParserConfig, N: Patterns<C>>(
     p: &mut ParserImpl<'_, C>,
     nested: &N,
     kind: DeclarationKind,
@@ -56,7 +56,7 @@ pub fn parse_lexical_declaration<C: ParserConfig, N: Nested<C>>(
 /// A LexicalDeclaration as the body of another statement, where none may stand (ECMA-262, section 14.3.1): that is told, and
 /// reading goes on.
 #[inline(never)]
-pub fn parse_lexical_body<C: ParserConfig, N: Nested<C>>(
+pub fn parse_lexical_body<C: ParserConfig, N: Patterns<C>>(
     p: &mut ParserImpl<'_, C>,
     nested: &N,
     kind: DeclarationKind,
@@ -123,7 +123,7 @@ fn goes_on_with_let(kind: Kind, in_list: bool) -> bool
 
 /// A word, its declarators and a semicolon.
 #[inline(never)]
-fn parse_declaration<C: ParserConfig, N: Nested<C>>(
+fn parse_declaration<C: ParserConfig, N: Patterns<C>>(
     p: &mut ParserImpl<'_, C>,
     nested: &N,
     kind: DeclarationKind,

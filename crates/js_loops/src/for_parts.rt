@@ -26,7 +26,7 @@ use js_memory::NoMemory;
 use js_parsing::diagnostics::{diagnostic_at, kept_so_far};
 use js_parsing::lexemes::{advance, stands};
 use js_parsing::nodes::{make_list, make_one};
-use js_parsing_laws::nested::Nested;
+use js_pattern_laws::patterns::Patterns;
 use js_statement_laws::sequences::Sequences;
 use js_targets::array_target::literal_target;
 use js_targets::cover::{cover, is_array_or_object, refuse_target};
@@ -179,7 +179,7 @@ fn head_target<C: ParserConfig>(
 }
 
 /// A declaration as the first part of a head: a ForDeclaration before `in` or `of`, else a list of declarators.
-fn parse_head_declaration<C: ParserConfig, N: Nested<C>>(
+fn parse_head_declaration<C: ParserConfig, N: Patterns<C>>(
     p: &mut ParserImpl<'_, C>,
     nested: &N,
     kind: DeclarationKind,

@@ -15,7 +15,7 @@ use crate::answer::{ParserReturn, overlong, refused, taken};
 use crate::program::parse_program;
 use js_base::{MAX_LEN, ParseOptions, SourceType};
 use js_cursor::{ParserImpl, Stop};
-use js_lex::{NoTokensParserConfig, ParserConfig, RuntimeParserConfig};
+use js_lex::{LexerConfig, NoTokensParserConfig, ParserConfig, RuntimeParserConfig};
 use js_memory::NoMemory;
 use std::alloc::Global;
 

@@ -8,11 +8,11 @@ ghost use Rattle.js_parsing_laws.specs.States.{Standing};
 
 use js_cursor::{ParserImpl, Stop};
 use js_lex::ParserConfig;
-use js_parsing_laws::nested::Nested;
+use js_pattern_laws::patterns::Patterns;
 use js_tree::NodeId;
 
-/// What may be read deeper, and an Expression in place: statements are proved beside expressions, and not over them.
-pub trait Sequences<C: ParserConfig>: Nested<C> {
+/// What may be read deeper, and patterns and an Expression in place: statements are proved beside expressions, and not over them.
+pub trait Sequences<C: ParserConfig>: Patterns<C> {
     /// An Expression (ECMA-262, section 13.16), which begins here: no lexeme was passed before it.
     fn sequence(&self, p: &mut ParserImpl<'_, C>) -> Result<NodeId, Stop>
         requires at { Standing p.old }

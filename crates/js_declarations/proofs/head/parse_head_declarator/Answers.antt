@@ -20,7 +20,7 @@ pub end_span-span-requires : goal.end_span-span-requires
 end_span-span-requires g c = let x = (c.in_ok-binding.ensures _ _ c.requires.at).answer.further in let s = c.cur_start-start.ensures in omega arith
 
 pub returns-then-goes_through : goal.returns-then-goes_through
-returns-then-goes_through g c = λ text f a. bound_answers _ a (c.in_ok-binding.ensures text f a) (through_so c.parse_binding_pattern.new.p c.if-goes_through.true c.goes_through.ensures) _ (c.end_span-span.ensures.start ∙ c.cur_start-start.ensures) c.end_span-span.ensures.end c.in_ok-node.ensures
+returns-then-goes_through g c = λ text f a. bound_answers _ a (c.in_ok-binding.ensures text f a) (through_so c.binding_pattern.new.p c.if-goes_through.true c.goes_through.ensures) _ (c.end_span-span.ensures.start ∙ c.cur_start-start.ensures) c.end_span-span.ensures.end c.in_ok-node.ensures
 
 pub end_span-span-requires-then-not-at : goal.end_span-span-requires-then-not-at
 end_span-span-requires-then-not-at g c = let x = (c.in_ok-binding.ensures _ _ c.requires.at).answer.further in let s = c.cur_start-start.ensures in omega arith
@@ -34,7 +34,7 @@ make_bare_declarator-requires-clause-mark g c =
     missing_marked c.requires.at (λ k. false≢true (sym c.if-at.false ∙ c.at.ensures.1 k)) x.at x.same x.walked x.further _ _ (c.end_span-span-then-not-at.ensures.start ∙ c.cur_start-start.ensures) c.end_span-span-then-not-at.ensures.end
 
 pub returns-then-not-at : goal.returns-then-not-at
-returns-then-not-at g c = λ text f a. bare_answers _ _ a (c.in_ok-binding.ensures text f a) (through_so c.parse_binding_pattern.new.p c.if-goes_through.false c.goes_through.ensures) (λ k. false≢true (sym c.if-not-at.true ∙ c.at-2.ensures.1 k)) _ c.name_stands-is_name.ensures c.in_ok-node-2.ensures (c.end_span-span-then-not-at.ensures.start ∙ c.cur_start-start.ensures) c.end_span-span-then-not-at.ensures.end
+returns-then-not-at g c = λ text f a. bare_answers _ _ a (c.in_ok-binding.ensures text f a) (through_so c.binding_pattern.new.p c.if-goes_through.false c.goes_through.ensures) (λ k. false≢true (sym c.if-not-at.true ∙ c.at-2.ensures.1 k)) _ c.name_stands-is_name.ensures c.in_ok-node-2.ensures (c.end_span-span-then-not-at.ensures.start ∙ c.cur_start-start.ensures) c.end_span-span-then-not-at.ensures.end
 
 pub advance-requires-clause-at : goal.advance-requires-clause-at
 advance-requires-clause-at g c = standing (c.in_ok-binding.ensures _ _ c.requires.at).answer.at
@@ -56,7 +56,7 @@ returns-in_err-initialiser g c =
     rw (p.1, p.2) (λ text f a.
     let x = c.in_ok-binding.ensures text f a in
     let m = c.in_ok-advance.ensures text f x.answer.at in
-    value_stops a x (through_so c.parse_binding_pattern.new.p c.if-goes_through.false c.goes_through.ensures) (c.at-2.ensures.0 c.if-not-at.false) m _ _ _ _ c.name_stands-is_name.ensures (c.in_err-initialiser.ensures text f m.at))
+    value_stops a x (through_so c.binding_pattern.new.p c.if-goes_through.false c.goes_through.ensures) (c.at-2.ensures.0 c.if-not-at.false) m _ _ _ _ c.name_stands-is_name.ensures (c.in_err-initialiser.ensures text f m.at))
 
 pub end_span-span-requires-2 : goal.end_span-span-requires-2
 end_span-span-requires-2 g c =
@@ -69,4 +69,4 @@ pub returns : goal.returns
 returns g c = λ text f a.
     let x = c.in_ok-binding.ensures text f a in
     let m = c.in_ok-advance.ensures text f x.answer.at in
-    value_answers a x (through_so c.parse_binding_pattern.new.p c.if-goes_through.false c.goes_through.ensures) (c.at-2.ensures.0 c.if-not-at.false) m _ (c.in_ok-initialiser.ensures text f m.at) (c.end_span-span-2.ensures.start ∙ c.cur_start-start.ensures) c.end_span-span-2.ensures.end c.in_ok-node-3.ensures _ _ _ c.initialised_form.ensures c.name_stands-is_name.ensures
+    value_answers a x (through_so c.binding_pattern.new.p c.if-goes_through.false c.goes_through.ensures) (c.at-2.ensures.0 c.if-not-at.false) m _ (c.in_ok-initialiser.ensures text f m.at) (c.end_span-span-2.ensures.start ∙ c.cur_start-start.ensures) c.end_span-span-2.ensures.end c.in_ok-node-3.ensures _ _ _ c.initialised_form.ensures c.name_stands-is_name.ensures
