@@ -89,7 +89,11 @@ fn parse_super_property<C: ParserConfig, N: Nested<C>>(
 }
 
 /// Whether what was read is the word `super` alone, by whether this word began it.
-pub(crate) fn is_super_alone<C: ParserConfig>(p: &ParserImpl<'_, C>, begins: bool, callee: NodeId) -> bool
+pub(crate) fn is_super_alone<C: ParserConfig>(
+    p: &ParserImpl<'_, C>,
+    begins: bool,
+    callee: NodeId,
+) -> bool
     requires { callee.0 < length p.now.nodes }
     ensures { result ≡ (begins && is_super_word (kind_of (node_at p.now.nodes callee).kind)) }
 {

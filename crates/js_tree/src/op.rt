@@ -1,6 +1,5 @@
 //! What tells nodes of one kind apart: operators, words and bases.
 
-
 use js_base::{AssignmentOperator, BinaryOperator, LogicalOperator, UnaryOperator, UpdateOperator};
 
 /// The operator of a node, its word, or how its number is written.
