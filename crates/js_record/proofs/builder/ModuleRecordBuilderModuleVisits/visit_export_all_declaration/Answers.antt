@@ -1,7 +1,7 @@
 use Rattle.std.proofs.Common.{[], ◌∷◌, ◌++◌, ap, ◌∙◌}
 use Rattle.js_record.proofs.ResultLemmas.{on_ok}
 use Rattle.js_record.proofs.TreeLemmas.{read_near, export_all_is}
-use Rattle.js_visits.proofs.builder.ModuleRecordBuilderModuleVisits.visit_export_all_declaration.Goals as goal
+use Rattle.js_record.proofs.builder.ModuleRecordBuilderModuleVisits.visit_export_all_declaration.Goals as goal
 
 pub export_all_part-requires-clause-near : goal.export_all_part-requires-clause-near
 export_all_part-requires-clause-near c = read_near c.args.tree.now c.args.source.now c.args.id c.requires

@@ -1,7 +1,7 @@
 use Rattle.std.proofs.Common.{[], ◌∷◌, ◌++◌, ap, ◌∙◌}
 use Rattle.js_record.proofs.ResultLemmas.{on_ok}
 use Rattle.js_record.proofs.TreeLemmas.{read_deep, export_from_is}
-use Rattle.js_visits.proofs.builder.ModuleRecordBuilderModuleVisits.visit_export_from_declaration.Goals as goal
+use Rattle.js_record.proofs.builder.ModuleRecordBuilderModuleVisits.visit_export_from_declaration.Goals as goal
 
 pub export_from_part-requires-clause-deep : goal.export_from_part-requires-clause-deep
 export_from_part-requires-clause-deep c = read_deep c.args.tree.now c.args.source.now c.args.id c.requires

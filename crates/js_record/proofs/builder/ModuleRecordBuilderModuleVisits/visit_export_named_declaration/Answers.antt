@@ -1,7 +1,7 @@
 use Rattle.std.proofs.Common.{[], ◌∷◌, ◌++◌, ap, ◌∙◌}
 use Rattle.js_record.proofs.ResultLemmas.{on_ok}
 use Rattle.js_record.proofs.TreeLemmas.{read_deep, export_named_is}
-use Rattle.js_visits.proofs.builder.ModuleRecordBuilderModuleVisits.visit_export_named_declaration.Goals as goal
+use Rattle.js_record.proofs.builder.ModuleRecordBuilderModuleVisits.visit_export_named_declaration.Goals as goal
 
 pub export_named_part-requires-clause-deep : goal.export_named_part-requires-clause-deep
 export_named_part-requires-clause-deep c = read_deep c.args.tree.now c.args.source.now c.args.id c.requires

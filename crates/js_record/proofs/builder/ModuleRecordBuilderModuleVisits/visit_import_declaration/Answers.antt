@@ -1,7 +1,7 @@
 use Rattle.std.proofs.Common.{[], ◌∷◌, ◌++◌, ap, ◌∙◌}
 use Rattle.js_record.proofs.ResultLemmas.{on_ok}
 use Rattle.js_record.proofs.TreeLemmas.{read_deep, import_part_is}
-use Rattle.js_visits.proofs.builder.ModuleRecordBuilderModuleVisits.visit_import_declaration.Goals as goal
+use Rattle.js_record.proofs.builder.ModuleRecordBuilderModuleVisits.visit_import_declaration.Goals as goal
 
 pub import_part-requires-clause-deep : goal.import_part-requires-clause-deep
 import_part-requires-clause-deep c = read_deep c.args.tree.now c.args.source.now c.args.id c.requires

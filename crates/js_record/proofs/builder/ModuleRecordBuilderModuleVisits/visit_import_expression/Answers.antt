@@ -1,7 +1,7 @@
 use Rattle.std.proofs.Common.{[], ◌∷◌, ◌++◌, ap, ◌∙◌}
 use Rattle.js_record.proofs.ResultLemmas.{on_ok}
 use Rattle.js_record.proofs.TreeLemmas.{tree_below, import_call_is}
-use Rattle.js_visits.proofs.builder.ModuleRecordBuilderModuleVisits.visit_import_expression.Goals as goal
+use Rattle.js_record.proofs.builder.ModuleRecordBuilderModuleVisits.visit_import_expression.Goals as goal
 
 pub import_call_part-requires-clause-children : goal.import_call_part-requires-clause-children
 import_call_part-requires-clause-children c = tree_below c.args.tree.now c.args.id c.requires
