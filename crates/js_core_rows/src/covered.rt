@@ -8,6 +8,7 @@ ghost use Rattle.js_parsing_laws.specs.States.{Standing};
 use crate::called::Answer;
 use js_base::Kind;
 use js_core::{Parser, parse_assignment_expression_or_higher};
+use js_covers::grammar::CoverGrammar;
 use js_covers::ids::{
     ArrayAssignmentTargetId, ArrayExpressionId, AssignmentExpressionId, AssignmentTargetId,
     AssignmentTargetMaybeDefaultId, AssignmentTargetPropertyId, AssignmentTargetWithDefaultId,
