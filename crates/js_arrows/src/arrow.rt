@@ -309,6 +309,7 @@ fn parse_certain_head<C: ParserConfig, N: Patterns<C>>(
 }
 
 /// FormalParameters in parentheses, behind `async` or not, where `=>` stands behind them and no operand stands: an attempt.
+/// Where something was told of them that no operand stands is noted, so that it isn't looked up again when they are.
 #[inline(never)]
 fn attempt_head<C: ParserConfig, N: Patterns<C>>(
     p: &mut ParserImpl<'_, C>,
@@ -325,6 +326,9 @@ fn attempt_head<C: ParserConfig, N: Patterns<C>>(
     let here = p.checkpoint()?;
     if let Some(parameters) = try_parse_head(p, nested, is_async)? {
         if excludes_operand(p, place, kept)? {
+            if kept_so_far(p) != kept {
+                p.note_operand_failed(place)?;
+            }
             return Ok(Some(parameters));
         }
         let is_told = kept_so_far(p) != kept;

@@ -10,10 +10,11 @@ use Rattle.js_cursor.specs.Places.{IsAt}
 use Rattle.js_cursor.proofs.Changing.{noted_on, operand_noted_on}
 use Rattle.js_cursor.proofs.Noting.{noted_step}
 use Rattle.js_expression_laws.specs.Arrows.{NoParametersHere, OnlyArrowHere, Unmoved}
+use Rattle.js_expression_laws.proofs.Arrows.{unmoved}
 use Rattle.js_parsing_laws.proofs.ToEnd.{to_end_stays}
 use Rattle.js_parsing_laws.specs.Heads.{NoHead, NotedHeads, OnlyArrow, flags_in, widened}
 use Rattle.js_parsing_laws.specs.Lexemes.{spot}
-use Rattle.js_parsing_laws.specs.States.{At, IsPlain, Standing, flags_of, whole, sign, nothing as none_stands, SpansLie}
+use Rattle.js_parsing_laws.specs.States.{At, IsPlain, Same, Standing, flags_of, whole, sign, nothing as none_stands, SpansLie}
 use Rattle.js_tree.specs.Holding.{Keeps}
 use Rattle.js_tree.specs.Nodes.{Node}
 use Rattle.js_parsing_laws.proofs.Moving.{flags_same, same_both, standing, standing_for}
@@ -34,9 +35,9 @@ noted_operand {text} {f} {q} {place} a w h = subst (λ (g : Flags). OnlyArrow te
 pub noted_so : {p q : Parser} {place : ℕ} → Standing p → place ≡ p.prev_token_end → NoParametersHere p → NotesArrow place p q → NotedHeads q
 noted_so {p} {q} {place} a i n h = subst NotedHeads (sym h.is) (λ w. noted_step (λ c s. NoHead p.text (widened w (flags_in p c)) s) h.noted.failed (subst (λ (v : ℕ). NoHead p.text (widened w (flags_of p)) v) (sym i) (n _ _ (standing_for a refl refl))) (a.heads.0 w), λ w c s b k. a.heads.1 w c s b (subst (λ (v : List ℕ). is_noted v c s ≡ true) h.noted.operands k))
 
--- the same of operands
-pub operand_noted_so : {p q : Parser} {place : ℕ} → Standing p → place ≡ p.prev_token_end → OnlyArrowHere p → NotesNoOperand place p q → NotedHeads q
-operand_noted_so {p} {q} {place} a i n h = subst NotedHeads (sym h.is) (λ w c s b k. a.heads.0 w c s b (subst (λ (v : List ℕ). is_noted v c s ≡ true) h.noted.failed k), λ w. noted_step (λ c s. OnlyArrow p.text (widened w (flags_in p c)) s) h.noted.operands (subst (λ (v : ℕ). OnlyArrow p.text (widened w (flags_of p)) v) (sym i) (n _ _ (standing_for a refl refl))) (a.heads.1 w))
+-- the same of operands, at any place
+operand_noted_at : {p q : Parser} {place : ℕ} → Standing p → ((text : List ℕ) (f : Flags) → At text f p → OnlyArrow text f place) → NotesNoOperand place p q → NotedHeads q
+operand_noted_at {p} {q} a n h = subst NotedHeads (sym h.is) (λ w c s b k. a.heads.0 w c s b (subst (λ (v : List ℕ). is_noted v c s ≡ true) h.noted.failed k), λ w. noted_step (λ c s. OnlyArrow p.text (widened w (flags_in p c)) s) h.noted.operands (n _ _ (standing_for a refl refl)) (a.heads.1 w))
 
 plain_of : {text : List ℕ} {p : Parser} (ns : Notes) → IsPlain text p → IsPlain text (record p { state = ns })
 plain_of ns (whole c n x) = whole c n x
@@ -68,4 +69,8 @@ pub noted_here : {p r q : Parser} {place : ℕ} → Standing p → Unmoved p r �
 noted_here {p} {r} {q} {place} a u n i h = state_noted u h.is (noted_on (u.at _ _ a).at h) (λ text f b. noted_so (standing b) (i ∙ sym u.place) (there_too NoHead a u n) h)
 
 pub operand_noted_here : {p r q : Parser} {place : ℕ} → Standing p → Unmoved p r → OnlyArrowHere p → place ≡ p.prev_token_end → NotesNoOperand place r q → Unmoved p q
-operand_noted_here {p} {r} {q} {place} a u n i h = state_noted u h.is (operand_noted_on (u.at _ _ a).at h) (λ text f b. operand_noted_so (standing b) (i ∙ sym u.place) (there_too OnlyArrow a u n) h)
+operand_noted_here {p} {r} {q} {place} a u n i h = state_noted u h.is (operand_noted_on (u.at _ _ a).at h) (λ text f b. operand_noted_at (standing b) (λ t g c. subst (λ (v : ℕ). OnlyArrow t g v) (sym (i ∙ sym u.place)) (there_too OnlyArrow a u n t g c)) h)
+
+-- noted of a place from which the parser went on
+pub operand_noted_behind : {p q r : Parser} {place : ℕ} → Standing p → Standing q → Same p q → OnlyArrowHere p → place ≡ p.prev_token_end → NotesNoOperand place q r → Unmoved q r
+operand_noted_behind {p} {q} {r} {place} a b s n i h = state_noted (unmoved refl) h.is (operand_noted_on b.at h) (λ text f c. operand_noted_at (standing c) (λ t g d. subst (λ (v : ℕ). OnlyArrow t g v) (sym i) (n t g (standing_for a (sym s.follows.text ∙ d.text_is) (sym (flags_same p q s.ctx s.follows.source_type s.options) ∙ d.flags_are)))) h)

@@ -18,7 +18,7 @@ use Rattle.js_grammar.specs.Table.{rule, args}
 use Rattle.js_grammar.proofs.Calculus.{ends, here_at}
 use Rattle.js_tree.specs.declared.id.NodeId.{NodeId}
 use Rattle.js_tree.proofs.HoldingLemmas.{Holds-wider, Keeps-longer, Keeps-trans}
-use Rattle.js_cursor.specs.Moves.{OnlyMemory}
+use Rattle.js_cursor.specs.Moves.{NotesNoOperand, OnlyMemory}
 use Rattle.js_cursor.specs.Notes.{is_noted}
 use Rattle.js_cursor.specs.Parsers.{Parser}
 use Rattle.js_cursor.specs.declared.stop.Stop.{Stop}
@@ -27,7 +27,7 @@ use Rattle.js_parsing_laws.specs.Answers.{Grown, Refuses, Stops, Stretch, Underi
 use Rattle.js_parsing_laws.specs.Arguments.{Arguments, NoArguments, Partway, item_of, list_of}
 use Rattle.js_parsing_laws.specs.Heads.{NoHead, OnlyArrow}
 use Rattle.js_parsing_laws.specs.Lexemes.{Lex}
-use Rattle.js_parsing_laws.specs.States.{At, Standing}
+use Rattle.js_parsing_laws.specs.States.{At, Same, Standing}
 use Rattle.js_parsing_laws.proofs.Here.{kind_here}
 use Rattle.js_parsing_laws.proofs.Moving.{same_both, standing}
 use Rattle.js_parsing_laws.proofs.Paths.{walked_from}
@@ -38,7 +38,7 @@ use Rattle.js_targets.proofs.ArraysBeforeSigns.{is_cover}
 use Rattle.js_expression_laws.specs.Arrows.{ArgumentsTold, AttemptsHead, FindsHead, Head, HeadDerived, HeadRead, HeadStands, NeverArrow, read_clean, read_unclean, IsHeadRead, NoHeadHere, NoLine, NoSlash, OnlyArrowHere, OperandExcluded, PlainHead, a_head, told_head, SlashFound, ToldHead, TriesHead, Unmoved, WentOn, head_of}
 use Rattle.js_expression_laws.proofs.Arrows.{arrow_is_here, closed_arrow, head_derived, head_only_arrow, no_head_no_line, no_yield_paren, plain_head_flags, quiet_behind, start_between, unassigned}
 use Rattle.js_expression_laws.proofs.HeadsAsArguments.{params_as_arguments}
-use Rattle.js_expression_laws.proofs.NotedHeads.{noted_operand, there_too}
+use Rattle.js_expression_laws.proofs.NotedHeads.{noted_operand, operand_noted_behind, there_too}
 use Rattle.js_expression_laws.proofs.ParenthesizedFronts.{no_operand_before}
 use Rattle.js_expression_laws.proofs.SlashesInText.{all_calm}
 use Rattle.js_parsing_laws.specs.Contexts.{arrow_head}
@@ -151,6 +151,22 @@ head_settled {p} {q} {id} b place kept n i x o = λ text f a. by a (x.1 text f a
     by {text} a h (inr (inl c)) = closed_arrow (subst (λ (v : ℕ). ArrowBehindOne text v) i (subst (λ (t : List ℕ). ArrowBehindOne t place) (read_at h).text_is c))
     by {text} a (read_clean h) (inr (inr s)) = slashless a h x.0 (subst (λ (t : List ℕ). NoSlash t p.prev_token_end q.token.span.start) h.at.text_is (subst (λ (v : ℕ). NoSlash q.text v q.token.span.start) i s.1))
     by a (read_unclean t m) (inr (inr s)) = absurd (longer t.grown (sym (s.0 ∙ n)))
+
+-- a head that was read stands where it is noted that behind arguments there `=>` stands
+pub head_noted : {p q r : Parser} {id : NodeId} {place : ℕ} (b : Bool) → Standing p → place ≡ p.prev_token_end → IsHeadRead b p q id → OnlyArrowHere p → NotesNoOperand place q r → IsHeadRead b p r id
+head_noted {p} {q} {r} {id} {place} b a i x n h = (ap (λ (z : Parser). z.token.kind) h.is ∙ x.0, λ text f c. subst (λ (z : Parser). HeadRead text f (arrow_head b f) p z id) (sym h.is) (by (x.1 text f c)))
+  where
+    q' : Parser
+    q' = record q { state = r.state }
+    unmoved_by : {text : List ℕ} {f : Flags} → At text f q → Same p q → Unmoved q q'
+    unmoved_by c s = subst (Unmoved q) h.is (operand_noted_behind a (standing c) s n i h)
+    by : {text : List ℕ} {f g : Flags} → HeadRead text f g p q id → HeadRead text f g p q' id
+    by {text} {f} (read_clean y) =
+        let u = unmoved_by y.at y.same in
+        read_clean (record { at = u.at text f y.at; same = same_both y.same u.same; further = y.further; quiet = y.quiet; label = y.label; slots = y.slots; pass = y.pass; walked = y.walked; read = y.read; holds = y.holds; keeps = y.keeps })
+    by {text} {f} (read_unclean y m) =
+        let u = unmoved_by y.at y.same in
+        read_unclean (record { at = u.at text f y.at; same = same_both y.same u.same; further = y.further; grown = y.grown; label = y.label; slots = y.slots; pass = y.pass; walked = y.walked; holds = y.holds; keeps = y.keeps }) m
 
 -- by arguments that stand before `=>`, no operand is derived
 only_no_operand : {text : List ℕ} {f : Flags} {p : Parser} → p.token.kind ≡ LParen → At text f p → OnlyArrow text f p.prev_token_end → Underived text (at Short f) p.prev_token_end
