@@ -4,7 +4,7 @@ use Rattle.js_cursor.proofs.Changing.{may_return}
 use Rattle.js_parsing_laws.proofs.Moving.{standing}
 use Rattle.js_parsing_laws.proofs.Nesting.{later_room, nests_later}
 use Rattle.js_expression_laws.proofs.Arrows.{went_back}
-use Rattle.js_expression_laws.proofs.SlashedHeads.{attempts_there, excluded_so, head_between, head_settled, head_stands, head_went_on, none_told, none_tried, some_tried, stands_there, stood_here}
+use Rattle.js_expression_laws.proofs.SlashedHeads.{attempts_there, excluded_so, head_between, head_noted, head_settled, head_stands, head_went_on, none_told, none_tried, some_tried, stands_there, stood_here}
 use Rattle.js_arrows.proofs.arrow.attempt_head.Goals as goal
 
 pub excludes_operand-requires-clause-at : goal.excludes_operand-requires-clause-at
@@ -13,8 +13,17 @@ excludes_operand-requires-clause-at g c = head_stands c.args.is_async c.requires
 pub excludes_operand-requires-clause-between : goal.excludes_operand-requires-clause-between
 excludes_operand-requires-clause-between g c = head_between c.args.is_async c.requires.at (some_tried c.args.is_async _ _ c.try_parse_head.new.p _ _ c.in_ok-here.ensures.same c.in-Some.is c.in_ok-parameters.ensures) c.prev_token_end-place.ensures
 
-pub returns-then-branch : goal.returns-then-branch
-returns-then-branch g c =
+pub note_operand_failed-requires : goal.note_operand_failed-requires
+note_operand_failed-requires g c = (head_stands c.args.is_async c.requires.at (some_tried c.args.is_async _ _ c.try_parse_head.new.p _ _ c.in_ok-here.ensures.same c.in-Some.is c.in_ok-parameters.ensures)).at
+
+pub returns-in_ok-note_operand_failed : goal.returns-in_ok-note_operand_failed
+returns-in_ok-note_operand_failed g c =
+    let x = some_tried c.args.is_async _ _ c.try_parse_head.new.p _ _ c.in_ok-here.ensures.same c.in-Some.is c.in_ok-parameters.ensures in
+    let n = head_settled c.args.is_async _ _ c.kept_so_far-kept.ensures c.prev_token_end-place.ensures x (excluded_so _ _ c.try_parse_head.new.p c.if-branch.true c.in_ok-excludes_operand.ensures) in
+    (head_noted c.args.is_async c.requires.at c.prev_token_end-place.ensures x n c.in_ok-note_operand_failed.ensures.ok, n)
+
+pub returns-else-kept_so_far-kept : goal.returns-else-kept_so_far-kept
+returns-else-kept_so_far-kept g c =
     let x = some_tried c.args.is_async _ _ c.try_parse_head.new.p _ _ c.in_ok-here.ensures.same c.in-Some.is c.in_ok-parameters.ensures in
     (x, head_settled c.args.is_async _ _ c.kept_so_far-kept.ensures c.prev_token_end-place.ensures x (excluded_so _ _ c.try_parse_head.new.p c.if-branch.true c.in_ok-excludes_operand.ensures))
 
@@ -44,7 +53,7 @@ pub attempt_head_again-requires-clause-stood : goal.attempt_head_again-requires-
 attempt_head_again-requires-clause-stood g c = λ n.
     let x = some_tried c.args.is_async _ _ c.try_parse_head.new.p _ _ c.in_ok-here.ensures.same c.in-Some.is c.in_ok-parameters.ensures in
     let w = went_back (ap may_be_read_again c.requires.open) c.in_ok-here.ensures.remembers (head_went_on c.args.is_async c.requires.at x) c.rewind.ensures in
-    stands_there c.args.is_async c.requires.at w (stood_here c.args.is_async c.requires.open x (sym c.kept_so_far.ensures ∙ (none_told _ _ n ∙ c.kept_so_far-kept.ensures)))
+    stands_there c.args.is_async c.requires.at w (stood_here c.args.is_async c.requires.open x (sym c.kept_so_far-in-Some.ensures ∙ (none_told _ _ n ∙ c.kept_so_far-kept.ensures)))
 
 pub returns-in-Some : goal.returns-in-Some
 returns-in-Some g c =
