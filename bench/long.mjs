@@ -1,8 +1,9 @@
 // No text is slow: makes long texts of one form each, 6 and 12 megabytes, runs the lexer over both, and prints how many
 // times the time twice the text takes. It fails where that is more than 2.3.
 //   node bench/long.mjs [MEGABYTES [WORD]]
-// With a word it takes the forms alone whose names have it.
-import { execFileSync } from 'node:child_process'
+// With a word it takes the forms alone whose names have it. Then it has the whole program read small texts that nest, each
+// in the seconds that stand beside it.
+import { execFileSync, spawnSync } from 'node:child_process'
 import { existsSync, openSync, closeSync, writeFileSync, mkdtempSync, rmSync } from 'node:fs'
 import { dirname, join } from 'node:path'
 import { tmpdir } from 'node:os'
@@ -139,6 +140,27 @@ for (const [name, form] of asked) {
   console.log(`${ratio.toFixed(2).padStart(6)} times at twice the text, ${(bytes / once).toFixed(0).padStart(4)} MB a second: ${name}`)
   most = Math.max(most, ratio)
   if (ratio > 2.3) slow.push(name)
+}
+
+// Heads of arrow functions that are read in vain, around heads of which something is told: each of the latter is looked at
+// anew for each of the former, but for what is noted.
+const told = (vain, heads, items) =>
+  '(a='.repeat(vain) + '(b='.repeat(heads) + '[[...x,]=y' + ',1'.repeat(items) + ']' + ')=>0'.repeat(heads) + ')'.repeat(vain)
+const nested = {
+  'told heads in heads in vain': [told(400, 400, 2000), 1],
+  'the same, more heads in vain': [told(800, 200, 2000), 1],
+}
+for (const [name, [text, seconds]] of Object.entries(nested)) {
+  if (!name.includes(process.argv[3] ?? '')) continue
+  const file = join(folder, 'nested.js')
+  writeFileSync(file, text)
+  const input = openSync(file, 'r')
+  const began = process.hrtime.bigint()
+  const { status } = spawnSync(join(here, '../jsparse'), ['--goal', 'script'], { stdio: [input, 'ignore', 'inherit'] })
+  const took = Number(process.hrtime.bigint() - began) / 1e9
+  closeSync(input)
+  console.log(`${took.toFixed(2).padStart(6)} seconds for ${text.length} bytes, status ${status}: ${name}`)
+  if (took > seconds || status !== 1) slow.push(name)
 }
 rmSync(folder, { recursive: true })
 console.log(`${asked.length} forms, ${most.toFixed(2)} times at most${slow.length ? ', too slow: ' + slow.join(', ') : ''}`)
