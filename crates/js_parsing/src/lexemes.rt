@@ -7,7 +7,7 @@ ghost use Rattle.js_parsing_laws.specs.Answers.{StopsUnbuilt};
 ghost use Rattle.js_parsing_laws.specs.States.{Standing};
 ghost use Rattle.js_base.specs.Contexts.{has_flag, in_flag, yield_flag, await_flag};
 ghost use Rattle.js_base.specs.Kinds.{one_of_kinds};
-ghost use Rattle.js_parsing_laws.specs.Lexemes.{escaped_word, keyword_kind, may_name, name_kinds, read_kinds, read_mark, read_operator, read_reserved, read_word, unbuilt_kinds};
+ghost use Rattle.js_parsing_laws.specs.Lexemes.{escaped_word, keyword_kind, may_name, name_kinds, read_kinds, read_reserved, read_word, unbuilt_kinds};
 ghost use Rattle.js_parsing_laws.specs.Stands.{EndsOperand, NameHere, NameUnder, ReadsHere, StandsHere};
 ghost use Rattle.js_parsing_laws.specs.Operators.{power_of};
 ghost use Rattle.js_parsing_laws.specs.Moves.{IsCompleted, IsWholeHere, Moves, OperatorHere};
@@ -245,82 +245,14 @@ pub fn ends_operand<C: ParserConfig>(p: &mut ParserImpl<'_, C>) -> Result<bool, 
     }
 }
 
-/// Whether it is an operator between two operands that is read, and no word.
-fn is_read_operator(kind: Kind) -> bool
-    ensures { result ≡ read_operator kind }
-{
-    matches!(
-        kind,
-        Kind::Question2
-            | Kind::Plus
-            | Kind::Minus
-            | Kind::Star
-            | Kind::Star2
-            | Kind::Slash
-            | Kind::Percent
-            | Kind::Eq2
-            | Kind::Eq3
-            | Kind::Neq
-            | Kind::Neq2
-            | Kind::LAngle
-            | Kind::LtEq
-            | Kind::RAngle
-            | Kind::GtEq
-            | Kind::ShiftLeft
-            | Kind::ShiftRight
-            | Kind::ShiftRight3
-            | Kind::Amp
-            | Kind::Amp2
-            | Kind::Pipe
-            | Kind::Pipe2
-            | Kind::Caret
-    )
-}
-
-/// Whether it is another sign that is read, a string, a regular expression, a part of a template or the end of the
-/// text; no operator of an assignment.
-fn is_read_mark(kind: Kind) -> bool
-    ensures { result ≡ read_mark kind }
-{
-    matches!(
-        kind,
-        Kind::Eof
-            | Kind::Str
-            | Kind::RegExp
-            | Kind::NoSubstitutionTemplate
-            | Kind::TemplateHead
-            | Kind::TemplateMiddle
-            | Kind::TemplateTail
-            | Kind::Bang
-            | Kind::Tilde
-            | Kind::Plus2
-            | Kind::Minus2
-            | Kind::Question
-            | Kind::Colon
-            | Kind::Comma
-            | Kind::Dot
-            | Kind::QuestionDot
-            | Kind::Semicolon
-            | Kind::LParen
-            | Kind::RParen
-            | Kind::LBrack
-            | Kind::RBrack
-            | Kind::LCurly
-            | Kind::RCurly
-            | Kind::Dot3
-            | Kind::Arrow
-    )
-}
-
-/// Whether it is a lexeme that is read.
+/// Whether it is a lexeme that is read: any but `@`, a private name, a hashbang comment and what is none.
 fn is_read_kind(kind: Kind) -> bool
     ensures { result ≡ one_of_kinds read_kinds kind }
 {
-    is_read_word(kind)
-        || kind.is_number()
-        || kind.is_assignment_operator()
-        || is_read_operator(kind)
-        || is_read_mark(kind)
+    !matches!(
+        kind,
+        Kind::At | Kind::PrivateIdentifier | Kind::HashbangComment | Kind::Undetermined
+    )
 }
 
 /// Whether a lexeme that is read stands here.

@@ -7,8 +7,8 @@ use Rattle.js_tree.specs.Holding.{Holds, HoldsAll, Keeps}
 use Rattle.js_tree.proofs.HoldingLemmas.{HoldsAll-none, HoldsAll-one, HoldsAll-two, Made-holds, Keeps-longer}
 use Rattle.js_cursor.specs.Parsers.{Parser}
 use Rattle.js_parsing_laws.specs.Moves.{MadeHere, plain_label}
-use Rattle.std.proofs.Common.{false}
-use Rattle.std.specs.Prelude.{Result, Ok, Err, IfOk, None, chars}
+use Rattle.std.proofs.Common.{Bool, true, false}
+use Rattle.std.specs.Prelude.{Result, Ok, Err, IfOk, None, chars, slice_range}
 use Rattle.js_memory.specs.declared.no_memory.NoMemory.{NoMemory}
 use Rattle.js_base.specs.declared.span.Span.{Span}
 use Rattle.js_tree.specs.declared.flags.NodeFlags.{NodeFlags}
@@ -18,7 +18,9 @@ use Rattle.js_tree.specs.Holding.{Makes}
 use Rattle.js_tree.specs.Labels.{kind_of, op_of, number_of}
 use Rattle.js_tree.specs.Nodes.{new_node}
 use Rattle.js_tree.specs.Sources.{text_of}
-use Rattle.js_parsing_laws.specs.NodeTexts.{is_textual}
+use Rattle.js_parsing_laws.specs.NodeTexts.{IsKept, Texted, TextedAs, is_name_node, is_textual, spelled_at}
+use Rattle.js_base.specs.declared.token.Token.{Token}
+use Rattle.js_tree.specs.declared.op.Op.TheVariants as op
 use Rattle.js_parsing_laws.proofs.NodeTexts.{untextual}
 use Rattle.std.proofs.Common.{◌≡◌, refl}
 use Rattle.std.specs.Prelude.{get_or, IsCharBoundary}
@@ -74,17 +76,25 @@ made_lies {l = l} s i w n e = λ b h. one_lies n (from_start l s i w e b) h
 
 -- ---- made without flags
 
-made_of : (v : Parser) (ms : List Node) (k : NodeKind) (s : Span) (o : Op) (f : NodeFlags) (ids : List (Option NodeId)) (r : Result NodeId NoMemory) → number_of f ≡ 0 → is_textual k ≡ false → Makes (new_node k s o f None ids) v.nodes ms r → IfOk r (λ id. MadeHere (plain_label k o s) ids v (record v { nodes = ms }) id)
-made_of v ms k s o f ids (Ok id) n p m = record {
-  node = new_node k s o f None ids;
+made_of : (v : Parser) (ms : List Node) (k : NodeKind) (s : Span) (o : Op) (f : NodeFlags) (name : Option (List ℕ)) (ids : List (Option NodeId)) (r : Result NodeId NoMemory) → number_of f ≡ 0 → Texted k name (chars (text_of (new_node k s o f name ids) v.text)) → Makes (new_node k s o f name ids) v.nodes ms r → IfOk r (λ id. MadeHere (plain_label k o s) ids v (record v { nodes = ms }) id)
+made_of v ms k s o f name ids (Ok id) n t m = record {
+  node = new_node k s o f name ids;
   made = m;
   label_is = λ i. record { kind = kind_of k; op = op_of o; flags = n i; span = record { from = s.start; to = s.end } };
   children = refl;
-  texted = untextual k None (chars (text_of (new_node k s o f None ids) v.text)) p;
+  texted = t;
   stays = refl;
 }
-made_of v ms k s o f ids (Err x) n p m = tt
+made_of v ms k s o f name ids (Err x) n t m = tt
 
 -- in a state that is seen so
 pub made_seen : {u v : Parser} → v ≡ u → (ms : List Node) (k : NodeKind) (s : Span) (o : Op) (f : NodeFlags) (ids : List (Option NodeId)) (r : Result NodeId NoMemory) → number_of f ≡ 0 → is_textual k ≡ false → Makes (new_node k s o f None ids) v.nodes ms r → IfOk r (λ id. MadeHere (plain_label k o s) ids u (record v { nodes = ms }) id)
-made_seen {v = v} h ms k s o f ids r n p m = subst (λ (x : Parser). IfOk r (λ id. MadeHere (plain_label k o s) ids x (record v { nodes = ms }) id)) h (made_of v ms k s o f ids r n p m)
+made_seen {v = v} h ms k s o f ids r n p m = subst (λ (x : Parser). IfOk r (λ id. MadeHere (plain_label k o s) ids x (record v { nodes = ms }) id)) h (made_of v ms k s o f None ids r n (untextual k None (chars (text_of (new_node k s o f None ids) v.text)) p) m)
+
+-- the same of a node that keeps what the text asks for
+pub texted_seen : {u v : Parser} → v ≡ u → (ms : List Node) (k : NodeKind) (s : Span) (o : Op) (f : NodeFlags) (name : Option (List ℕ)) (r : Result NodeId NoMemory) → number_of f ≡ 0 → Texted k name (chars (slice_range u.text s.start s.end)) → Makes (new_node k s o f name []) v.nodes ms r → IfOk r (λ id. MadeHere (plain_label k o s) [] u (record v { nodes = ms }) id)
+texted_seen {v = v} h ms k s o f name r n t m = subst (λ (x : Parser). Texted k name (chars (slice_range x.text s.start s.end)) → IfOk r (λ id. MadeHere (plain_label k o s) [] x (record v { nodes = ms }) id)) h (λ y. made_of v ms k s o f name [] r n y m) t
+
+-- a name, by its token
+pub name_seen : {u v : Parser} → v ≡ u → (ms : List Node) (k : NodeKind) (t : Token) {s : Span} → s ≡ t.span → (f : NodeFlags) (name : Option (List ℕ)) (r : Result NodeId NoMemory) → number_of f ≡ 0 → is_name_node k ≡ true → IsKept name (spelled_at u.text t) → Makes (new_node k s op.None f name []) v.nodes ms r → IfOk r (λ id. MadeHere (plain_label k op.None t.span) [] u (record v { nodes = ms }) id)
+name_seen {u} {v} h ms k t e f name r n i p m = texted_seen h ms k t.span op.None f name r n (subst (λ (b : Bool). TextedAs b (is_textual k) name (spelled_at u.text t)) (sym i) p) (subst (λ (x : Span). Makes (new_node k x op.None f name []) v.nodes ms r) e m)
