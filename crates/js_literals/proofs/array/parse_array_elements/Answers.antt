@@ -1,11 +1,12 @@
-use Rattle.std.proofs.Common.{◌≡◌, arith}
+use Rattle.std.proofs.Common.{ap, arith, ◌∙◌}
+use Rattle.js_base.specs.declared.token.Token.{Token}
 use Rattle.std.proofs.lemmas.Result.{err_from_is_err_and}
 use Rattle.js_operand_laws.proofs.Arrays.{element_less, loop_element, loop_end, loop_start, loop_stops}
 use Rattle.js_parsing_laws.proofs.Nesting.{nests_later}
 use Rattle.js_literals.proofs.array.parse_array_elements.Goals as goal
 
 pub elements-init : goal.elements-init
-elements-init g c = loop_start c.new-elements.ensures.items (let e : c.span-opening.result ≡ c.args.p.now.token.span = search in e) c.requires.at c.requires.open c.in_ok-advance.ensures
+elements-init g c = loop_start c.new-elements.ensures.items (c.span-opening.ensures ∙ ap (λ (t : Token). t.span) c.cur_token.ensures) c.requires.at c.requires.open c.in_ok-advance.ensures
 
 pub parse_array_element-requires-clause-at : goal.parse_array_element-requires-clause-at
 parse_array_element-requires-clause-at g c = c.elements.invariant.at

@@ -1,11 +1,12 @@
-use Rattle.std.proofs.Common.{◌≡◌, arith}
+use Rattle.std.proofs.Common.{ap, arith, ◌∙◌}
+use Rattle.js_base.specs.declared.token.Token.{Token}
 use Rattle.std.proofs.lemmas.Result.{err_from_is_err_and}
 use Rattle.js_operand_laws.proofs.PropertyLists.{property_less, loop_property, loop_end, loop_start, loop_stops}
 use Rattle.js_parsing_laws.proofs.Nesting.{nests_later}
 use Rattle.js_literals.proofs.object.parse_properties.Goals as goal
 
 pub properties-init : goal.properties-init
-properties-init g c = loop_start c.new-properties.ensures.items (let e : c.span-opening.result ≡ c.args.p.now.token.span = search in e) c.requires.at c.requires.open c.in_ok-advance.ensures
+properties-init g c = loop_start c.new-properties.ensures.items (c.span-opening.ensures ∙ ap (λ (t : Token). t.span) c.cur_token.ensures) c.requires.at c.requires.open c.in_ok-advance.ensures
 
 pub parse_listed_property-requires-clause-at : goal.parse_listed_property-requires-clause-at
 parse_listed_property-requires-clause-at g c = c.properties.invariant.at
