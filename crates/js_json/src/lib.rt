@@ -1,0 +1,10 @@
+//! A JSON form of trees, for tools in other languages.
+#![tactic(auto)]
+
+mod export;
+mod node;
+
+pub use export::{MAX_LEVELS, tree_json};
+
+#[cfg(test)]
+mod tests;
