@@ -1,10 +1,8 @@
 //! Rows of texts, trees of them made by hand, and their compact JSON text.
 
-ghost use Rattle.std.specs.Prelude.{◌≡◌, ◌<◌, length, IsTrue, Some, chars};
+ghost use Rattle.std.specs.Prelude.{◌≡◌, ◌<◌, length, codes, IsTrue};
 ghost use Rattle.std.specs.List.{All};
 ghost use Rattle.js_base.specs.Spans.{LiesIn};
-ghost use Rattle.js_text.specs.Decoding.{name_text};
-ghost use Rattle.js_grammar.specs.NodeNames.{without_sign};
 ghost use Rattle.js_tree.specs.Nodes.{node_at};
 ghost use Rattle.js_json.specs.Sources.{IsFrom};
 
@@ -107,16 +105,35 @@ fn built(alloc: Global, steps: &[Step], end: u32, times: usize) -> Result<Tree, 
     builder.finish(Span { start: 0, end }, children)
 }
 
-/// Whether a node is from this text, as far as these rows go: a name in it is `a`.
+/// Whether a span lies in a text of ASCII, whose characters no span splits.
+fn lies_in(source: &str, span: Span) -> bool
+    ensures { IsTrue result → LiesIn span source.now }
+{
+    source.is_ascii() && span.start <= span.end && span.end as usize <= source.len()
+}
+
+/// Whether a text is the name of the rows.
+fn is_name_of_rows(text: &str) -> bool
+    ensures { IsTrue result → text.now ≡ codes "a" }
+{
+    text == "a"
+}
+
+/// Whether a node is from this text, as far as these rows go.
 fn is_from(tree: &Tree, id: NodeId, source: &str) -> bool
     requires { id.0 < length tree.now }
     ensures { IsTrue result → IsFrom source.now (node_at tree.now id) }
 {
-    let span = tree.span(id);
-    if !source.is_ascii() || span.start > span.end || span.end as usize > source.len() {
+    if !lies_in(source, tree.span(id)) {
         return false;
     }
-    !is_name(tree.kind(id)) || tree.text(id, source) == "a" && !tree.owns_name(id)
+    if !is_name(tree.kind(id)) {
+        return true;
+    }
+    if tree.owns_name(id) {
+        return false;
+    }
+    is_name_of_rows(tree.text(id, source))
 }
 
 /// Whether all nodes are.
