@@ -1,1 +1,5 @@
+mod OneTree
+mod SeenWords
+mod ValidWords
 mod Values
+mod Words

@@ -1,3 +1,4 @@
 pub mod Json
 pub mod Members
+pub mod Laws
 pub mod Sources

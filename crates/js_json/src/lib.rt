@@ -2,6 +2,7 @@
 #![tactic(auto)]
 
 mod export;
+pub mod laws;
 mod node;
 
 pub use export::{MAX_LEVELS, tree_json};
