@@ -1,3 +1,4 @@
+mod Counts
 mod OneTree
 mod SeenWords
 mod ValidWords
