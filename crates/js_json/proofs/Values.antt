@@ -10,7 +10,8 @@ use Rattle.js_grammar.specs.Lines.{flag_words}
 use Rattle.js_tree.specs.declared.id.NodeId.{NodeId}
 use Rattle.js_tree.specs.Nodes.{Node, label, node_at, empty_program}
 use Rattle.js_tree.specs.Holding.{Stands, stands, StandsAll, no_slots, next_child, next_hole}
-use Rattle.js_json.specs.Json.{string_or_null, name_of, word_of, raw_of, words_set, slots_json, node_json, list}
+use Rattle.js_json.specs.Json.{string_or_null, name_of, word_of, raw_of, words_set, slots_json, object_of, node_json, list}
+use Rattle.js_json.specs.Names.{AreNamed}
 
 -- one flag more has been looked at
 pub words_step : (out whole : List Data) (i rest : ℕ) (w : List ℕ) → i < 14 → w ≡ get_or flag_words i [] → out ++ words_set (drop i flag_words) rest ≡ whole → (out ++ cond (nat_eq (rest % 2) 1) (string w ∷ []) []) ++ words_set (drop (i + 1) flag_words) (rest / 2) ≡ whole
@@ -32,27 +33,34 @@ pub record Done (text : List ℕ) (ns : List Node) (below : ℕ) (ids : List (Op
   pub slots : Slots
   pub numbers : List ℕ
   pub stands : StandsAll ns below ids slots numbers
+  pub named : AreNamed text ns numbers
   pub parts : out ++ slots_json text slots ≡ whole
 
 -- the value of a slot
 abbrev pub SlotIs : List ℕ → List Node → Option NodeId → Data → Type 0
 SlotIs text ns None d = d ≡ null
-SlotIs text ns (Some id) d = (below : ℕ) (cs : Slots) (rs : List ℕ) → id.0 < length ns → StandsAll ns below (node_at ns id).children cs rs → d ≡ node_json text (label (node_at ns id)) (list (slots_json text cs))
+SlotIs text ns (Some id) d = (below : ℕ) (cs : Slots) (rs : List ℕ) → id.0 < length ns → StandsAll ns below (node_at ns id).children cs rs → AreNamed text ns (id.0 ∷ rs) → d ≡ node_json text (label (node_at ns id)) (list (slots_json text cs))
 
-node_is : (text : List ℕ) {ns : List Node} {n : ℕ} {l : Label} {cs : Slots} {rs : List ℕ} (id : NodeId) (d : Data) → id.0 ≡ n → SlotIs text ns (Some id) d → Stands ns n l cs rs → d ≡ node_json text l (list (slots_json text cs))
-node_is text {ns} id d e s (stands {cs} {rs} m h a) =
+named_parts : (text : List ℕ) (ns : List Node) (rs ss : List ℕ) → AreNamed text ns (rs ++ ss) → AreNamed text ns rs × AreNamed text ns ss
+named_parts text ns [] ss h = (tt, h)
+named_parts text ns (r ∷ rs) ss h = let q = named_parts text ns rs ss h.1 in ((h.0, q.0), q.1)
+
+node_is : (text : List ℕ) {ns : List Node} {n : ℕ} {l : Label} {cs : Slots} {rs : List ℕ} (id : NodeId) (d : Data) → id.0 ≡ n → SlotIs text ns (Some id) d → Stands ns n l cs rs → AreNamed text ns rs → d ≡ node_json text l (list (slots_json text cs))
+node_is text {ns} id d e s (stands {cs} {rs} m h a) k =
     subst (λ (k : ℕ). d ≡ node_json text (label (get_or ns k empty_program)) (list (slots_json text cs))) e
-    (s m cs rs (omega (arith, e)) (subst (λ (k : ℕ). StandsAll ns m (get_or ns k empty_program).children cs rs) (sym e) a))
+    (s m cs rs (omega (arith, e)) (subst (λ (k : ℕ). StandsAll ns m (get_or ns k empty_program).children cs rs) (sym e) a) (subst (λ (r : ℕ). AreNamed text ns (r ∷ rs)) (sym e) k))
 
-done_more : {text : List ℕ} {ns : List Node} {below : ℕ} {ids : List (Option NodeId)} {us : Slots} {rs : List ℕ} (s : Option NodeId) (out whole : List Data) (d : Data) → SlotIs text ns s d → StandsAll ns below (s ∷ ids) us rs → out ++ slots_json text us ≡ whole → Done text ns below ids (out ++ d ∷ []) whole
-done_more {text} None out whole d h (next_hole {us = us} {rs = rs} a) p = record { slots = us; numbers = rs; stands = a; parts = append_assoc out (d ∷ []) (slots_json text us) ∙ ap (λ (x : Data). out ++ x ∷ slots_json text us) h ∙ p }
-done_more {text} (Some id) out whole d h (next_child {us = us} {ss = ss} w n a) p = record { slots = us; numbers = ss; stands = a; parts = append_assoc out (d ∷ []) (slots_json text us) ∙ ap (λ (x : Data). out ++ x ∷ slots_json text us) (node_is text id d refl h n) ∙ p }
+done_more : {text : List ℕ} {ns : List Node} {below : ℕ} {ids : List (Option NodeId)} {us : Slots} {rs : List ℕ} (s : Option NodeId) (out whole : List Data) (d : Data) → SlotIs text ns s d → StandsAll ns below (s ∷ ids) us rs → AreNamed text ns rs → out ++ slots_json text us ≡ whole → Done text ns below ids (out ++ d ∷ []) whole
+done_more {text} None out whole d h (next_hole {us = us} {rs = rs} a) k p = record { slots = us; numbers = rs; stands = a; named = k; parts = append_assoc out (d ∷ []) (slots_json text us) ∙ ap (λ (x : Data). out ++ x ∷ slots_json text us) h ∙ p }
+done_more {text} {ns} (Some id) out whole d h (next_child {us = us} {rs = rs} {ss = ss} w n a) k p =
+    let q = named_parts text ns rs ss k in
+    record { slots = us; numbers = ss; stands = a; named = q.1; parts = append_assoc out (d ∷ []) (slots_json text us) ∙ ap (λ (x : Data). out ++ x ∷ slots_json text us) (node_is text id d refl h n q.0) ∙ p }
 
-pub Done-start : (text : List ℕ) (ns : List Node) (below : ℕ) (ids : List (Option NodeId)) (cs : Slots) (rs : List ℕ) → StandsAll ns below ids cs rs → Done text ns below ids [] (slots_json text cs)
-Done-start text ns below ids cs rs h = record { slots = cs; numbers = rs; stands = h; parts = refl }
+pub Done-start : (text : List ℕ) (ns : List Node) (below : ℕ) (ids : List (Option NodeId)) (cs : Slots) (rs : List ℕ) → StandsAll ns below ids cs rs → AreNamed text ns rs → Done text ns below ids [] (slots_json text cs)
+Done-start text ns below ids cs rs h k = record { slots = cs; numbers = rs; stands = h; named = k; parts = refl }
 
 pub Done-step : {text : List ℕ} {ns : List Node} {below : ℕ} (s : Option NodeId) (ids : List (Option NodeId)) (out whole : List Data) (d : Data) → SlotIs text ns s d → Done text ns below (s ∷ ids) out whole → Done text ns below ids (out ++ d ∷ []) whole
-Done-step s ids out whole d h w = done_more s out whole d h w.stands w.parts
+Done-step s ids out whole d h w = done_more s out whole d h w.stands w.named w.parts
 
 none_left : {ns : List Node} {below : ℕ} {cs : Slots} {rs : List ℕ} (text : List ℕ) → StandsAll ns below [] cs rs → slots_json text cs ≡ []
 none_left text no_slots = refl
@@ -75,8 +83,8 @@ flat_words (w ∷ ws) n = by (nat_eq (n % 2) 1) (flat_words ws (n / 2))
     by false e = e
 
 -- a node is one deeper than the list of its slots
-pub node_depth : (text : List ℕ) (l : Label) (c : Data) (m : ℕ) → 1 ≤ m → depth c ≤ m → depth (node_json text l c) ≤ suc m
-node_depth text l c m o h = rw (flat (name_of text l), flat (word_of l.op), flat (raw_of text l), flat_words flag_words l.flags) (omega arith)
+pub node_depth : (text : List ℕ) (l : Label) (name : Option (List ℕ)) (c : Data) (m : ℕ) → 1 ≤ m → depth c ≤ m → depth (object_of text l name c) ≤ suc m
+node_depth text l name c m o h = rw (flat name, flat (word_of l.op), flat (raw_of text l), flat_words flag_words l.flags) (omega arith)
 
 pub items_depth-push : (ds : List Data) (d : Data) (m : ℕ) → items_depth (items_of ds) ≤ m → depth d ≤ m → items_depth (items_of (ds ++ d ∷ [])) ≤ m
 items_depth-push [] d m h k = omega arith
@@ -89,19 +97,19 @@ view-Null = search (rules, the_lemmas)
 
 -- the values of the slots before i have been made
 abbrev pub Made : List ℕ → List Node → List (Option NodeId) → ℕ → List Value → ℕ → Type 0
-Made text ns ids i vs m = ((below : ℕ) (cs : Slots) (rs : List ℕ) → StandsAll ns below ids cs rs → Done text ns below (drop i ids) (map view vs) (slots_json text cs)) × (items_depth (items_view vs) ≤ m)
+Made text ns ids i vs m = ((below : ℕ) (cs : Slots) (rs : List ℕ) → StandsAll ns below ids cs rs → AreNamed text ns rs → Done text ns below (drop i ids) (map view vs) (slots_json text cs)) × (items_depth (items_view vs) ≤ m)
 
 map-push : (vs : List Value) (v : Value) → map view (vs ++ v ∷ []) ≡ map view vs ++ view v ∷ []
 map-push [] v = refl
 map-push (w ∷ vs) v = ap (λ (ds : List Data). view w ∷ ds) (map-push vs v)
 
 pub Made-start : (text : List ℕ) (ns : List Node) (ids : List (Option NodeId)) (vs : List Value) (m : ℕ) → vs ≡ [] → Made text ns ids 0 vs m
-Made-start text ns ids vs m e = rw e ((λ below cs rs h. Done-start text ns below ids cs rs h), omega arith)
+Made-start text ns ids vs m e = rw e ((λ below cs rs h k. Done-start text ns below ids cs rs h k), omega arith)
 
 pub Made-step : {text : List ℕ} {ns : List Node} (ids : List (Option NodeId)) (i : ℕ) (s : Option NodeId) (vs new : List Value) (v : Value) (m : ℕ) → i < length ids → get_or ids i None ≡ s → SlotIs text ns s (view v) → depth (view v) ≤ m → new ≡ vs ++ v ∷ [] → Made text ns ids i vs m → Made text ns ids (i + 1) new m
 Made-step {text} {ns} ids i s vs new v m h e k d n made = rw (n, map-push vs v) (
-    (λ below cs rs a. Done-step s (drop (i + 1) ids) (map view vs) (slots_json text cs) (view v) k (subst (λ (xs : List (Option NodeId)). Done text ns below xs (map view vs) (slots_json text cs)) (drop_more ids i None h ∙ ap (λ (x : Option NodeId). x ∷ drop (i + 1) ids) e) (made.0 below cs rs a))),
+    (λ below cs rs a q. Done-step s (drop (i + 1) ids) (map view vs) (slots_json text cs) (view v) k (subst (λ (xs : List (Option NodeId)). Done text ns below xs (map view vs) (slots_json text cs)) (drop_more ids i None h ∙ ap (λ (x : Option NodeId). x ∷ drop (i + 1) ids) e) (made.0 below cs rs a q))),
     items_depth-push (map view vs) (view v) m made.1 d)
 
-pub Made-end : {text : List ℕ} {ns : List Node} (ids : List (Option NodeId)) (i : ℕ) (vs : List Value) (m below : ℕ) (cs : Slots) (rs : List ℕ) → length ids ≤ i → Made text ns ids i vs m → StandsAll ns below ids cs rs → list (map view vs) ≡ list (slots_json text cs)
-Made-end {text} {ns} ids i vs m below cs rs h made a = ap list (Done-end (map view vs) (slots_json text cs) (subst (λ (xs : List (Option NodeId)). Done text ns below xs (map view vs) (slots_json text cs)) (drop_all i ids h) (made.0 below cs rs a)))
+pub Made-end : {text : List ℕ} {ns : List Node} (ids : List (Option NodeId)) (i : ℕ) (vs : List Value) (m below : ℕ) (cs : Slots) (rs : List ℕ) → length ids ≤ i → Made text ns ids i vs m → StandsAll ns below ids cs rs → AreNamed text ns rs → list (map view vs) ≡ list (slots_json text cs)
+Made-end {text} {ns} ids i vs m below cs rs h made a q = ap list (Done-end (map view vs) (slots_json text cs) (subst (λ (xs : List (Option NodeId)). Done text ns below xs (map view vs) (slots_json text cs)) (drop_all i ids h) (made.0 below cs rs a q)))

@@ -50,17 +50,20 @@ words_set (w ∷ ws) n = cond (nat_eq (n % 2) 1) (string w ∷ []) [] ++ words_s
 abbrev pub list : List Data → Data
 list ds = array (items_of ds)
 
--- a node of this label, whose slots have this value
-abbrev pub node_json : List ℕ → Label → Data → Data
-node_json text l children = object (
+-- a node of this label and this name, whose slots have this value
+abbrev pub object_of : List ℕ → Label → Option (List ℕ) → Data → Data
+object_of text l name children = object (
     member (codes "children") children (
     member (codes "end") (number (unsigned l.span.to)) (
     member (codes "flags") (list (words_set flag_words l.flags)) (
-    member (codes "name") (string_or_null (name_of text l)) (
+    member (codes "name") (string_or_null name) (
     member (codes "op") (string_or_null (word_of l.op)) (
     member (codes "raw") (string_or_null (raw_of text l)) (
     member (codes "start") (number (unsigned l.span.from)) (
     member (codes "type") (string (kind_text l.kind)) no_members))))))))
+
+abbrev pub node_json : List ℕ → Label → Data → Data
+node_json text l children = object_of text l (name_of text l) children
 
 -- slots in their order; an empty one is null
 abbrev pub slots_json : List ℕ → Slots → List Data

@@ -1,13 +1,14 @@
 //! The JSON form of a tree.
 
-ghost use Rattle.std.specs.Prelude.{◌≡◌, ◌<◌, ◌≤◌, ◌*◌, ◌+◌, length, IfOk, ℕ, List};
+ghost use Rattle.std.specs.Prelude.{◌≡◌, ◌<◌, ◌≤◌, ◌*◌, ◌+◌, ◌∷◌, length, IfOk, ℕ, List};
 ghost use Rattle.std.specs.List.{All};
 ghost use Rattle.serde_json.specs.Data.{depth};
 ghost use Rattle.serde_json.specs.View.{view};
+ghost use Rattle.js_base.specs.Spans.{LiesIn};
 ghost use Rattle.js_grammar.specs.Trees.{Slots, Tree as SeenTree};
 ghost use Rattle.js_tree.specs.Holding.{StandsAll, IsTree};
 ghost use Rattle.js_json.specs.Json.{max_levels, json_of, slots_json, list};
-ghost use Rattle.js_json.specs.Sources.{IsFrom};
+ghost use Rattle.js_json.specs.Names.{AreNamed};
 
 use crate::node::node_value;
 use js_memory::NoMemory;
@@ -26,8 +27,8 @@ fn slots_value(
     source: &str,
     levels: usize,
 ) -> Result<Value, NoMemory>
-    requires { All (IsFrom source.now) tree.now }
-    ensures values { IfOk result (λ v. (below : ℕ) (cs : Slots) (rs : List ℕ) → StandsAll tree.now below slots.now cs rs → view v ≡ list (slots_json source.now cs)) }
+    requires { All (λ n. LiesIn n.span source.now) tree.now }
+    ensures values { IfOk result (λ v. (below : ℕ) (cs : Slots) (rs : List ℕ) → StandsAll tree.now below slots.now cs rs → AreNamed source.now tree.now rs → view v ≡ list (slots_json source.now cs)) }
     ensures depth { IfOk result (λ v. depth (view v) ≤ 2 * levels + 1) }
 {
     let mut values = Vec::with_capacity(alloc, slots.len())?;
@@ -49,8 +50,8 @@ fn slots_value(
 
 /// The JSON form of the tree.
 pub fn tree_json(alloc: Global, tree: &Tree, source: &str) -> Result<Value, NoMemory>
-    requires { All (IsFrom source.now) tree.now }
-    ensures json { IfOk result (λ v. (t : SeenTree) → IsTree tree.now t → view v ≡ json_of source.now t) }
+    requires { All (λ n. LiesIn n.span source.now) tree.now }
+    ensures json { IfOk result (λ v. (t : SeenTree) (is : IsTree tree.now t) → AreNamed source.now tree.now (0 ∷ is.children.numbers) → view v ≡ json_of source.now t) }
     ensures depth { IfOk result (λ v. depth (view v) ≤ 2 * max_levels) }
 {
     let program = NodeId(0);

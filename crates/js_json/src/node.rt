@@ -3,13 +3,14 @@
 ghost use Rattle.std.specs.Prelude.{◌≡◌, ◌<◌, ◌++◌, ◌∷◌, [], length, map, cond, codes, IfOk, OnOk, option_map};
 ghost use Rattle.serde_json.specs.Data.{string, number, unsigned, put as with_member};
 ghost use Rattle.serde_json.specs.View.{view, members_view};
+ghost use Rattle.js_base.specs.Spans.{LiesIn};
 ghost use Rattle.js_grammar.specs.Lines.{flag_words};
 ghost use Rattle.js_tree.specs.Labels.{kind_of, op_of, number_of};
 ghost use Rattle.js_tree.specs.Nodes.{node_at, label};
 ghost use Rattle.js_json.specs.Json as json;
-ghost use Rattle.js_json.specs.Json.{string_or_null, words_set, node_json};
+ghost use Rattle.js_json.specs.Json.{string_or_null, words_set, object_of};
 ghost use Rattle.js_json.specs.Members.{with_texts};
-ghost use Rattle.js_json.specs.Sources.{IsFrom};
+ghost use Rattle.js_json.specs.Names.{read_name};
 
 use js_base::Span;
 use js_memory::NoMemory;
@@ -18,7 +19,7 @@ use serde_json::{Map, Value, put};
 use std::alloc::Global;
 
 /// Whether a node of this kind is a name (ECMA-262, sections 12.7 and 13.1).
-pub(crate) fn is_name(kind: NodeKind) -> bool
+fn is_name(kind: NodeKind) -> bool
     ensures { result ≡ json.is_name (kind_of kind) }
 {
     matches!(
@@ -103,8 +104,8 @@ fn words_of(alloc: Global, flags: NodeFlags) -> Result<Value, NoMemory>
 /// The name of a node that is one.
 fn name_of<'a>(tree: &'a Tree, id: NodeId, source: &'a str) -> Option<&'a str>
     requires contained { id.0 < length tree.now }
-    requires from { IsFrom source.now (node_at tree.now id) }
-    ensures { option_map (λ s. s.now) result ≡ json.name_of source.now (label (node_at tree.now id)) }
+    requires lies { LiesIn (node_at tree.now id).span source.now }
+    ensures { option_map (λ s. s.now) result ≡ read_name source.now (node_at tree.now id) }
 {
     if is_name(tree.kind(id)) {
         Some(tree.name(id, source))
@@ -116,7 +117,7 @@ fn name_of<'a>(tree: &'a Tree, id: NodeId, source: &'a str) -> Option<&'a str>
 /// The text of a node of which it is given.
 fn raw_of<'a>(tree: &Tree, id: NodeId, source: &'a str) -> Option<&'a str>
     requires contained { id.0 < length tree.now }
-    requires from { IsFrom source.now (node_at tree.now id) }
+    requires lies { LiesIn (node_at tree.now id).span source.now }
     ensures { option_map (λ s. s.now) result ≡ json.raw_of source.now (label (node_at tree.now id)) }
 {
     if has_raw(tree.kind(id)) {
@@ -147,8 +148,8 @@ fn put_texts(
     source: &str,
 ) -> Result<(), NoMemory>
     requires contained { id.0 < length tree.now }
-    requires from { IsFrom source.now (node_at tree.now id) }
-    ensures { OnOk result (members_view members.new.entries ≡ with_texts source.now (label (node_at tree.now id)) (members_view members.old.entries)) }
+    requires lies { LiesIn (node_at tree.now id).span source.now }
+    ensures { OnOk result (members_view members.new.entries ≡ with_texts source.now (label (node_at tree.now id)) (read_name source.now (node_at tree.now id)) (members_view members.old.entries)) }
 {
     put_text(members, alloc, "name", name_of(tree, id, source))?;
     put_text(members, alloc, "op", word_of(tree.op(id)))?;
@@ -165,8 +166,8 @@ pub(crate) fn node_value(
     children: Value,
 ) -> Result<Value, NoMemory>
     requires contained { id.0 < length tree.now }
-    requires from { IsFrom source.now (node_at tree.now id) }
-    ensures { IfOk result (λ v. view v ≡ node_json source.now (label (node_at tree.now id)) (view children)) }
+    requires lies { LiesIn (node_at tree.now id).span source.now }
+    ensures { IfOk result (λ v. view v ≡ object_of source.now (label (node_at tree.now id)) (read_name source.now (node_at tree.now id)) (view children)) }
 {
     let mut members = Map::new(alloc);
     put(&mut members, alloc, "children", children)?;

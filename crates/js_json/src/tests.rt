@@ -1,12 +1,9 @@
 //! Rows of texts, trees of them made by hand, and their compact JSON text.
 
-ghost use Rattle.std.specs.Prelude.{◌≡◌, ◌<◌, length, codes, IsTrue};
+ghost use Rattle.std.specs.Prelude.{IsTrue};
 ghost use Rattle.std.specs.List.{All};
 ghost use Rattle.js_base.specs.Spans.{LiesIn};
-ghost use Rattle.js_tree.specs.Nodes.{node_at};
-ghost use Rattle.js_json.specs.Sources.{IsFrom};
 
-use crate::node::is_name;
 use crate::{MAX_LEVELS, tree_json};
 use js_base::{Span, UpdateOperator};
 use js_memory::NoMemory;
@@ -112,47 +109,23 @@ fn lies_in(source: &str, span: Span) -> bool
     source.is_ascii() && span.start <= span.end && span.end as usize <= source.len()
 }
 
-/// Whether a text is the name of the rows.
-fn is_name_of_rows(text: &str) -> bool
-    ensures { IsTrue result → text.now ≡ codes "a" }
-{
-    text == "a"
-}
-
-/// Whether a node is from this text, as far as these rows go.
-fn is_from(tree: &Tree, id: NodeId, source: &str) -> bool
-    requires { id.0 < length tree.now }
-    ensures { IsTrue result → IsFrom source.now (node_at tree.now id) }
-{
-    if !lies_in(source, tree.span(id)) {
-        return false;
-    }
-    if !is_name(tree.kind(id)) {
-        return true;
-    }
-    if tree.owns_name(id) {
-        return false;
-    }
-    is_name_of_rows(tree.text(id, source))
-}
-
-/// Whether all nodes are.
-fn are_from(tree: &Tree, source: &str) -> bool
-    ensures { IsTrue result → All (IsFrom source.now) tree.now }
+/// Whether all nodes do.
+fn all_lie_in(source: &str, tree: &Tree) -> bool
+    ensures { IsTrue result → All (λ n. LiesIn n.span source.now) tree.now }
 {
     for i in 0..tree.kinds().len() {
-        if !is_from(tree, NodeId(i), source) {
+        if !lies_in(source, tree.span(NodeId(i))) {
             return false;
         }
     }
     true
 }
 
-/// The value of the tree that steps make; none where they aren't from this text, or memory is wanting.
+/// The value of the tree that steps make; none where one lies outside the text, or memory is wanting.
 fn value_of(alloc: Global, source: &str, steps: &[Step], times: usize) -> Option<Value> {
     let end = u32::try_from(source.len()).ok()?;
     let tree = built(alloc, steps, end, times).ok()?;
-    if !are_from(&tree, source) {
+    if !all_lie_in(source, &tree) {
         return None;
     }
     tree_json(alloc, &tree, source).ok()
