@@ -1,8 +1,7 @@
 -- Counting the nodes of a value and the lines of a tree.
-use Rattle.std.proofs.Common.{◌≡◌, ℕ, zero, suc, ◌+◌, ◌*◌, ◌<◌, ◌≤◌, ◌/◌, ◌%◌, ◌==◌, Bool, true, false, cond, codes, List, [], ◌∷◌, ◌++◌, replicate, nat_eq, nat_lt, Option, Some, None, decimal, refl, ap, sym, ◌∙◌, subst, arith, eqb-true, lt-ltb}
-use Rattle.std.proofs.lemmas.Bool.{false≢true, not-true}
+use Rattle.std.proofs.Common.{◌≡◌, ℕ, zero, suc, ◌+◌, ◌*◌, ◌<◌, ◌/◌, ◌%◌, ◌==◌, Bool, true, false, cond, codes, List, [], ◌∷◌, ◌++◌, replicate, nat_eq, Option, Some, None, decimal, refl, ap, ◌∙◌, arith, eqb-true, lt-ltb}
 use Rattle.std.specs.Fmt.{digits, digits_onto, digit_glyph}
-use Rattle.serde_json.specs.Data.{Data, string, number, unsigned}
+use Rattle.serde_json.specs.Data.{Data, string}
 use Rattle.serde_json.specs.View.{items_of}
 use Rattle.js_base.specs.declared.kind.Kind.{Kind}
 use Rattle.js_base.specs.declared.kind.Kind.TheVariants.{Eof}

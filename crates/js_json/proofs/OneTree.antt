@@ -1,7 +1,7 @@
 -- Trees whose labels have words of their own and that have one value are one tree.
-use Rattle.std.proofs.Common.{◌≡◌, ℕ, List, [], ◌∷◌, codes, refl, ap, sym, ◌∙◌}
+use Rattle.std.proofs.Common.{◌≡◌, ℕ, List, ◌∷◌, codes, refl, ap}
 use Rattle.serde_json.specs.Data.{Data, null, number, unsigned, string, object, member, no_members}
-use Rattle.js_grammar.specs.Trees.{Span, Label, Slots, end, hole, tree, Tree}
+use Rattle.js_grammar.specs.Trees.{Label, Slots, end, hole, tree, Tree}
 use Rattle.js_grammar.specs.Lines.{kind_text, flag_words}
 use Rattle.js_json.specs.Json.{string_or_null, word_of, name_of, raw_of, words_set, list, node_json, slots_json, json_of}
 use Rattle.js_json.specs.Laws.{HasWords, HaveWords}

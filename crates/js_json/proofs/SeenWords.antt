@@ -1,5 +1,5 @@
 -- The labels of trees that nodes stand for have words of their own.
-use Rattle.std.proofs.Common.{◌≡◌, ℕ, ◌+◌, ◌*◌, ◌<◌, ◌^◌, Bool, true, false, List, Option, length, get_or, refl, subst, sym, arith}
+use Rattle.std.proofs.Common.{◌≡◌, ℕ, ◌*◌, ◌<◌, ◌^◌, Bool, true, false, List, Option, get_or, refl, subst, sym, arith}
 use Rattle.js_base.specs.declared.operator.BinaryOperator.{BinaryOperator}
 use Rattle.js_base.specs.declared.operator.BinaryOperator.TheVariants as binary
 use Rattle.js_base.specs.declared.operator.UnaryOperator.{UnaryOperator}
@@ -10,7 +10,7 @@ use Rattle.js_base.specs.declared.operator.UpdateOperator.{UpdateOperator}
 use Rattle.js_base.specs.declared.operator.UpdateOperator.TheVariants as update
 use Rattle.js_base.specs.declared.operator.AssignmentOperator.{AssignmentOperator}
 use Rattle.js_base.specs.declared.operator.AssignmentOperator.TheVariants as assignment
-use Rattle.js_grammar.specs.Trees.{Label, Slots, end, hole, tree, Tree}
+use Rattle.js_grammar.specs.Trees.{Label, Slots, end, tree, Tree}
 use Rattle.js_tree.specs.declared.flags.NodeFlags.{NodeFlags}
 use Rattle.js_tree.specs.declared.id.NodeId.{NodeId}
 use Rattle.js_tree.specs.declared.op.Op.{Op}

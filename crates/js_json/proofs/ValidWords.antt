@@ -1,14 +1,14 @@
 -- The labels of valid trees have words of their own: so has each line of the table, but for marks of comments and of parentheses.
-use Rattle.std.proofs.Common.{ℕ, ◌≡◌, ◌+◌, ◌-◌, ◌<◌, ◌^◌, Bool, true, false, not, cond, ◌&&◌, List, nat_lt, ltb-true, lit<, refl, sym, subst, ap, ◌∙◌, rules, arith, inl, inr}
-use Rattle.std.proofs.lemmas.Bool.{false≢true, and_parts, and_from}
+use Rattle.std.proofs.Common.{ℕ, ◌≡◌, ◌-◌, ◌<◌, ◌^◌, Bool, true, false, cond, ◌&&◌, List, nat_lt, ltb-true, refl, sym, subst, ap, arith, inl, inr}
+use Rattle.std.proofs.lemmas.Bool.{false≢true, and_parts}
 use Rattle.js_grammar.specs.Trees.{NodeKind, function_expression, arrow_function_expression, Op, Label, Span, Slots, end, hole, tree, Tree, append}
-use Rattle.js_grammar.specs.Grammar.{Make, Lexemes, seq, alt, ahead, when, many, commas, such, marked, node, ended, keep, label_of, Takes, is_nothing, is_lexeme, is_look, is_text, is_ahead, is_empty_slot, is_seq, is_left, is_right, is_when, is_many, is_commas, is_such, is_marked, is_node, is_ended, is_keep, is_kept}
-use Rattle.js_grammar.specs.Productions.{Flags, Name, Symbol, G, Program, Item, pure_flag, has_flag, without_flag, with_pife}
+use Rattle.js_grammar.specs.Grammar.{Make, Lexemes, seq, alt, ahead, when, many, commas, marked, node, ended, keep, Takes, is_nothing, is_lexeme, is_look, is_text, is_ahead, is_empty_slot, is_seq, is_left, is_right, is_when, is_many, is_commas, is_such, is_marked, is_node, is_ended, is_keep, is_kept}
+use Rattle.js_grammar.specs.Productions.{Flags, Name, Symbol, G, Program, Item, pure_flag, has_flag, with_pife}
 use Rattle.js_grammar.specs.Table.{whole, rule_of, unbuilt_of}
-use Rattle.js_grammar.specs.TreeForms.{with_labels, not_pure, without_pure, is_parenthesized, slots_lack_parens, first_tree, lacks_parens}
+use Rattle.js_grammar.specs.TreeForms.{with_labels, not_pure, is_parenthesized, slots_lack_parens, first_tree}
 use Rattle.js_grammar.specs.Options.{Options}
 use Rattle.js_grammar.specs.Settings.{Goal}
-use Rattle.js_grammar.specs.Readings.{IsWhole, IsWholeWithoutParens, whole_by}
+use Rattle.js_grammar.specs.Readings.{IsWhole, whole_by}
 use Rattle.js_grammar.proofs.CoverInitialisers.{line_marked}
 use Rattle.js_grammar.proofs.Renamed.{remarked, first_of, second_of, mark_of}
 use Rattle.js_json.specs.Laws.{is_own_word, HasWords, HaveWords, IsValidSomewhere, program, unambiguous, expression}

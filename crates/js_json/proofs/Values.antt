@@ -1,16 +1,18 @@
 -- The parts of a node's value.
-use Rattle.std.proofs.Common.{◌≡◌, ℕ, suc, ◌+◌, ◌*◌, ◌<◌, ◌≤◌, ◌/◌, ◌%◌, Bool, true, false, cond, codes, List, [], ◌∷◌, ◌++◌, length, map, max, Option, Some, None, drop, get_or, nat_eq, nat_lt, refl, ap, sym, ◌∙◌, subst, arith, rules, append_assoc, append-nil}
+use Rattle.std.proofs.Common.{◌≡◌, ℕ, suc, ◌+◌, ◌<◌, ◌≤◌, ◌/◌, ◌%◌, Bool, true, false, cond, codes, List, [], ◌∷◌, ◌++◌, length, map, Option, Some, None, drop, get_or, nat_eq, refl, ap, sym, ◌∙◌, subst, arith, rules, append_assoc, append-nil}
+use Rattle.std.proofs.lemmas.Bool.{or_parts}
 use Rattle.std.proofs.lemmas.List.{drop_more, drop_all}
-use Rattle.serde_json.specs.Data.{Data, null, string, Members, no_members, member, put, items_depth, depth}
+use Rattle.serde_json.specs.Data.{Data, null, string, no_members, member, put, items_depth, depth}
+use Rattle.serde_json.specs.Written.{has_float, items_have_float}
 use Rattle.serde_json.specs.View.{view, items_view, items_of}
 use Rattle.serde_json.specs.declared.value.Value.{Value, Null, the_lemmas}
 use Rattle.serde_json.proofs.OnLiterals.{serde_json_on_literals}
-use Rattle.js_grammar.specs.Trees.{Label, Slots, end, hole, tree}
+use Rattle.js_grammar.specs.Trees.{Label, Slots}
 use Rattle.js_grammar.specs.Lines.{flag_words}
 use Rattle.js_tree.specs.declared.id.NodeId.{NodeId}
 use Rattle.js_tree.specs.Nodes.{Node, label, node_at, empty_program}
 use Rattle.js_tree.specs.Holding.{Stands, stands, StandsAll, no_slots, next_child, next_hole}
-use Rattle.js_json.specs.Json.{string_or_null, name_of, word_of, raw_of, words_set, slots_json, object_of, node_json, list}
+use Rattle.js_json.specs.Json.{string_or_null, word_of, raw_of, words_set, slots_json, object_of, node_json, list}
 use Rattle.js_json.specs.Names.{AreNamed}
 
 -- one flag more has been looked at
@@ -90,6 +92,27 @@ pub items_depth-push : (ds : List Data) (d : Data) (m : ℕ) → items_depth (it
 items_depth-push [] d m h k = omega arith
 items_depth-push (e ∷ ds) d m h k = let i = items_depth-push ds d m (omega arith) k in omega arith
 
+-- ---- floats
+
+no_float : (o : Option (List ℕ)) → has_float (string_or_null o) ≡ false
+no_float None = refl
+no_float (Some s) = refl
+
+no_float_words : (ws : List (List ℕ)) (n : ℕ) → items_have_float (items_of (words_set ws n)) ≡ false
+no_float_words [] n = refl
+no_float_words (w ∷ ws) n = by (nat_eq (n % 2) 1) (no_float_words ws (n / 2))
+  where
+    by : (b : Bool) → items_have_float (items_of (words_set ws (n / 2))) ≡ false → items_have_float (items_of (cond b (string w ∷ []) [] ++ words_set ws (n / 2))) ≡ false
+    by true e = e
+    by false e = e
+
+pub no_float_node : (text : List ℕ) (l : Label) (name : Option (List ℕ)) (c : Data) → has_float c ≡ false → has_float (object_of text l name c) ≡ false
+no_float_node text l name c h = rw (h, no_float_words flag_words l.flags, no_float name, no_float (word_of l.op), no_float (raw_of text l)) refl
+
+no_float-push : (ds : List Data) (d : Data) → items_have_float (items_of ds) ≡ false → has_float d ≡ false → items_have_float (items_of (ds ++ d ∷ [])) ≡ false
+no_float-push [] d h k = rw k refl
+no_float-push (e ∷ ds) d h k = let p = or_parts (has_float e) _ h in rw (p.0, no_float-push ds d p.1 k) refl
+
 -- ---- the loop over slots
 
 pub view-Null : view Null ≡ null
@@ -97,19 +120,21 @@ view-Null = search (rules, the_lemmas)
 
 -- the values of the slots before i have been made
 abbrev pub Made : List ℕ → List Node → List (Option NodeId) → ℕ → List Value → ℕ → Type 0
-Made text ns ids i vs m = ((below : ℕ) (cs : Slots) (rs : List ℕ) → StandsAll ns below ids cs rs → AreNamed text ns rs → Done text ns below (drop i ids) (map view vs) (slots_json text cs)) × (items_depth (items_view vs) ≤ m)
+Made text ns ids i vs m = ((below : ℕ) (cs : Slots) (rs : List ℕ) → StandsAll ns below ids cs rs → AreNamed text ns rs → Done text ns below (drop i ids) (map view vs) (slots_json text cs)) × (items_depth (items_view vs) ≤ m) × (items_have_float (items_view vs) ≡ false)
 
 map-push : (vs : List Value) (v : Value) → map view (vs ++ v ∷ []) ≡ map view vs ++ view v ∷ []
 map-push [] v = refl
 map-push (w ∷ vs) v = ap (λ (ds : List Data). view w ∷ ds) (map-push vs v)
 
 pub Made-start : (text : List ℕ) (ns : List Node) (ids : List (Option NodeId)) (vs : List Value) (m : ℕ) → vs ≡ [] → Made text ns ids 0 vs m
-Made-start text ns ids vs m e = rw e ((λ below cs rs h k. Done-start text ns below ids cs rs h k), omega arith)
+Made-start text ns ids vs m e = rw e ((λ below cs rs h k. Done-start text ns below ids cs rs h k), omega arith, refl)
 
-pub Made-step : {text : List ℕ} {ns : List Node} (ids : List (Option NodeId)) (i : ℕ) (s : Option NodeId) (vs new : List Value) (v : Value) (m : ℕ) → i < length ids → get_or ids i None ≡ s → SlotIs text ns s (view v) → depth (view v) ≤ m → new ≡ vs ++ v ∷ [] → Made text ns ids i vs m → Made text ns ids (i + 1) new m
-Made-step {text} {ns} ids i s vs new v m h e k d n made = rw (n, map-push vs v) (
-    (λ below cs rs a q. Done-step s (drop (i + 1) ids) (map view vs) (slots_json text cs) (view v) k (subst (λ (xs : List (Option NodeId)). Done text ns below xs (map view vs) (slots_json text cs)) (drop_more ids i None h ∙ ap (λ (x : Option NodeId). x ∷ drop (i + 1) ids) e) (made.0 below cs rs a q))),
-    items_depth-push (map view vs) (view v) m made.1 d)
+pub Made-step : {text : List ℕ} {ns : List Node} (ids : List (Option NodeId)) (i : ℕ) (s : Option NodeId) (vs new : List Value) (v : Value) (m : ℕ) → i < length ids → get_or ids i None ≡ s → SlotIs text ns s (view v) → depth (view v) ≤ m → has_float (view v) ≡ false → new ≡ vs ++ v ∷ [] → Made text ns ids i vs m → Made text ns ids (i + 1) new m
+Made-step {text} {ns} ids i s vs new v m h e k d f n made = rw (n, map-push vs v) (
+  (λ below cs rs a q. Done-step s (drop (i + 1) ids) (map view vs) (slots_json text cs) (view v) k (subst (λ (xs : List (Option NodeId)). Done text ns below xs (map view vs) (slots_json text cs)) (drop_more ids i None h ∙ ap (λ (x : Option NodeId). x ∷ drop (i + 1) ids) e) (made.0 below cs rs a q))),
+  items_depth-push (map view vs) (view v) m made.1 d,
+  no_float-push (map view vs) (view v) made.2 f,
+)
 
 pub Made-end : {text : List ℕ} {ns : List Node} (ids : List (Option NodeId)) (i : ℕ) (vs : List Value) (m below : ℕ) (cs : Slots) (rs : List ℕ) → length ids ≤ i → Made text ns ids i vs m → StandsAll ns below ids cs rs → AreNamed text ns rs → list (map view vs) ≡ list (slots_json text cs)
 Made-end {text} {ns} ids i vs m below cs rs h made a q = ap list (Done-end (map view vs) (slots_json text cs) (subst (λ (xs : List (Option NodeId)). Done text ns below xs (map view vs) (slots_json text cs)) (drop_all i ids h) (made.0 below cs rs a q)))

@@ -1,5 +1,5 @@
 -- What the value of a tree tells of it.
-use Rattle.std.specs.Prelude.{ℕ, ◌≡◌, ◌<◌, ◌^◌, ◌⊎◌, List, Bool, true, false, not}
+use Rattle.std.specs.Prelude.{ℕ, ◌≡◌, ◌<◌, ◌^◌, List, Bool, true, not}
 use Rattle.js_base.specs.declared.kind.Kind.TheVariants.{Constructor}
 use Rattle.js_base.specs.Kinds.{same_kind}
 use Rattle.js_grammar.specs.Trees.{Op, of, Label, Slots, end, hole, tree, Tree}

@@ -1,9 +1,10 @@
 //! The JSON form of a tree.
 
-ghost use Rattle.std.specs.Prelude.{◌≡◌, ◌<◌, ◌≤◌, ◌*◌, ◌+◌, ◌∷◌, length, IfOk, ℕ, List};
+ghost use Rattle.std.specs.Prelude.{◌≡◌, false, ◌<◌, ◌≤◌, ◌*◌, ◌+◌, ◌∷◌, length, IfOk, ℕ, List};
 ghost use Rattle.std.specs.List.{All};
 ghost use Rattle.serde_json.specs.Data.{depth};
 ghost use Rattle.serde_json.specs.View.{view};
+ghost use Rattle.serde_json.specs.Written.{has_float};
 ghost use Rattle.js_base.specs.Spans.{LiesIn};
 ghost use Rattle.js_grammar.specs.Trees.{Slots, Tree as SeenTree};
 ghost use Rattle.js_tree.specs.Holding.{StandsAll, IsTree};
@@ -30,6 +31,7 @@ fn slots_value(
     requires { All (λ n. LiesIn n.span source.now) tree.now }
     ensures values { IfOk result (λ v. (below : ℕ) (cs : Slots) (rs : List ℕ) → StandsAll tree.now below slots.now cs rs → AreNamed source.now tree.now rs → view v ≡ list (slots_json source.now cs)) }
     ensures depth { IfOk result (λ v. depth (view v) ≤ 2 * levels + 1) }
+    ensures integers { IfOk result (λ v. has_float (view v) ≡ false) }
 {
     let mut values = Vec::with_capacity(alloc, slots.len())?;
     for slot in slots {
@@ -48,13 +50,21 @@ fn slots_value(
     Ok(Value::Array(values))
 }
 
-/// The JSON form of the tree.
+/// The JSON form of the tree: an object for each node, with the keys `children`, `end`, `flags`, `name`, `op`, `raw`, `start`
+/// and `type`, and null for each empty slot. Places are offsets in bytes. Condition: the text is the one that the nodes were
+/// made for, so that the span of each lies in it and splits no character. The value is `json_of` of the text and the tree
+/// where each name in the tree is read as what its text spells (ECMA-262, section 12.7.1), as `Tree::name` reads the names of
+/// a tree that was parsed without diagnostics.
+///
+/// The only error is want of memory. That is also the answer where the tree has more than `MAX_LEVELS` levels.
 pub fn tree_json(alloc: Global, tree: &Tree, source: &str) -> Result<Value, NoMemory>
     requires { All (λ n. LiesIn n.span source.now) tree.now }
     ensures json { IfOk result (λ v. (t : SeenTree) (is : IsTree tree.now t) → AreNamed source.now tree.now (0 ∷ is.children.numbers) → view v ≡ json_of source.now t) }
     ensures depth { IfOk result (λ v. depth (view v) ≤ 2 * max_levels) }
+    ensures integers { IfOk result (λ v. has_float (view v) ≡ false) }
 {
     let program = NodeId(0);
+    // Nodes that stand for a tree have Program's; others have no value that is claimed.
     if !tree.contains(program) {
         return Ok(Value::Null);
     }

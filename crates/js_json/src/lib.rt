@@ -1,4 +1,4 @@
-//! A JSON form of trees, for tools in other languages.
+//! A JSON form of trees, for tools that are written in other languages.
 #![tactic(auto)]
 
 mod export;

@@ -128,11 +128,7 @@ fn raw_of<'a>(tree: &Tree, id: NodeId, source: &'a str) -> Option<&'a str>
 }
 
 /// The places of a node.
-fn put_span(
-    members: &mut Map<String, Value>,
-    alloc: Global,
-    span: Span,
-) -> Result<(), NoMemory>
+fn put_span(members: &mut Map<String, Value>, alloc: Global, span: Span) -> Result<(), NoMemory>
     ensures { OnOk result (members_view members.new.entries ≡ with_member (codes "start") (number (unsigned span.start)) (with_member (codes "end") (number (unsigned span.end)) (members_view members.old.entries))) }
 {
     put(members, alloc, "end", Value::from(span.end))?;
@@ -171,7 +167,12 @@ pub(crate) fn node_value(
 {
     let mut members = Map::new(alloc);
     put(&mut members, alloc, "children", children)?;
-    put(&mut members, alloc, "flags", words_of(alloc, tree.flags(id))?)?;
+    put(
+        &mut members,
+        alloc,
+        "flags",
+        words_of(alloc, tree.flags(id))?,
+    )?;
     put_span(&mut members, alloc, tree.span(id))?;
     put_texts(&mut members, alloc, tree, id, source)?;
     Ok(Value::Object(members))

@@ -1,4 +1,4 @@
-use Rattle.std.proofs.Common.{ℕ, ◌<◌, ◌≡◌, length, arith, ap, ◌∙◌, subst, below_more}
+use Rattle.std.proofs.Common.{◌≡◌, length, arith, ap, ◌∙◌, subst, below_more}
 use Rattle.std.proofs.lemmas.List.{length-map}
 use Rattle.std.proofs.lemmas.List.Elements.{All-from_get_or}
 use Rattle.js_base.specs.Spans.{LiesIn}
