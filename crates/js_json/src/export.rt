@@ -53,8 +53,8 @@ fn slots_value(
 /// The JSON form of the tree: an object for each node, with the keys `children`, `end`, `flags`, `name`, `op`, `raw`, `start`
 /// and `type`, and null for each empty slot. Places are offsets in bytes. Condition: the text is the one that the nodes were
 /// made for, so that the span of each lies in it and splits no character. The value is `json_of` of the text and the tree
-/// where each name in the tree is read as what its text spells (ECMA-262, section 12.7.1), as `Tree::name` reads the names of
-/// a tree that was parsed without diagnostics.
+/// where `Tree::name` reads each name in the tree as what its text spells (ECMA-262, section 12.7.1), as it does on a tree
+/// that was parsed without diagnostics.
 ///
 /// The only error is want of memory. That is also the answer where the tree has more than `MAX_LEVELS` levels.
 pub fn tree_json(alloc: Global, tree: &Tree, source: &str) -> Result<Value, NoMemory>

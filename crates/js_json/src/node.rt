@@ -7,7 +7,7 @@ ghost use Rattle.js_base.specs.Spans.{LiesIn};
 ghost use Rattle.js_grammar.specs.Lines.{flag_words};
 ghost use Rattle.js_tree.specs.Labels.{kind_of, op_of, number_of};
 ghost use Rattle.js_tree.specs.Nodes.{node_at, label};
-ghost use Rattle.js_json.specs.Json as json;
+ghost use Rattle.js_json.specs.Json as form;
 ghost use Rattle.js_json.specs.Json.{string_or_null, words_set, object_of};
 ghost use Rattle.js_json.specs.Members.{with_texts};
 ghost use Rattle.js_json.specs.Names.{read_name};
@@ -20,7 +20,7 @@ use std::alloc::Global;
 
 /// Whether a node of this kind is a name (ECMA-262, sections 12.7 and 13.1).
 fn is_name(kind: NodeKind) -> bool
-    ensures { result ≡ json.is_name (kind_of kind) }
+    ensures { result ≡ form.is_name (kind_of kind) }
 {
     matches!(
         kind,
@@ -34,7 +34,7 @@ fn is_name(kind: NodeKind) -> bool
 
 /// Whether the text of a node of this kind is given.
 fn has_raw(kind: NodeKind) -> bool
-    ensures { result ≡ json.has_raw (kind_of kind) }
+    ensures { result ≡ form.has_raw (kind_of kind) }
 {
     matches!(
         kind,
@@ -49,7 +49,7 @@ fn has_raw(kind: NodeKind) -> bool
 
 /// The text of an op; none exactly where the kind tells all.
 fn word_of(op: Op) -> Option<&'static str>
-    ensures { option_map (λ s. s.now) result ≡ json.word_of (op_of op) }
+    ensures { option_map (λ s. s.now) result ≡ form.word_of (op_of op) }
 {
     match op {
         Op::None => None,
@@ -90,7 +90,7 @@ fn push_word(
 
 /// The words of the flags that are set, in their order.
 fn words_of(alloc: Global, flags: NodeFlags) -> Result<Value, NoMemory>
-    ensures { IfOk result (λ v. view v ≡ json.list (words_set flag_words (number_of flags))) }
+    ensures { IfOk result (λ v. view v ≡ form.list (words_set flag_words (number_of flags))) }
 {
     let mut words = Vec::new(alloc);
     let mut rest = flags.bits();
@@ -118,7 +118,7 @@ fn name_of<'a>(tree: &'a Tree, id: NodeId, source: &'a str) -> Option<&'a str>
 fn raw_of<'a>(tree: &Tree, id: NodeId, source: &'a str) -> Option<&'a str>
     requires contained { id.0 < length tree.now }
     requires lies { LiesIn (node_at tree.now id).span source.now }
-    ensures { option_map (λ s. s.now) result ≡ json.raw_of source.now (label (node_at tree.now id)) }
+    ensures { option_map (λ s. s.now) result ≡ form.raw_of source.now (label (node_at tree.now id)) }
 {
     if has_raw(tree.kind(id)) {
         Some(tree.text(id, source))
