@@ -340,6 +340,13 @@ impl NodeKind {
     {
         NAMES[self as usize]
     }
+
+    /// The same: the kind's name, as `Kind::to_str` gives that of a lexeme's kind.
+    pub fn to_str(self) -> &'static str
+        ensures { result.now ≡ kind_text (kind_of self) }
+    {
+        self.name()
+    }
 }
 
 impl fmt::Debug for NodeKind {

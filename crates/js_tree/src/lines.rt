@@ -1,11 +1,11 @@
 //! The lines of a tree.
 
-ghost use Rattle.std.specs.Prelude.{◌≡◌, ◌++◌, ◌∷◌, ◌<◌, ◌≤◌, ◌^◌, ◌+◌, [], length, IfOk, OnOk, Some, cond, get_or};
+ghost use Rattle.std.specs.Prelude.{◌≡◌, ◌++◌, ◌∷◌, ◌<◌, ◌≤◌, ◌^◌, ◌+◌, [], length, IfOk, OnOk, Some, cond, get_or, drop};
 ghost use Rattle.std.specs.Fmt.{decimal};
 ghost use Rattle.std.specs.Option.{option_copied};
 ghost use Rattle.js_grammar.specs.Lines.{op_text, flag_words, words_of, kind_text, label_text, places_text, indent, tree_text};
 ghost use Rattle.js_grammar.specs.Trees.{Tree as SeenTree};
-ghost use Rattle.js_tree.specs.Labels.{op_of};
+ghost use Rattle.js_tree.specs.Labels.{op_of, number_of};
 ghost use Rattle.js_tree.specs.Nodes.{node_at, label};
 ghost use Rattle.js_tree.specs.Holding.{IsTree};
 ghost use Rattle.js_tree.specs.Walking.{text_at, line_at, pending, within, spaced};
@@ -13,6 +13,7 @@ ghost use Rattle.js_tree.specs.Walking as walking;
 
 use crate::bits::bits_of;
 use crate::columns::Columns;
+use crate::flags::NodeFlags;
 use crate::id::NodeId;
 use crate::op::{
     BigintBase, ClauseWord, DeclarationKind, MethodKind, NumberBase, Op, PropertyKind,
@@ -63,6 +64,13 @@ impl Op {
             Op::Clause(ClauseWord::Assert) => Some("assert"),
         }
     }
+
+    /// The text in the lines of a tree, without the blank before it; empty exactly where the kind tells all.
+    pub fn as_str(self) -> &'static str
+        ensures { result.now ≡ drop 1 (op_text (op_of self)) }
+    {
+        self.text().unwrap_or("")
+    }
 }
 
 /// The word of a flag, by the number of its bit.
@@ -85,6 +93,26 @@ fn flag_word(bit: usize) -> &'static str
         11 => "bare",
         12 => "pure",
         _ => "pife",
+    }
+}
+
+impl NodeFlags {
+    /// How many flags there are.
+    pub const COUNT: usize = 14;
+
+    /// The flags as the bits of a number, in their order, the first the lowest.
+    pub fn bits(self) -> u16
+        ensures { result ≡ number_of self }
+    {
+        bits_of(self)
+    }
+
+    /// The word of a flag in the lines of a tree, by the number of its bit, which is below `COUNT`.
+    pub fn word(bit: usize) -> &'static str
+        requires { bit < 14 }
+        ensures { result.now ≡ get_or flag_words bit [] }
+    {
+        flag_word(bit)
     }
 }
 

@@ -1,0 +1,6 @@
+mod Counts
+mod OneTree
+mod SeenWords
+mod ValidWords
+mod Values
+mod Words

@@ -1,0 +1,5 @@
+pub mod Counts
+pub mod Json
+pub mod Members
+pub mod Names
+pub mod Laws
