@@ -4,6 +4,7 @@ ghost use Rattle.std.specs.Prelude.{◌≡◌, ◌≤◌, true, length};
 ghost use Rattle.js_base.specs.Contexts.{has_flag, in_flag};
 ghost use Rattle.js_parsing_laws.specs.States.{Standing};
 
+use crate::answer::Answer;
 use crate::covered::cover_text;
 use js_base::{Kind, MAX_LEN, ParseOptions, Precedence, SourceType, StatementContext};
 use js_core::{
@@ -14,78 +15,61 @@ use js_core::{
 };
 use js_cursor::{ParserImpl, Stop};
 use js_lex::RuntimeParserConfig;
-use js_memory::NoMemory;
 use js_tree::{NodeId, ParserAstBuilder};
 use std::alloc::Global;
 
-/// What a call answers.
-#[derive(Clone, Copy)]
-pub enum Answer {
-    /// A node.
-    Node(NodeId),
-    /// The node of an expression in brackets that names a property.
-    Computed(NodeId),
-    /// No node, in a word.
-    No(&'static str),
-}
-
-/// Writes what a call answers at the beginning of a text, which is read as a script, and the diagnostic that was kept last,
-/// if one was.
-pub(crate) fn push_called(
-    alloc: Global,
-    out: &mut String,
-    asked: &str,
-    text: &str,
-) -> Result<(), NoMemory>
+/// Puts what a call answers at the beginning of a text, which is read as a script, and the diagnostic that was kept last, if
+/// one was.
+pub(crate) fn put_called(alloc: Global, out: &mut Answer, asked: &str, text: &str)
     requires { length text.now ≤ MAX_LEN }
 {
     let (name, word) = match asked.split_once(' ') {
         Some(both) => both,
         None => (asked, ""),
     };
-    let mut p = ParserImpl::new(
+    let Ok(mut p) = ParserImpl::new(
         alloc,
         text,
         SourceType::script(),
         ParseOptions::default(),
         RuntimeParserConfig::new(false),
-    )?;
+    ) else {
+        return out.fail();
+    };
     if p.at(Kind::HashbangComment) {
-        return Ok(out.push_str("hashbang")?);
+        return out.put("hashbang");
     }
-    let answer = call(&mut p, name, word);
-    push_result(out, &p, answer)
+    let found = call(&mut p, out, name, word);
+    put_found(out, &p, found);
 }
 
-/// What the call of a name answers, with the word that it takes.
-fn call(p: &mut Parser<'_>, name: &str, word: &str) -> Result<Answer, Stop>
+/// The node that the call of a name answers, with the word that it takes; none where the call answers none, or can't be made.
+fn call(
+    p: &mut Parser<'_>,
+    out: &mut Answer,
+    name: &str,
+    word: &str,
+) -> Result<Option<NodeId>, Stop>
     requires at { Standing p.old }
     requires allows_in { has_flag in_flag p.old.ctx ≡ true }
 {
     match name {
         "cover" => cover_text(p, word),
         "try_parse_parenthesized_arrow_function_expression" => {
-            match try_parse_parenthesized_arrow_function_expression(p)? {
-                Some(arrow) => Ok(Answer::Node(arrow)),
-                None => Ok(Answer::No("none")),
-            }
+            try_parse_parenthesized_arrow_function_expression(p)
         }
         "parse_property_name" => {
             let name = parse_property_name(p)?;
             if name.computed {
-                Ok(Answer::Computed(name.key))
-            } else {
-                Ok(Answer::Node(name.key))
+                out.put("computed ");
             }
+            Ok(Some(name.key))
         }
-        _ => match call_for_a_node(p, name, word) {
-            Some(answer) => Ok(Answer::Node(answer?)),
-            None => Ok(Answer::No("no such call")),
-        },
+        _ => call_for_a_node(p, name, word).transpose(),
     }
 }
 
-/// What the call of a name answers, if it is one that answers a node.
+/// What the call of a name answers, if it is one that always answers a node.
 fn call_for_a_node(p: &mut Parser<'_>, name: &str, word: &str) -> Option<Result<NodeId, Stop>>
     requires at { Standing p.old }
     requires allows_in { has_flag in_flag p.old.ctx ≡ true }
@@ -98,10 +82,10 @@ fn call_for_a_node(p: &mut Parser<'_>, name: &str, word: &str) -> Option<Result<
         "parse_formal_parameters" => Some(parse_formal_parameters(p)),
         "parse_function_body" => Some(parse_function_body(p)),
         "parse_statement_list_item" => Some(parse_statement_list_item(p, context_of(word))),
-        "parse_binary_expression_or_higher" => {
-            let least = precedence_of(word)?;
-            Some(parse_binary_expression_or_higher(p, least))
-        }
+        "parse_binary_expression_or_higher" => match precedence_of(word) {
+            Some(least) => Some(parse_binary_expression_or_higher(p, least)),
+            None => None,
+        },
         _ => None,
     }
 }
@@ -134,54 +118,44 @@ fn context_of(word: &str) -> StatementContext {
     }
 }
 
-/// Writes what a call answered, and the name of the diagnostic that was kept last, if one was.
-fn push_result(
-    out: &mut String,
-    p: &Parser<'_>,
-    answer: Result<Answer, Stop>,
-) -> Result<(), NoMemory> {
-    match answer {
-        Ok(Answer::Node(id)) => push_tree(out, &p.ast, id)?,
-        Ok(Answer::Computed(id)) => {
-            out.push_str("computed ")?;
-            push_tree(out, &p.ast, id)?;
-        }
-        Ok(Answer::No(word)) => out.push_str(word)?,
-        Err(Stop::Fatal) => out.push_str("fatal")?,
-        Err(Stop::NoMemory) => return Err(NoMemory),
+/// Puts what a call answered, and the name of the diagnostic that was kept last, if one was.
+fn put_found(out: &mut Answer, p: &Parser<'_>, found: Result<Option<NodeId>, Stop>) {
+    match found {
+        Ok(Some(id)) => put_tree(out, &p.ast, id),
+        Ok(None) => out.put("none"),
+        Err(Stop::Fatal) => out.put("fatal"),
+        Err(Stop::NoMemory) => out.fail(),
     }
-    match p.errors.len() {
-        0 => Ok(()),
-        count => Ok(write!(out, " {}", p.errors[count - 1].kind.name())?),
+    let count = p.errors.len();
+    if count != 0 {
+        out.put(" ");
+        out.put(p.errors[count - 1].kind.name());
     }
 }
 
-/// Writes a node, and its children in parentheses, if it has any.
-fn push_tree(out: &mut String, ast: &ParserAstBuilder, id: NodeId) -> Result<(), NoMemory> {
-    push_node(out, ast, Some(id))?;
+/// Puts a node, and its children in parentheses, if it has any.
+fn put_tree(out: &mut Answer, ast: &ParserAstBuilder, id: NodeId) {
+    put_node(out, ast, Some(id));
     if !ast.contains(id) || ast.children(id).is_empty() {
-        return Ok(());
+        return;
     }
     let mut before = " (";
     for child in ast.children(id) {
-        out.push_str(before)?;
-        push_node(out, ast, *child)?;
+        out.put(before);
+        put_node(out, ast, *child);
         before = ", ";
     }
-    Ok(out.push(')')?)
+    out.put(")");
 }
 
-/// Writes the kind and the span of a node, if there is one.
-fn push_node(
-    out: &mut String,
-    ast: &ParserAstBuilder,
-    node: Option<NodeId>,
-) -> Result<(), NoMemory> {
+/// Puts the kind and the span of a node, if there is one.
+fn put_node(out: &mut Answer, ast: &ParserAstBuilder, node: Option<NodeId>) {
     match node {
         Some(id) if ast.contains(id) => {
-            let span = ast.span(id);
-            Ok(write!(out, "{} {}..{}", ast.kind(id).name(), span.start, span.end)?)
+            out.put(ast.kind(id).name());
+            out.put(" ");
+            out.put_span(ast.span(id));
         }
-        _ => Ok(out.push('-')?),
+        _ => out.put("-"),
     }
 }

@@ -3,121 +3,119 @@
 ghost use Rattle.std.specs.Prelude.{IsTrue, ◌<◌, length};
 ghost use Rattle.js_base.specs.Spans.{LiesIn};
 
+use crate::answer::Answer;
 use js_base::{SourceType, Span};
 use js_lex::TokensParserConfig;
-use js_memory::NoMemory;
 use js_parser::{Parser, ParserReturn};
 use js_tree::{NodeId, NodeKind, Tree};
 use std::alloc::Global;
 
-/// Writes what is asked of a text that is read as a script. The tokens are kept where they are asked for.
-pub(crate) fn push_parsed(
-    alloc: Global,
-    out: &mut String,
-    asked: &str,
-    text: &str,
-) -> Result<(), NoMemory> {
+/// Puts what is asked of a text that is read as a script. The tokens are kept for all but `parse`.
+pub(crate) fn put_parsed(alloc: Global, out: &mut Answer, asked: &str, text: &str) {
     let parser = Parser::new(alloc, text, SourceType::script());
-    if asked == "parse" {
-        let parsed = parser.parse()?;
-        return push_size(out, &parsed, text.len());
+    let parsed = if asked == "parse" {
+        parser.parse()
+    } else {
+        parser.with_config(TokensParserConfig).parse()
+    };
+    match parsed {
+        Ok(parsed) => put_part(alloc, out, asked, text, &parsed),
+        Err(_) => out.fail(),
     }
-    let parsed = parser.with_config(TokensParserConfig).parse()?;
+}
+
+/// Puts what is asked of what a parse gave.
+fn put_part(alloc: Global, out: &mut Answer, asked: &str, text: &str, parsed: &ParserReturn) {
     match asked {
-        "tokens" => push_tokens(out, &parsed),
-        "trivia" => push_trivia(out, &parsed),
-        "names" => push_names(out, &mut Vec::new(alloc), &parsed.program.tree, text),
-        _ => push_counts(out, &parsed),
+        "tokens" => put_tokens(out, parsed),
+        "trivia" => put_trivia(out, parsed),
+        "names" => put_names(out, &mut Vec::new(alloc), &parsed.program.tree, text),
+        _ => put_counts(out, parsed),
     }
 }
 
-/// Writes how many nodes and diagnostics come of so many bytes.
-fn push_size(out: &mut String, parsed: &ParserReturn, bytes: usize) -> Result<(), NoMemory> {
-    let nodes = parsed.program.tree.node_count();
-    let found = parsed.diagnostics.len();
-    Ok(writeln!(out, "{bytes} bytes, {nodes} nodes, {found} diagnostics")?)
+/// Puts how many nodes, tokens and diagnostics there are.
+fn put_counts(out: &mut Answer, parsed: &ParserReturn) {
+    out.put("nodes ");
+    out.put_number(parsed.program.tree.node_count());
+    out.put(" tokens ");
+    out.put_number(parsed.tokens.len());
+    out.put(" diagnostics ");
+    out.put_number(parsed.diagnostics.len());
+    out.put("\n");
 }
 
-/// Writes how many nodes, tokens and diagnostics there are.
-fn push_counts(out: &mut String, parsed: &ParserReturn) -> Result<(), NoMemory> {
-    let nodes = parsed.program.tree.node_count();
-    let tokens = parsed.tokens.len();
-    let found = parsed.diagnostics.len();
-    Ok(writeln!(out, "nodes {nodes} tokens {tokens} diagnostics {found}")?)
-}
-
-/// Writes the tokens, each with its span and its kind.
-fn push_tokens(out: &mut String, parsed: &ParserReturn) -> Result<(), NoMemory> {
+/// Puts the tokens, each with its span and its kind.
+fn put_tokens(out: &mut Answer, parsed: &ParserReturn) {
     for i in 0..parsed.tokens.len() {
         if let Some(token) = parsed.tokens.get(i) {
-            let name = token.kind().name();
-            writeln!(out, "{}..{} {name}", token.start(), token.end())?;
+            out.put_span(token.span());
+            out.put(" ");
+            out.put(token.kind().name());
+            out.put("\n");
         }
     }
-    Ok(())
 }
 
-/// Writes the comments, each with its span and where the token stands that it belongs to; and the irregular white space.
-fn push_trivia(out: &mut String, parsed: &ParserReturn) -> Result<(), NoMemory> {
+/// Puts the comments, each with its span and where the token stands that it belongs to; and the irregular white space.
+fn put_trivia(out: &mut Answer, parsed: &ParserReturn) {
     for i in 0..parsed.program.comments.len() {
         if let Some(comment) = parsed.program.comments.get(i) {
-            let span = comment.span;
-            writeln!(
-                out,
-                "{}..{} comment before {}",
-                span.start, span.end, comment.attached_to
-            )?;
+            out.put_span(comment.span);
+            out.put(" comment before ");
+            out.put_number(comment.attached_to as usize);
+            out.put("\n");
         }
     }
     for i in 0..parsed.irregular_whitespaces.len() {
         if let Some(span) = parsed.irregular_whitespaces.get(i) {
-            writeln!(out, "{}..{} blank", span.start, span.end)?;
+            out.put_span(*span);
+            out.put(" blank\n");
         }
     }
-    Ok(())
 }
 
-/// Writes the names in the tree, in its order; what is left of it is kept, the next node last.
-fn push_names(
-    out: &mut String,
-    left: &mut Vec<NodeId>,
-    tree: &Tree,
-    text: &str,
-) -> Result<(), NoMemory> {
-    left.push(NodeId(0))?;
+/// Puts the names in the tree, in its order; the nodes that are left are kept, the next one last.
+fn put_names(out: &mut Answer, left: &mut Vec<NodeId>, tree: &Tree, text: &str) {
+    put_off(out, left, &[Some(NodeId(0))]);
     for _ in 0..tree.kinds().len() {
         let Some(id) = left.pop() else {
-            return Ok(());
+            return;
         };
         if tree.contains(id) {
-            push_name(out, tree, id, text)?;
-            push_children(left, tree.children(id))?;
+            put_name(out, tree, id, text);
+            put_off(out, left, tree.children(id));
         }
     }
-    Ok(())
 }
 
-/// The children of a node, the first one last.
-fn push_children(left: &mut Vec<NodeId>, children: &[Option<NodeId>]) -> Result<(), NoMemory> {
+/// Puts off the children of a node, the first one last.
+fn put_off(out: &mut Answer, left: &mut Vec<NodeId>, children: &[Option<NodeId>]) {
     for child in children.iter().rev() {
         if let Some(child) = child {
-            left.push(*child)?;
+            if left.push(*child).is_err() {
+                out.fail();
+            }
         }
     }
-    Ok(())
 }
 
-/// Writes a node, if it is a name, with its span, what it spells, and whether the tree keeps that.
-fn push_name(out: &mut String, tree: &Tree, id: NodeId, text: &str) -> Result<(), NoMemory>
+/// Puts a node, if it is a name, with its span, what it spells, and whether the tree keeps that.
+fn put_name(out: &mut Answer, tree: &Tree, id: NodeId, text: &str)
     requires { id.0 < length tree.now }
 {
     let span = tree.span(id);
     if !is_name(tree.kind(id)) || !lies_in(span, text) {
-        return Ok(());
+        return;
     }
-    let name = tree.name(id, text);
-    let owns = tree.owns_name(id);
-    Ok(writeln!(out, "{}..{} {name} {owns}", span.start, span.end)?)
+    out.put_span(span);
+    out.put(" ");
+    out.put(tree.name(id, text));
+    out.put(if tree.owns_name(id) {
+        " true\n"
+    } else {
+        " false\n"
+    });
 }
 
 /// Whether a node is a name.

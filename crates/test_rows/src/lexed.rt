@@ -5,7 +5,7 @@ ghost use Rattle.js_base.specs.Kinds.{same_kind};
 ghost use Rattle.js_base.specs.declared.kind.Kind.TheVariants as kinds;
 ghost use Rattle.js_lex.specs.Reading.{WasGiven};
 
-use crate::written::{push_blanks, push_comments, push_faults, push_token, push_tokens, push_word};
+use crate::answer::{Answer, put_blanks, put_comments, put_faults, put_tokens};
 use js_base::{Diagnostic, Kind, MAX_LEN, SourceType, Token};
 use js_lex::{
     Lexer, LexerConfig, LexerOutput, NoTokensLexerConfig, NoTokensParserConfig, ParserConfig,
@@ -26,14 +26,8 @@ pub struct Asked<'a> {
     text: &'a str,
 }
 
-/// Writes what comes of a text that is read by a goal and with a config, the one that keeps tokens where it has no name.
-pub(crate) fn push_lexed(
-    alloc: Global,
-    out: &mut String,
-    reader: &str,
-    words: &str,
-    text: &str,
-) -> Result<(), NoMemory>
+/// Puts what comes of a text that is read by a goal and with a config, the one that keeps tokens where it has no name.
+pub(crate) fn put_lexed(alloc: Global, out: &mut Answer, reader: &str, words: &str, text: &str)
     requires { length text.now ≤ MAX_LEN }
 {
     let (goal, config) = match reader.split_once(' ') {
@@ -47,17 +41,12 @@ pub(crate) fn push_lexed(
         "runtime default" => read(alloc, out, asked, RuntimeLexerConfig::default()),
         "tokens default" => read(alloc, out, asked, TokensLexerConfig::default()),
         "no tokens default" => read(alloc, out, asked, NoTokensLexerConfig::default()),
-        _ => push_parsers(alloc, out, asked, config),
+        _ => put_parsers(alloc, out, asked, config),
     }
 }
 
 /// The same for a lexer with a parser's config.
-fn push_parsers(
-    alloc: Global,
-    out: &mut String,
-    asked: Asked<'_>,
-    config: &str,
-) -> Result<(), NoMemory>
+fn put_parsers(alloc: Global, out: &mut Answer, asked: Asked<'_>, config: &str)
     requires { length asked.text.now ≤ MAX_LEN }
 {
     match config {
@@ -68,40 +57,29 @@ fn push_parsers(
         "parser, tokens default" => read_for(alloc, out, asked, TokensParserConfig::default()),
         "parser, no tokens default" => read_for(alloc, out, asked, NoTokensParserConfig::default()),
         "parser, runtime default" => read_for(alloc, out, asked, RuntimeParserConfig::default()),
-        _ => Ok(out.push_str("no such config")?),
+        _ => out.put("no such config"),
     }
 }
 
 /// Reads a text with the config that a parser's config gives.
-fn read_for<C: ParserConfig>(
-    alloc: Global,
-    out: &mut String,
-    asked: Asked<'_>,
-    config: C,
-) -> Result<(), NoMemory>
+fn read_for<C: ParserConfig>(alloc: Global, out: &mut Answer, asked: Asked<'_>, config: C)
     requires { length asked.text.now ≤ MAX_LEN }
 {
-    read(alloc, out, asked, config.lexer_config())
+    read(alloc, out, asked, config.lexer_config());
 }
 
-/// Reads a text with a config: does what the words ask for, in order, and writes the lists of what was kept.
-fn read<C: LexerConfig>(
-    alloc: Global,
-    out: &mut String,
-    asked: Asked<'_>,
-    config: C,
-) -> Result<(), NoMemory>
+/// Reads a text with a config: does what the words ask for, in order, and puts the lists of what was kept.
+fn read<C: LexerConfig>(alloc: Global, out: &mut Answer, asked: Asked<'_>, config: C)
     requires { length asked.text.now ≤ MAX_LEN }
 {
-    let mut kept = String::new(alloc);
     let mut lexer = Lexer::new(alloc, asked.text, source_type_of(asked.goal), config);
     if asked.words.starts_with("first") {
-        push_token(out, lexer.first_token()?)?;
+        put_given(out, lexer.first_token());
     }
     for word in asked.words.split(' ') {
-        ask(&mut lexer, out, &mut kept, word, asked)?;
+        ask(&mut lexer, out, word, asked);
     }
-    push_lists(alloc, out, &lexer.finish(), asked.words, kept.as_str())
+    put_lists(alloc, out, &lexer.finish(), asked.words);
 }
 
 /// The source type of a name; the default of the crate for any other word.
@@ -116,105 +94,114 @@ fn source_type_of(goal: &str) -> SourceType {
 }
 
 /// Does what a word asks for, if it is a call's.
-fn ask<C: LexerConfig>(
-    lexer: &mut Lexer<'_, C>,
-    out: &mut String,
-    kept: &mut String,
-    word: &str,
-    asked: Asked<'_>,
-) -> Result<(), NoMemory> {
+fn ask<C: LexerConfig>(lexer: &mut Lexer<'_, C>, out: &mut Answer, word: &str, asked: Asked<'_>) {
     match word {
-        "all" => read_all(lexer, out, kept, asked),
-        "peek" => push_token(out, lexer.peek_token()?),
-        "back" => {
-            let here = lexer.checkpoint();
-            lexer.next_token()?;
-            lexer.rewind(here);
-            Ok(())
-        }
-        "fault" => match lexer.last_fault() {
-            Some(fault) => push_word(out, fault.kind.name()),
-            None => push_word(out, "no fault"),
-        },
-        "only" => {
-            out.clear();
-            Ok(())
-        }
+        "all" => read_all(lexer, out, asked),
+        "peek" => put_given(out, lexer.peek_token()),
+        "back" => next_and_back(lexer, out),
+        "fault" => put_fault(out, lexer.last_fault()),
         "next" | "again" | "regex" | "name" | "string" | "begin" | "marks" => {
-            ask_next(lexer, out, word)
+            ask_next(lexer, out, word);
         }
-        _ => Ok(()),
+        _ => {}
+    }
+}
+
+/// Puts a token that was given.
+fn put_given(out: &mut Answer, given: Result<Token, NoMemory>) {
+    match given {
+        Ok(token) => out.put_token(token),
+        Err(_) => out.fail(),
+    }
+}
+
+/// Reads the next token and goes back.
+fn next_and_back<C: LexerConfig>(lexer: &mut Lexer<'_, C>, out: &mut Answer) {
+    let here = lexer.checkpoint();
+    if lexer.next_token().is_err() {
+        out.fail();
+    }
+    lexer.rewind(here);
+}
+
+/// Puts the name of a fault, if there is one.
+fn put_fault(out: &mut Answer, fault: Option<Diagnostic>) {
+    match fault {
+        Some(fault) => out.put_item(fault.kind.name()),
+        None => out.put_item("no fault"),
     }
 }
 
 /// Reads to the end or to where no lexeme stands; the tokens whose numbers, counted from 0, are among the words are read
-/// again. Those that have to be kept are written twice.
-fn read_all<C: LexerConfig>(
-    lexer: &mut Lexer<'_, C>,
-    out: &mut String,
-    kept: &mut String,
-    asked: Asked<'_>,
-) -> Result<(), NoMemory> {
+/// again.
+fn read_all<C: LexerConfig>(lexer: &mut Lexer<'_, C>, out: &mut Answer, asked: Asked<'_>) {
     for number in 0..=asked.text.len() {
-        let mut token = lexer.next_token()?;
-        if has_number(asked.words, number) {
-            token = read_again(lexer, token)?.0;
-        }
-        push_token(out, token)?;
+        let given = if has_number(asked.words, number) {
+            next_again(lexer)
+        } else {
+            lexer.next_token()
+        };
+        let Ok(token) = given else {
+            return out.fail();
+        };
+        out.put_token(token);
         if matches!(token.kind(), Kind::Eof | Kind::Undetermined) {
-            break;
+            return;
         }
-        push_token(kept, token)?;
     }
-    Ok(())
 }
 
 /// Whether a number is among the words.
 fn has_number(words: &str, number: usize) -> bool {
     for word in words.split(' ') {
-        if word.parse::<usize>().is_ok_and(|found| found == number) {
+        if word.parse::<usize>() == Ok(number) {
             return true;
         }
     }
     false
 }
 
-/// Passes the next token, and writes what a word asks of it.
-fn ask_next<C: LexerConfig>(
-    lexer: &mut Lexer<'_, C>,
-    out: &mut String,
-    word: &str,
-) -> Result<(), NoMemory> {
-    let token = lexer.next_token()?;
-    match word {
-        "again" => push_token(out, read_again(lexer, token)?.0),
-        "regex" => {
-            let (again, pattern_end) = read_again(lexer, token)?;
-            push_token(out, again)?;
-            Ok(write!(out, " pattern {pattern_end}")?)
-        }
-        "name" => {
-            if token.kind().is_identifier_name() && !token.escaped() {
-                push_word(out, lexer.name(token))
-            } else {
-                push_word(out, "no plain name")
-            }
-        }
-        "string" => match token.kind() {
-            Kind::Str => push_units(out, &lexer.decode(token)?),
-            _ => push_word(out, "no string"),
+/// The next token, which is read again by the lexical goal that its kind admits.
+fn next_again<C: LexerConfig>(lexer: &mut Lexer<'_, C>) -> Result<Token, NoMemory> {
+    match lexer.next_token() {
+        Ok(token) => match read_again(lexer, token) {
+            Ok((again, _)) => Ok(again),
+            Err(error) => Err(error),
         },
-        "begin" => push_beginning(out, token, lexer.last_fault()),
-        "marks" => {
-            let pure = lexer.pure_before(token);
-            push_marks(out, token, pure, lexer.no_side_effects_before(token))
-        }
-        _ => push_token(out, token),
+        Err(error) => Err(error),
     }
 }
 
-/// A token that was given last, read again by the lexical goal that its kind admits; and the place at which its pattern ends, if
-/// it is read as a regular expression.
+/// Passes the next token, and puts what a word asks of it.
+fn ask_next<C: LexerConfig>(lexer: &mut Lexer<'_, C>, out: &mut Answer, word: &str) {
+    let Ok(token) = lexer.next_token() else {
+        return out.fail();
+    };
+    match word {
+        "again" => put_again(out, read_again(lexer, token), false),
+        "regex" => put_again(out, read_again(lexer, token), true),
+        "name" => {
+            if token.kind().is_identifier_name() && !token.escaped() {
+                out.put_item(lexer.name(token));
+            } else {
+                out.put_item("no plain name");
+            }
+        }
+        "string" => match token.kind() {
+            Kind::Str => put_units(out, lexer.decode(token)),
+            _ => out.put_item("no string"),
+        },
+        "begin" => put_beginning(out, token, lexer.last_fault()),
+        "marks" => {
+            let pure = lexer.pure_before(token);
+            put_marks(out, token, pure, lexer.no_side_effects_before(token));
+        }
+        _ => out.put_token(token),
+    }
+}
+
+/// A token that was given last, read again by the lexical goal that its kind admits; and the place at which its pattern
+/// ends, if it is read as a regular expression.
 #[inline(never)]
 pub(crate) fn read_again<C: LexerConfig>(
     lexer: &mut Lexer<'_, C>,
@@ -222,86 +209,99 @@ pub(crate) fn read_again<C: LexerConfig>(
 ) -> Result<(Token, u32), NoMemory>
     requires { same_kind kinds.Undetermined token.kind ≡ false → WasGiven lexer.old token }
 {
-    match token.kind() {
-        Kind::Slash | Kind::SlashEq => lexer.re_lex_regex(token),
-        Kind::RAngle => Ok((lexer.re_lex_right_angle(token)?, 0)),
-        Kind::RCurly => Ok((lexer.re_lex_template_tail(token)?, 0)),
-        _ => Ok((token, 0)),
+    let again = match token.kind() {
+        Kind::Slash | Kind::SlashEq => return lexer.re_lex_regex(token),
+        Kind::RAngle => lexer.re_lex_right_angle(token),
+        Kind::RCurly => lexer.re_lex_template_tail(token),
+        _ => Ok(token),
+    };
+    match again {
+        Ok(token) => Ok((token, 0)),
+        Err(error) => Err(error),
     }
 }
 
-/// Writes the code units of a string.
-fn push_units(out: &mut String, units: &JsStr) -> Result<(), NoMemory> {
-    push_word(out, "units")?;
+/// Puts a token that was read again, and where its pattern ends, if that is told.
+fn put_again(out: &mut Answer, again: Result<(Token, u32), NoMemory>, tells_pattern: bool) {
+    let Ok((token, pattern_end)) = again else {
+        return out.fail();
+    };
+    out.put_token(token);
+    if tells_pattern {
+        out.put(" pattern ");
+        out.put_number(pattern_end as usize);
+    }
+}
+
+/// Puts the code units of a string.
+fn put_units(out: &mut Answer, decoded: Result<JsStr, NoMemory>) {
+    let Ok(units) = decoded else {
+        return out.fail();
+    };
+    out.put_item("units");
     for i in 0..units.len() {
         if let Some(unit) = units.unit(i) {
-            write!(out, " {unit:x}")?;
+            if write!(&mut out.text, " {unit:x}").is_err() {
+                out.fail();
+            }
         }
     }
     if !units.is_well_formed() {
-        out.push_str(" ill-formed")?;
+        out.put(" ill-formed");
     }
-    Ok(())
 }
 
-/// Writes a token's fault and where it begins, and the rest where it doesn't end with a token that begins the text.
-fn push_beginning(
-    out: &mut String,
-    token: Token,
-    fault: Option<Diagnostic>,
-) -> Result<(), NoMemory> {
+/// Puts a token's fault and where it begins, and the rest where it doesn't end with a token that begins the text.
+fn put_beginning(out: &mut Answer, token: Token, fault: Option<Diagnostic>) {
+    put_fault(out, fault);
     let Some(fault) = fault else {
-        return push_word(out, "no fault");
+        return;
     };
-    push_word(out, fault.kind.name())?;
-    write!(out, " {}", fault.span.start)?;
-    if token.start() != 0 || fault.span.end != token.end() {
-        write!(out, "..{} of ", fault.span.end)?;
-        push_token(out, token)?;
+    out.put(" ");
+    if token.start() == 0 && fault.span.end == token.end() {
+        out.put_number(fault.span.start as usize);
+    } else {
+        out.put_span(fault.span);
+        out.put(" of ");
+        out.put_token(token);
     }
-    Ok(())
 }
 
-/// Writes a token, and which sorts of marking comments are attached to it.
-fn push_marks(
-    out: &mut String,
-    token: Token,
-    pure: bool,
-    no_side_effects: bool,
-) -> Result<(), NoMemory> {
-    push_token(out, token)?;
+/// Puts a token, and which sorts of marking comments are attached to it.
+fn put_marks(out: &mut Answer, token: Token, pure: bool, no_side_effects: bool) {
+    out.put_token(token);
     if pure {
-        out.push_str(" pure")?;
+        out.put(" pure");
     }
     if no_side_effects {
-        out.push_str(" no side effects")?;
+        out.put(" no side effects");
     }
-    Ok(())
 }
 
-/// Writes what was kept: comments and white space where they are asked for, tokens where others had to be kept, too, and
-/// faults where there are any and nothing says that they aren't told.
-fn push_lists(
-    alloc: Global,
-    out: &mut String,
-    output: &LexerOutput,
-    words: &str,
-    kept: &str,
-) -> Result<(), NoMemory> {
+/// Puts what was kept: comments and white space where they are asked for; tokens too where all were read and others were given
+/// but for the last; faults unless the words say that they aren't told.
+fn put_lists(alloc: Global, out: &mut Answer, output: &LexerOutput, words: &str) {
+    let mut tokens = Answer::new(alloc);
+    put_tokens(&mut tokens, &output.tokens);
+    let given = match out.text.as_str().rsplit_once(", ") {
+        Some((given, _)) => given,
+        None => "",
+    };
+    let differs = words.contains("all") && tokens.text.as_str() != given;
+    if words.contains("only") {
+        out.text.clear();
+    }
     if words.contains("comments") {
-        push_comments(out, output)?;
+        put_comments(out, output);
     }
     if words.contains("blanks") {
-        push_blanks(out, output)?;
+        put_blanks(out, output);
     }
-    let mut tokens = String::new(alloc);
-    push_tokens(&mut tokens, &output.tokens)?;
-    if words.contains("tokens") || words.contains("all") && tokens.as_str() != kept {
-        out.push_str("; tokens: ")?;
-        out.push_str(tokens.as_str())?;
+    if differs || words.contains("tokens") {
+        out.put("; tokens: ");
+        out.put(tokens.text.as_str());
     }
-    if words.contains("only") || words.contains("begin") || output.errors.is_empty() {
-        return Ok(());
+    if !(words.contains("only") || words.contains("begin")) {
+        put_faults(out, output);
     }
-    push_faults(out, output)
 }

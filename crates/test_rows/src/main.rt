@@ -16,15 +16,16 @@
 //!   there is.
 #![tactic(auto)]
 
+mod answer;
 mod called;
 mod covered;
 mod kept;
 mod lexed;
 mod pass;
 mod row;
-mod written;
 
-use crate::row::{push_answer, row_holds};
+use crate::answer::Answer;
+use crate::row::{put_answer, row_holds};
 use std::alloc::AllocError;
 use std::time::Instant;
 use std::{env, io};
@@ -38,14 +39,11 @@ fn read_rows(rt: &HostRuntime) -> io::Result<()> {
         if line.is_empty() || line.as_str().starts_with("--") {
             continue;
         }
-        let mut answer = String::new(rt.alloc());
-        let Ok(holds) = row_holds(rt.alloc(), &mut answer, line.as_str()) else {
-            return Err(AllocError.into());
-        };
-        if holds {
+        let mut answer = Answer::new(rt.alloc());
+        if row_holds(rt.alloc(), &mut answer, line.as_str()) {
             right = right.saturating_add(1);
         } else {
-            println!(rt; "{line}\n    gave: {answer}")?;
+            println!(rt; "{line}\n    gave: {}", answer.text)?;
             wrong = wrong.saturating_add(1);
         }
     }
@@ -55,12 +53,13 @@ fn read_rows(rt: &HostRuntime) -> io::Result<()> {
 /// Prints what comes of a text, if that is not timed, or else how long it took.
 fn tell(rt: &HostRuntime, asked: &str, text: &str, is_timed: bool) -> io::Result<()> {
     let start = Instant::now(rt)?;
-    let mut answer = String::new(rt.alloc());
-    let Ok(()) = push_answer(rt.alloc(), &mut answer, asked, text) else {
+    let mut answer = Answer::new(rt.alloc());
+    put_answer(rt.alloc(), &mut answer, asked, text);
+    if answer.failed {
         return Err(AllocError.into());
-    };
+    }
     if !is_timed {
-        return print!(rt; "{answer}");
+        return print!(rt; "{}", answer.text);
     }
     let micros = start.elapsed(rt)?.as_micros().max(1);
     let speed = text.len() as u128 / micros;

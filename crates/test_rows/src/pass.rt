@@ -6,62 +6,69 @@ ghost use Rattle.js_base.specs.Kinds.{same_kind};
 ghost use Rattle.js_base.specs.declared.kind.Kind.TheVariants as kinds;
 ghost use Rattle.js_lex.specs.Reading.{WasGiven};
 
+use crate::answer::Answer;
 use crate::lexed::read_again;
 use js_base::{Kind, MAX_LEN, SourceType, Token};
 use js_lex::{Lexer, NoTokensLexerConfig};
 use js_memory::NoMemory;
 use std::alloc::Global;
 
-/// Writes how many lexemes, faults and comments are in a text.
-pub(crate) fn push_pass(alloc: Global, out: &mut String, text: &str) -> Result<(), NoMemory>
+/// Puts how many lexemes, faults and comments are in a text.
+pub(crate) fn put_pass(alloc: Global, out: &mut Answer, text: &str)
     requires { length text.now ≤ MAX_LEN }
 {
     let mut lexer = Lexer::new(alloc, text, SourceType::script(), NoTokensLexerConfig);
-    let mut open = Vec::new(alloc);
-    let (tokens, bytes) = count(&mut lexer, &mut open, text.len())?;
+    put_counts(out, &mut lexer, &mut Vec::new(alloc), text.len());
     let output = lexer.finish();
-    Ok(writeln!(
-        out,
-        "{} bytes, {bytes} of them in {tokens} tokens, {} faults, {} comments",
-        text.len(),
-        output.errors.len(),
-        output.comments.len()
-    )?)
+    out.put_number(output.errors.len());
+    out.put(" faults, ");
+    out.put_number(output.comments.len());
+    out.put(" comments\n");
 }
 
-/// Takes a text of so many bytes apart, to its end; the answer is how many tokens there are, and how many bytes in them.
-fn count(
+/// Puts how many tokens are in a text of so many bytes, and how many bytes in them.
+fn put_counts(
+    out: &mut Answer,
     lexer: &mut Lexer<'_, NoTokensLexerConfig>,
     open: &mut Vec<bool>,
     len: usize,
-) -> Result<(usize, u64), NoMemory> {
+) {
     let mut tokens = 0usize;
-    let mut bytes = 0u64;
+    let mut bytes = 0usize;
     let mut before = Kind::Semicolon;
     for _ in 0..len {
-        let token = lexer.next_token()?;
-        let kind = token.kind();
+        let Ok((kind, size)) = pass_token(lexer, open, before) else {
+            return out.fail();
+        };
         if kind == Kind::Eof {
             break;
         }
         tokens = tokens.saturating_add(1);
-        let told = if is_sign(kind) {
-            pass_sign(lexer, open, before, token)?
-        } else {
-            tell(&token)
-        };
-        before = told.0;
-        bytes = bytes.saturating_add(u64::from(told.1));
+        bytes = bytes.saturating_add(size as usize);
+        before = kind;
     }
-    Ok((tokens, bytes))
+    out.put_number(len);
+    out.put(" bytes, ");
+    out.put_number(bytes);
+    out.put(" of them in ");
+    out.put_number(tokens);
+    out.put(" tokens, ");
 }
 
-/// Whether a token is a slash, a brace or a template's beginning.
-fn is_sign(kind: Kind) -> bool {
-    matches!(
-        kind,
-        Kind::Slash | Kind::SlashEq | Kind::RCurly | Kind::LCurly | Kind::TemplateHead
-    )
+/// Passes a token; the answer is its kind, and how many bytes it has.
+#[inline(always)]
+fn pass_token(
+    lexer: &mut Lexer<'_, NoTokensLexerConfig>,
+    open: &mut Vec<bool>,
+    before: Kind,
+) -> Result<(Kind, u32), NoMemory> {
+    let token = lexer.next_token()?;
+    match token.kind() {
+        Kind::Slash | Kind::SlashEq | Kind::RCurly | Kind::LCurly | Kind::TemplateHead => {
+            pass_sign(lexer, open, before, token)
+        }
+        _ => Ok(tell(&token)),
+    }
 }
 
 /// The kind of a token, and how many bytes it has.
@@ -69,8 +76,8 @@ fn tell(token: &Token) -> (Kind, u32) {
     (token.kind(), token.end().saturating_sub(token.start()))
 }
 
-/// What a slash, a brace or a template's beginning is that was given last. Of each brace that is open it is kept whether it is
-/// a substitution's, the innermost last.
+/// What a slash, a brace or a template's beginning is that was given last. Of each brace that is open it is kept whether it
+/// is a substitution's, the innermost last.
 #[inline(never)]
 fn pass_sign(
     lexer: &mut Lexer<'_, NoTokensLexerConfig>,

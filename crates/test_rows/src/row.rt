@@ -1,41 +1,45 @@
 //! A row, and what comes of what it asks for.
 
-use crate::called::push_called;
-use crate::kept::push_parsed;
-use crate::lexed::push_lexed;
-use crate::pass::push_pass;
+use crate::answer::Answer;
+use crate::called::put_called;
+use crate::kept::put_parsed;
+use crate::lexed::put_lexed;
+use crate::pass::put_pass;
 use js_base::MAX_LEN;
-use js_memory::NoMemory;
-use std::alloc::{AllocError, Global};
+use std::alloc::Global;
 
-/// Whether a row holds; what came of it is written.
-pub(crate) fn row_holds(alloc: Global, out: &mut String, row: &str) -> Result<bool, NoMemory> {
+/// Whether a row holds; what came of it is put.
+pub(crate) fn row_holds(alloc: Global, out: &mut Answer, row: &str) -> bool {
     let Some((front, want)) = row.rsplit_once(" ¦ ") else {
-        return Ok(false);
+        return false;
     };
     let Some((asked, written)) = front.rsplit_once(" ¦ ") else {
-        return Ok(false);
+        return false;
     };
-    let mut text = String::new(alloc);
-    push_text(&mut text, written)?;
-    push_answer(alloc, out, asked, text.as_str())?;
-    Ok(out.as_str().trim_end_matches('\n') == want)
+    let mut text = Answer::new(alloc);
+    put_spelled(&mut text, written);
+    if text.failed {
+        return false;
+    }
+    put_answer(alloc, out, asked, text.text.as_str());
+    !out.failed && out.text.as_str().trim_end_matches('\n') == want
 }
 
-/// Writes the text that a row's text stands for: `‹a0›` is the character of that number. What is no such number stands for
+/// Puts the text that a row's text stands for: `‹a0›` is the character of that number. What is no such number stands for
 /// itself.
-fn push_text(out: &mut String, written: &str) -> Result<(), AllocError> {
+fn put_spelled(out: &mut Answer, written: &str) {
     for (number, piece) in written.split('‹').enumerate() {
         let mut rest = piece;
         if number != 0 {
             if let Some((c, behind)) = named_character(piece) {
-                out.push(c)?;
+                if out.text.push(c).is_err() {
+                    out.fail();
+                }
                 rest = behind;
             }
         }
-        out.push_str(rest)?;
+        out.put(rest);
     }
-    Ok(())
 }
 
 /// The character of a number before `›`, and what stands behind it.
@@ -48,22 +52,17 @@ fn named_character(piece: &str) -> Option<(char, &str)> {
     Some((c, rest))
 }
 
-/// Writes what comes of a text for what is asked.
-pub(crate) fn push_answer(
-    alloc: Global,
-    out: &mut String,
-    asked: &str,
-    text: &str,
-) -> Result<(), NoMemory> {
+/// Puts what comes of a text for what is asked.
+pub(crate) fn put_answer(alloc: Global, out: &mut Answer, asked: &str, text: &str) {
     if text.len() > MAX_LEN {
-        return Ok(out.push_str("too long")?);
+        return out.put("too long");
     }
     if let Some((reader, words)) = asked.split_once(" ¦ ") {
-        return push_lexed(alloc, out, reader, words, text);
+        return put_lexed(alloc, out, reader, words, text);
     }
     match asked {
-        "lex" => push_pass(alloc, out, text),
-        "parse" | "tokens" | "trivia" | "names" | "counts" => push_parsed(alloc, out, asked, text),
-        _ => push_called(alloc, out, asked, text),
+        "lex" => put_pass(alloc, out, text),
+        "parse" | "tokens" | "trivia" | "names" | "counts" => put_parsed(alloc, out, asked, text),
+        _ => put_called(alloc, out, asked, text),
     }
 }
