@@ -1,7 +1,8 @@
 //! The calls of `js_core`, by their names.
 
-ghost use Rattle.std.specs.Prelude.{◌≡◌, ◌≤◌, true, length};
+ghost use Rattle.std.specs.Prelude.{◌≡◌, ◌≤◌, Bool, true, length};
 ghost use Rattle.js_base.specs.Contexts.{has_flag, in_flag};
+ghost use Rattle.js_cursor.specs.Starts.{Starts};
 ghost use Rattle.js_parsing_laws.specs.States.{Standing};
 
 use crate::answer::Answer;
@@ -18,29 +19,31 @@ use js_lex::RuntimeParserConfig;
 use js_tree::{NodeId, ParserAstBuilder};
 use std::alloc::Global;
 
-/// Puts what a call answers at the beginning of a text, which is read as a script, and the diagnostic that was kept last, if
-/// one was.
+/// Puts what a call answers at the beginning of a text, which is read as a script.
 pub(crate) fn put_called(alloc: Global, out: &mut Answer, asked: &str, text: &str)
     requires { length text.now ≤ MAX_LEN }
+{
+    let options = ParseOptions::default();
+    let config = RuntimeParserConfig::new(false);
+    match ParserImpl::new(alloc, text, SourceType::script(), options, config) {
+        Ok(mut p) => put_call(&mut p, out, asked),
+        Err(_) => out.fail(),
+    }
+}
+
+/// Puts what a call answers at the beginning of a text, and the name of the diagnostic that was kept last, if one was.
+fn put_call(p: &mut Parser<'_>, out: &mut Answer, asked: &str)
+    requires { (b : Bool) × Starts p.old.text p.old.source_type p.old.options b p.old }
 {
     let (name, word) = match asked.split_once(' ') {
         Some(both) => both,
         None => (asked, ""),
     };
-    let Ok(mut p) = ParserImpl::new(
-        alloc,
-        text,
-        SourceType::script(),
-        ParseOptions::default(),
-        RuntimeParserConfig::new(false),
-    ) else {
-        return out.fail();
-    };
     if p.at(Kind::HashbangComment) {
         return out.put("hashbang");
     }
-    let found = call(&mut p, out, name, word);
-    put_found(out, &p, found);
+    let found = call(p, out, name, word);
+    put_found(out, p, found);
 }
 
 /// The node that the call of a name answers, with the word that it takes; none where the call answers none, or can't be made.

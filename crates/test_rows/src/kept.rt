@@ -5,20 +5,16 @@ ghost use Rattle.js_base.specs.Spans.{LiesIn};
 
 use crate::answer::Answer;
 use js_base::{SourceType, Span};
-use js_lex::TokensParserConfig;
+use js_lex::RuntimeParserConfig;
 use js_parser::{Parser, ParserReturn};
 use js_tree::{NodeId, NodeKind, Tree};
 use std::alloc::Global;
 
 /// Puts what is asked of a text that is read as a script. The tokens are kept for all but `parse`.
 pub(crate) fn put_parsed(alloc: Global, out: &mut Answer, asked: &str, text: &str) {
+    let config = RuntimeParserConfig::new(asked != "parse");
     let parser = Parser::new(alloc, text, SourceType::script());
-    let parsed = if asked == "parse" {
-        parser.parse()
-    } else {
-        parser.with_config(TokensParserConfig).parse()
-    };
-    match parsed {
+    match parser.with_config(config).parse() {
         Ok(parsed) => put_part(alloc, out, asked, text, &parsed),
         Err(_) => out.fail(),
     }

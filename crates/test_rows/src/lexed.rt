@@ -68,18 +68,25 @@ fn read_for<C: ParserConfig>(alloc: Global, out: &mut Answer, asked: Asked<'_>, 
     read(alloc, out, asked, config.lexer_config());
 }
 
-/// Reads a text with a config: does what the words ask for, in order, and puts the lists of what was kept.
+/// Reads a text with a config, and puts the lists of what was kept.
 fn read<C: LexerConfig>(alloc: Global, out: &mut Answer, asked: Asked<'_>, config: C)
     requires { length asked.text.now ≤ MAX_LEN }
 {
     let mut lexer = Lexer::new(alloc, asked.text, source_type_of(asked.goal), config);
+    ask_all(&mut lexer, out, asked);
+    put_kept(alloc, out, &lexer.finish(), asked.words);
+}
+
+/// Does what the words ask for, in order.
+fn ask_all<C: LexerConfig>(lexer: &mut Lexer<'_, C>, out: &mut Answer, asked: Asked<'_>)
+    requires { lexer.old.place ≡ 0 }
+{
     if asked.words.starts_with("first") {
         put_given(out, lexer.first_token());
     }
     for word in asked.words.split(' ') {
-        ask(&mut lexer, out, word, asked);
+        ask(lexer, out, word, asked);
     }
-    put_lists(alloc, out, &lexer.finish(), asked.words);
 }
 
 /// The source type of a name; the default of the crate for any other word.
@@ -278,9 +285,8 @@ fn put_marks(out: &mut Answer, token: Token, pure: bool, no_side_effects: bool) 
     }
 }
 
-/// Puts what was kept: comments and white space where they are asked for; tokens too where all were read and others were given
-/// but for the last; faults unless the words say that they aren't told.
-fn put_lists(alloc: Global, out: &mut Answer, output: &LexerOutput, words: &str) {
+/// Puts what was kept. Where all tokens were read, those that were kept are told if they aren't those given but for the last.
+fn put_kept(alloc: Global, out: &mut Answer, output: &LexerOutput, words: &str) {
     let mut tokens = Answer::new(alloc);
     put_tokens(&mut tokens, &output.tokens);
     let given = match out.text.as_str().rsplit_once(", ") {
@@ -288,7 +294,14 @@ fn put_lists(alloc: Global, out: &mut Answer, output: &LexerOutput, words: &str)
         None => "",
     };
     let differs = words.contains("all") && tokens.text.as_str() != given;
-    if words.contains("only") {
+    put_lists(out, output, words, tokens.text.as_str(), differs);
+}
+
+/// Puts comments, white space and tokens where they are asked for, tokens too where they differ, and faults unless they
+/// aren't to be told. With the word `only` nothing else is told.
+fn put_lists(out: &mut Answer, output: &LexerOutput, words: &str, tokens: &str, differs: bool) {
+    let only = words.contains("only");
+    if only {
         out.text.clear();
     }
     if words.contains("comments") {
@@ -299,9 +312,9 @@ fn put_lists(alloc: Global, out: &mut Answer, output: &LexerOutput, words: &str)
     }
     if differs || words.contains("tokens") {
         out.put("; tokens: ");
-        out.put(tokens.text.as_str());
+        out.put(tokens);
     }
-    if !(words.contains("only") || words.contains("begin")) {
+    if !only && !words.contains("begin") {
         put_faults(out, output);
     }
 }

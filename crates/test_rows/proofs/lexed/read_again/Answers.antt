@@ -10,3 +10,9 @@ determined k l e (inr s) = ap (same_kind Undetermined) (sym e ∙ s)
 
 pub re_lex_regex-requires-clause-given : goal.re_lex_regex-requires-clause-given
 re_lex_regex-requires-clause-given g c = c.requires (determined c.kind.result c.args.token.kind c.kind.ensures c.in-Slash.is)
+
+pub re_lex_right_angle-again-requires-clause-given : goal.re_lex_right_angle-again-requires-clause-given
+re_lex_right_angle-again-requires-clause-given g c = c.requires (ap (same_kind Undetermined) (sym c.kind.ensures ∙ c.in-RAngle.is))
+
+pub re_lex_template_tail-again-requires-clause-given : goal.re_lex_template_tail-again-requires-clause-given
+re_lex_template_tail-again-requires-clause-given g c = c.requires (ap (same_kind Undetermined) (sym c.kind.ensures ∙ c.in-RCurly.is))
