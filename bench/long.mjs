@@ -102,8 +102,8 @@ const forms = {
 }
 
 const here = dirname(fileURLToPath(import.meta.url))
-const crate = join(here, '../crates/jsbench')
-const program = join(crate, 'out/jsbench')
+const crate = join(here, '../crates/test_rows')
+const program = join(crate, 'out/test_rows')
 if (!existsSync(program)) execFileSync('sh', ['-c', 'rt run < stdin > /dev/null'], { cwd: crate, stdio: ['ignore', 'ignore', 'inherit'] })
 const folder = mkdtempSync(join(tmpdir(), 'long-'))
 
@@ -117,7 +117,7 @@ function time([first, again, last], bytes, passes) {
   const piece = Buffer.from(again.repeat(1024))
   writeFileSync(file, Buffer.concat([Buffer.from(first), ...Array(Math.ceil(bytes / piece.length)).fill(piece), Buffer.from(last)]))
   const input = openSync(file, 'r')
-  const told = execFileSync(program, [String(passes)], { stdio: [input, 'pipe', 'inherit'], env: keeping }).toString()
+  const told = execFileSync(program, ['lex', String(passes)], { stdio: [input, 'pipe', 'inherit'], env: keeping }).toString()
   closeSync(input)
   return Math.min(...[...told.matchAll(/ in (\d+) microseconds/g)].map((found) => Number(found[1])))
 }
