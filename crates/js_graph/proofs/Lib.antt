@@ -1,0 +1,4 @@
+mod LinkLemmas
+mod PathLemmas
+mod FoundLemmas
+mod WalkLemmas

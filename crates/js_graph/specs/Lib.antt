@@ -1,0 +1,6 @@
+pub mod Modules
+pub mod Leads
+pub mod Paths
+pub mod Resolving
+pub mod Following
+pub mod Walks

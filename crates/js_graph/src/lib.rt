@@ -1,0 +1,12 @@
+//! Exports between modules (ECMA-262, 16.2.1.7.2): which binding a name that a module exports stands for, and which names
+//! it exports, where each module specifier means a module of a graph.
+#![tactic(auto)]
+
+mod graph;
+mod module;
+mod name;
+mod resolution;
+mod walk;
+
+pub use graph::Graph;
+pub use resolution::{Binding, BindingName, Resolution};
