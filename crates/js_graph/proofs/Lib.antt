@@ -1,4 +1,5 @@
 mod LinkLemmas
 mod PathLemmas
 mod FoundLemmas
+mod PlaceLemmas
 mod WalkLemmas

@@ -45,7 +45,7 @@ is_default namespace_object = false
 is_default (imported_default span) = true
 
 abbrev pub is_default_at : Span → ImportEntry → Bool
-is_default_at place ie = is_default ie.import_name && (ie.local_name.span.start == place.start && ie.local_name.span.end == place.end)
+is_default_at place ie = is_default ie.import_name && (place.start == ie.local_name.span.start && place.end == ie.local_name.span.end)
 
 -- the name that an indirect entry with this import name asks of its target
 abbrev pub import_of : ModuleRecord → NameSpan → List ℕ

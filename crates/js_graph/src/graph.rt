@@ -52,7 +52,7 @@ impl Graph {
         ensures err { OnErr result (self.new ≡ self.old) }
     {
         let number = self.modules.len();
-        self.modules.push(Module::new(self.alloc, added))?;
+        self.modules.push(Module::new(self.alloc, added)?)?;
         Ok(number)
     }
 

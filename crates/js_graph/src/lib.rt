@@ -5,6 +5,7 @@
 mod graph;
 mod module;
 mod name;
+mod places;
 mod resolution;
 mod walk;
 

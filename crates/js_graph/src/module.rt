@@ -1,17 +1,18 @@
 //! A module of a graph.
 
-ghost use Rattle.std.specs.Prelude.{◌≡◌, ◌↔◌, ◌==◌, ◌&&◌, IsTrue, All, OnOk, OnErr, bytes_eq, codes};
+ghost use Rattle.std.specs.Prelude.{◌≡◌, ◌↔◌, IfOk, OnOk, OnErr};
 ghost use Rattle.std.specs.List.{list_all, list_any};
 ghost use Rattle.std.specs.Option.{option_copied};
 ghost use Rattle.js_graph.specs.Modules.{are_linked, is_aimed, is_linked, linked, target_by, unlinked};
-ghost use Rattle.js_graph.specs.Leads.{export_of, import_of, is_default_at, is_export_of};
+ghost use Rattle.js_graph.specs.Leads.{export_of, import_of};
+ghost use Rattle.js_graph.specs.Places.{ArePlaces};
 
+use crate::places::Index;
 use indexmap::IndexMap;
-use js_base::Span;
 use js_memory::NoMemory;
 use js_record::ModuleRecord;
 use js_text::Text;
-use js_visits::{ExportEntries, ExportEntry, ImportEntry, ImportImportName, NameSpan};
+use js_visits::{ExportEntries, ExportEntry, NameSpan};
 use std::alloc::Global;
 use std::marker::Model;
 
@@ -20,6 +21,7 @@ use std::marker::Model;
 pub(crate) struct Module {
     pub(crate) module_record: ModuleRecord,
     targets: IndexMap<Text, usize>,
+    index: Index,
 }
 
 impl Model for Module {
@@ -28,62 +30,63 @@ impl Model for Module {
     ghost Value = { Linked };
 
     ghost view = { λ m. record { module_record = m.module_record; targets = m.targets.entries } };
+
+    ghost use Rattle.js_graph.specs.Places.{IsIndexOf};
+
+    ghost invariant = { λ m. IsIndexOf m.index m.module_record };
 }
 
-/// Whether an entry exports this name.
-fn is_export_of(entry: &ExportEntry, name: &str) -> bool
-    ensures { result ≡ is_export_of name.now entry.now }
-{
-    match entry.asked_name() {
-        Some(asked) => name == asked,
-        None => false,
-    }
-}
-
-/// The first of the entries that exports this name.
-pub(crate) fn export_of<'e>(entries: &'e ExportEntries, name: &str) -> Option<&'e ExportEntry>
+/// The first of the entries that exports this name, by their places.
+fn export_at<'e>(
+    places: &IndexMap<String, usize>,
+    entries: &'e ExportEntries,
+    name: &str,
+) -> Option<&'e ExportEntry>
+    requires { ArePlaces places.now.entries entries.now }
     ensures { option_copied result ≡ export_of name.now entries.now }
 {
-    for i in 0..entries.len() {
-        let entry = &entries[i];
-        if is_export_of(entry, name) {
-            return Some(entry);
-        }
+    match places.get(name) {
+        Some(place) => entries.get(*place),
+        None => None,
     }
-    None
-}
-
-/// Whether it is a default import whose local name stands at this place.
-fn is_default_at(entry: &ImportEntry, place: Span) -> bool
-    ensures { result ≡ is_default_at place entry.now }
-{
-    match &entry.import_name {
-        ImportImportName::Default(_) => entry.local_name.span == place,
-        ImportImportName::Name(_) | ImportImportName::NamespaceObject => false,
-    }
-}
-
-/// The name that an indirect entry with this import name asks of its target.
-pub(crate) fn import_of<'r>(tells: &'r ModuleRecord, name: &'r NameSpan) -> &'r str
-    ensures { result.now ≡ import_of tells.now name.now }
-{
-    let imports = &tells.import_entries;
-    for i in 0..imports.len() {
-        if is_default_at(&imports[i], name.span) {
-            return "default";
-        }
-    }
-    name.name.as_str()
 }
 
 impl Module {
-    /// The module with this record, in which no specifier means anything yet.
-    pub(crate) fn new(alloc: Global, module_record: ModuleRecord) -> Module
-        ensures { result ≡ unlinked module_record }
+    /// The module with this record, in which no specifier means anything yet. The only error is want of memory; the record
+    /// is then let go.
+    pub(crate) fn new(alloc: Global, module_record: ModuleRecord) -> Result<Module, NoMemory>
+        ensures { IfOk result (λ m. m ≡ unlinked module_record) }
     {
-        Module {
+        let index = Index::of(alloc, &module_record)?;
+        Ok(Module {
             module_record,
             targets: IndexMap::new(alloc),
+            index,
+        })
+    }
+
+    /// The local entry that exports this name.
+    pub(crate) fn local_export(&self, name: &str) -> Option<&ExportEntry>
+        ensures { option_copied result ≡ export_of name.now self.now.module_record.local_export_entries }
+    {
+        export_at(&self.index.local, &self.module_record.local_export_entries, name)
+    }
+
+    /// The indirect entry that exports this name.
+    pub(crate) fn indirect_export(&self, name: &str) -> Option<&ExportEntry>
+        ensures { option_copied result ≡ export_of name.now self.now.module_record.indirect_export_entries }
+    {
+        export_at(&self.index.indirect, &self.module_record.indirect_export_entries, name)
+    }
+
+    /// The name that an indirect entry with this import name asks of its target.
+    pub(crate) fn import_of<'m>(&'m self, name: &'m NameSpan) -> &'m str
+        ensures { result.now ≡ import_of self.now.module_record name.now }
+    {
+        if self.index.is_default(name.span) {
+            "default"
+        } else {
+            name.name.as_str()
         }
     }
 

@@ -9,7 +9,7 @@ ghost use Rattle.js_graph.specs.Leads.{Pair, binding_name, bindings_of, by_star,
 ghost use Rattle.js_graph.specs.Modules.{target_by};
 ghost use Rattle.js_graph.specs.Resolving.{Answers, Bindings};
 
-use crate::module::{Module, export_of, import_of};
+use crate::module::Module;
 use crate::name::Name;
 use crate::resolution::{Binding, BindingName, Resolution};
 use indexmap::IndexSet;
@@ -117,7 +117,7 @@ impl<'a> Walk<'a> {
         };
         match &entry.import_name {
             ExportImportName::Name(name) => {
-                self.reach(target, import_of(&tells.module_record, name))
+                self.reach(target, tells.import_of(name))
             }
             ExportImportName::All => {
                 self.find(Binding {
@@ -141,12 +141,11 @@ impl<'a> Walk<'a> {
         ensures reached { OnOk result (self.new.reached.keys ≡ entered self.old.reached.keys (pairs_of (lead_in number tells.now name.now))) }
         ensures found { OnOk result (self.new.found ≡ fold noted self.old.found (bindings_of (lead_in number tells.now name.now))) }
     {
-        let record = &tells.module_record;
-        if let Some(entry) = export_of(&record.local_export_entries, name) {
+        if let Some(entry) = tells.local_export(name) {
             self.find(local_binding(alloc, number, entry)?);
             return Ok(());
         }
-        if let Some(entry) = export_of(&record.indirect_export_entries, name) {
+        if let Some(entry) = tells.indirect_export(name) {
             return self.follow_indirect(tells, entry);
         }
         if name == "default" {
