@@ -2,4 +2,5 @@ mod LinkLemmas
 mod PathLemmas
 mod FoundLemmas
 mod PlaceLemmas
+mod NameLemmas
 mod WalkLemmas

@@ -4,9 +4,11 @@ ghost use Rattle.std.specs.Prelude.{◌≡◌, ◌<◌, ◌↔◌, ◌∷◌, �
 ghost use Rattle.std.specs.List.{IsDistinct};
 ghost use Rattle.js_grammar.specs.ModuleRecords.{own_export_names};
 ghost use Rattle.js_graph.specs.Modules.{are_linked, unlinked, with_link};
+ghost use Rattle.js_graph.specs.Names.{AreExported};
 ghost use Rattle.js_graph.specs.Resolving.{Answers, Bindings};
 
 use crate::module::{Module, are_linked};
+use crate::names::{Texts, exported_names};
 use crate::resolution::Resolution;
 use crate::walk::resolve;
 use js_memory::NoMemory;
@@ -97,5 +99,17 @@ impl Graph {
         ensures { IfOk result (Answers (Bindings self.now «module» name.now)) }
     {
         resolve(alloc, &self.modules, module, name)
+    }
+
+    /// The names that a module exports: GetExportedNames (ECMA-262, 16.2.1.7.2.1). First stand those that it exports itself,
+    /// in the order of its record, the local ones before the indirect ones; then, each once and in the order of their bytes,
+    /// those but `default` that modules export which its star entries reach, alone or over star entries of others, and that
+    /// it doesn't export itself. The only error is want of memory.
+    pub fn exported_names(&self, alloc: Global, module: usize) -> Result<Texts, NoMemory>
+        requires module_exists { «module» < length self.now }
+        requires linked { IsTrue (are_linked self.now) }
+        ensures { IfOk result (AreExported self.now «module») }
+    {
+        exported_names(alloc, &self.modules, module)
     }
 }

@@ -5,9 +5,11 @@
 mod graph;
 mod module;
 mod name;
+mod names;
 mod places;
 mod resolution;
 mod walk;
 
 pub use graph::Graph;
+pub use names::Texts;
 pub use resolution::{Binding, BindingName, Resolution};

@@ -1,7 +1,9 @@
 //! A module of a graph.
 
-ghost use Rattle.std.specs.Prelude.{◌≡◌, ◌↔◌, IfOk, OnOk, OnErr};
+ghost use Rattle.std.specs.Prelude.{◌≡◌, IfOk, OnOk, OnErr, bytes_eq};
 ghost use Rattle.std.specs.List.{list_all, list_any};
+ghost use Rattle.js_grammar.specs.ModuleRecords.{own_export_names};
+ghost use Rattle.js_graph.specs.Names.{is_taken};
 ghost use Rattle.std.specs.Option.{option_copied};
 ghost use Rattle.js_graph.specs.Modules.{are_linked, is_aimed, is_linked, linked, target_by, unlinked};
 ghost use Rattle.js_graph.specs.Leads.{export_of, import_of};
@@ -77,6 +79,20 @@ impl Module {
         ensures { option_copied result ≡ export_of name.now self.now.module_record.indirect_export_entries }
     {
         export_at(&self.index.indirect, &self.module_record.indirect_export_entries, name)
+    }
+
+    /// Whether the module itself exports this name.
+    fn exports(&self, name: &str) -> bool
+        ensures { result ≡ list_any (bytes_eq name.now) (own_export_names self.now.module_record) }
+    {
+        self.local_export(name).is_some() || self.indirect_export(name).is_some()
+    }
+
+    /// Whether star entries bring in this name, where a module that they reach exports it.
+    pub(crate) fn takes(&self, name: &str) -> bool
+        ensures { result ≡ is_taken self.now name.now }
+    {
+        name != "default" && !self.exports(name)
     }
 
     /// The name that an indirect entry with this import name asks of its target.

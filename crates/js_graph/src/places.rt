@@ -84,12 +84,12 @@ fn default_places(alloc: Global, imports: &ImportEntries) -> Result<IndexSet<(u3
 
 impl Index {
     /// The index of a record.
-    pub(crate) fn of(alloc: Global, tells: &ModuleRecord) -> Result<Index, NoMemory>
-        ensures { IfOk result (λ index. IsIndexOf index tells.now) }
+    pub(crate) fn of(alloc: Global, module_record: &ModuleRecord) -> Result<Index, NoMemory>
+        ensures { IfOk result (λ index. IsIndexOf index module_record.now) }
     {
-        let local = export_places(alloc, &tells.local_export_entries)?;
-        let indirect = export_places(alloc, &tells.indirect_export_entries)?;
-        let defaults = default_places(alloc, &tells.import_entries)?;
+        let local = export_places(alloc, &module_record.local_export_entries)?;
+        let indirect = export_places(alloc, &module_record.indirect_export_entries)?;
+        let defaults = default_places(alloc, &module_record.import_entries)?;
         Ok(Index {
             local,
             indirect,

@@ -94,13 +94,13 @@ impl<'a> Walk<'a> {
     }
 
     /// Follows the star entries of a module, which is asked for this name.
-    fn follow_stars(&mut self, tells: &'a Module, name: &'a str) -> Result<(), NoMemory>
-        ensures reached { OnOk result (self.new.reached.keys ≡ entered self.old.reached.keys (flat_map (by_star tells.now name.now) tells.now.module_record.star_export_entries)) }
+    fn follow_stars(&mut self, asked: &'a Module, name: &'a str) -> Result<(), NoMemory>
+        ensures reached { OnOk result (self.new.reached.keys ≡ entered self.old.reached.keys (flat_map (by_star asked.now name.now) asked.now.module_record.star_export_entries)) }
         ensures found { OnOk result (self.new.found ≡ self.old.found) }
     {
-        let entries = &tells.module_record.star_export_entries;
+        let entries = &asked.module_record.star_export_entries;
         for i in 0..entries.len() {
-            if let Some(target) = tells.target(&entries[i].module_request) {
+            if let Some(target) = asked.target(&entries[i].module_request) {
                 self.reach(target, name)?;
             }
         }
@@ -108,16 +108,16 @@ impl<'a> Walk<'a> {
     }
 
     /// Follows an indirect entry of a module.
-    fn follow_indirect(&mut self, tells: &'a Module, entry: &'a ExportEntry) -> Result<(), NoMemory>
-        ensures reached { OnOk result (self.new.reached.keys ≡ entered self.old.reached.keys (pairs_of (through tells.now (target_by tells.now entry.now.module_request) entry.now.import_name))) }
-        ensures found { OnOk result (self.new.found ≡ fold noted self.old.found (bindings_of (through tells.now (target_by tells.now entry.now.module_request) entry.now.import_name))) }
+    fn follow_indirect(&mut self, asked: &'a Module, entry: &'a ExportEntry) -> Result<(), NoMemory>
+        ensures reached { OnOk result (self.new.reached.keys ≡ entered self.old.reached.keys (pairs_of (through asked.now (target_by asked.now entry.now.module_request) entry.now.import_name))) }
+        ensures found { OnOk result (self.new.found ≡ fold noted self.old.found (bindings_of (through asked.now (target_by asked.now entry.now.module_request) entry.now.import_name))) }
     {
-        let Some(target) = tells.target(&entry.module_request) else {
+        let Some(target) = asked.target(&entry.module_request) else {
             return Ok(());
         };
         match &entry.import_name {
             ExportImportName::Name(name) => {
-                self.reach(target, tells.import_of(name))
+                self.reach(target, asked.import_of(name))
             }
             ExportImportName::All => {
                 self.find(Binding {
@@ -135,23 +135,23 @@ impl<'a> Walk<'a> {
         &mut self,
         alloc: Global,
         number: usize,
-        tells: &'a Module,
+        asked: &'a Module,
         name: &'a str,
     ) -> Result<(), NoMemory>
-        ensures reached { OnOk result (self.new.reached.keys ≡ entered self.old.reached.keys (pairs_of (lead_in number tells.now name.now))) }
-        ensures found { OnOk result (self.new.found ≡ fold noted self.old.found (bindings_of (lead_in number tells.now name.now))) }
+        ensures reached { OnOk result (self.new.reached.keys ≡ entered self.old.reached.keys (pairs_of (lead_in number asked.now name.now))) }
+        ensures found { OnOk result (self.new.found ≡ fold noted self.old.found (bindings_of (lead_in number asked.now name.now))) }
     {
-        if let Some(entry) = tells.local_export(name) {
+        if let Some(entry) = asked.local_export(name) {
             self.find(local_binding(alloc, number, entry)?);
             return Ok(());
         }
-        if let Some(entry) = tells.indirect_export(name) {
-            return self.follow_indirect(tells, entry);
+        if let Some(entry) = asked.indirect_export(name) {
+            return self.follow_indirect(asked, entry);
         }
         if name == "default" {
             return Ok(());
         }
-        self.follow_stars(tells, name)
+        self.follow_stars(asked, name)
     }
 
     /// Follows the name at this place among those that were reached.
@@ -167,7 +167,7 @@ impl<'a> Walk<'a> {
         let asked = &self.reached[place];
         let (number, name) = (asked.0, asked.1.text());
         match modules.get(number) {
-            Some(tells) => self.follow(alloc, number, tells, name),
+            Some(asked) => self.follow(alloc, number, asked, name),
             None => Ok(()),
         }
     }

@@ -7,6 +7,6 @@ use Rattle.js_graph.proofs.walk.Walk.follow_stars.Given as goal
 -- the targets of the entries before are reached
 abbrev pub invariant-loop-i : goal.invariant-loop-i
 invariant-loop-i l = record {
-  reached : l.self.reached.keys ≡ entered l.initial.self.reached.keys (flat_map (by_star l.tells l.name) (take l.i l.entries));
+  reached : l.self.reached.keys ≡ entered l.initial.self.reached.keys (flat_map (by_star l.asked l.name) (take l.i l.entries));
   found : l.self.found ≡ l.initial.self.found;
 }
