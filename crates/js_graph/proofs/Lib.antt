@@ -3,4 +3,5 @@ mod PathLemmas
 mod FoundLemmas
 mod PlaceLemmas
 mod NameLemmas
+mod UnreachedLemmas
 mod WalkLemmas

@@ -7,3 +7,4 @@ pub mod Collecting
 pub mod Resolving
 pub mod Following
 pub mod Walks
+pub mod Unreached

@@ -3,6 +3,7 @@
 #![tactic(auto)]
 
 mod graph;
+mod laws;
 mod module;
 mod name;
 mod names;
@@ -11,5 +12,6 @@ mod resolution;
 mod walk;
 
 pub use graph::Graph;
+pub use laws::law_of_unreached_modules;
 pub use names::Texts;
 pub use resolution::{Binding, BindingName, Resolution};
