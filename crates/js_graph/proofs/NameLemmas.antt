@@ -1,7 +1,7 @@
 -- The names that modules export.
-use Rattle.std.proofs.Common.{◌≡◌, ℕ, ◌+◌, ◌<◌, ◌≤◌, Bool, true, false, cond, ◌||◌, List, [], ◌∷◌, ◌++◌, length, get_or, slice_get, Option, Some, None, is_some, refl, sym, ap, ◌∙◌, subst, ◌⊎◌, inl, inr, true≢false, ◌↔◌, append_assoc, arith}
-use Rattle.std.specs.Prelude.{bytes_eq, nat_eq, Contains, filter, IsTrue}
-use Rattle.std.specs.List.{find, flat_map, list_any, dedup}
+use Rattle.std.proofs.Common.{◌≡◌, ℕ, ◌+◌, ◌<◌, ◌≤◌, Bool, true, false, cond, ◌||◌, List, [], ◌∷◌, ◌++◌, length, get_or, slice_get, Option, Some, None, is_some, refl, sym, ap, ◌∙◌, subst, inl, inr, true≢false, append_assoc}
+use Rattle.std.specs.Prelude.{bytes_eq, nat_eq, Contains, filter}
+use Rattle.std.specs.List.{flat_map, list_any, dedup}
 use Rattle.std.specs.List.Sorted.{IsPermutation, IsSorted, IsStrictlySortedBy}
 use Rattle.std.specs.Cmp.Lexicographic.{slice_cmp, nat_list_cmp_total, nat_list_eq_equiv, texts_ties}
 use Rattle.std.specs.Ordering.{nat_cmp}
@@ -70,9 +70,9 @@ module _ {A : Type 0} (test : A → Bool) where
     where
       by : (Contains (filter test xs) x → Contains (y ∷ xs) x × (test x ≡ true)) → (b : Bool) → test y ≡ b → Contains (cond b (y ∷ filter test xs) (filter test xs)) x → Contains (y ∷ xs) x × (test x ≡ true)
       by behind true e h = elim (in_first y (filter test xs) x h) [
-          inl same ↦ (subst (Contains (y ∷ xs)) same (Contains-append_left (y ∷ []) xs y (Contains-push [] y)), ap test (sym same) ∙ e)
+        | inl same ↦ (subst (Contains (y ∷ xs)) same (Contains-append_left (y ∷ []) xs y (Contains-push [] y)), ap test (sym same) ∙ e)
         | inr n ↦ behind n
-        ]
+      ]
       by behind false e h = behind h
 
   pub to_filter : (xs : List A) (x : A) → Contains xs x → test x ≡ true → Contains (filter test xs) x
@@ -81,28 +81,28 @@ module _ {A : Type 0} (test : A → Bool) where
     where
       by : (Contains xs x → Contains (filter test xs) x) → (b : Bool) → test y ≡ b → Contains (cond b (y ∷ filter test xs) (filter test xs)) x
       by behind true e = elim (in_first y xs x h) [
-          inl same ↦ subst (Contains (y ∷ filter test xs)) same (Contains-append_left (y ∷ []) (filter test xs) y (Contains-push [] y))
+        | inl same ↦ subst (Contains (y ∷ filter test xs)) same (Contains-append_left (y ∷ []) (filter test xs) y (Contains-push [] y))
         | inr n ↦ Contains-append_right (y ∷ []) (filter test xs) x (behind n)
-        ]
+      ]
       by behind false e = elim (in_first y xs x h) [
-          inl same ↦ absurd (true≢false (sym t ∙ ap test (sym same) ∙ e))
+        | inl same ↦ absurd (true≢false (sym t ∙ ap test (sym same) ∙ e))
         | inr n ↦ behind n
-        ]
+      ]
 
 module _ {A B : Type 0} (f : A → List B) where
   pub in_flat_map : (xs : List A) (b : B) → Contains (flat_map f xs) b → (x : A) × Contains xs x × Contains (f x) b
   in_flat_map [] b h = absurd (none_in b h)
   in_flat_map (y ∷ xs) b h = elim (Contains-append_cases (f y) (flat_map f xs) b h) [
-      inl n ↦ (y, Contains-append_left (y ∷ []) xs y (Contains-push [] y), n)
+    | inl n ↦ (y, Contains-append_left (y ∷ []) xs y (Contains-push [] y), n)
     | inr n ↦ let rest = in_flat_map xs b n in (rest.0, Contains-append_right (y ∷ []) xs rest.0 rest.1, rest.2)
-    ]
+  ]
 
   pub to_flat_map : (xs : List A) (x : A) (b : B) → Contains xs x → Contains (f x) b → Contains (flat_map f xs) b
   to_flat_map [] x b h k = absurd (none_in x h)
   to_flat_map (y ∷ xs) x b h k = elim (in_first y xs x h) [
-      inl same ↦ Contains-append_left (f y) (flat_map f xs) b (subst (λ (v : A). Contains (f v) b) (sym same) k)
+    | inl same ↦ Contains-append_left (f y) (flat_map f xs) b (subst (λ (v : A). Contains (f v) b) (sym same) k)
     | inr n ↦ Contains-append_right (f y) (flat_map f xs) b (to_flat_map xs x b n k)
-    ]
+  ]
 
 -- Star entries.
 pub next_star : (g : List Module) (number : ℕ) (ks news : List ℕ) (done : ℕ) → AreFollowed (stars_at g) number ks done → done < length ks
@@ -121,7 +121,8 @@ sorted_names names perm sorted p s e = record {
   ordered = subst (IsStrictlySortedBy (slice_cmp nat_cmp)) (sym e) (IsStrictlySortedBy-dedup nat_list_cmp_total texts_ties perm s);
   same = λ name. (
     λ h. Contains-permutation perm names name (IsPermutation-sym names perm p) (Contains-from_dedup bytes_eq perm name (subst (λ (v : List (List ℕ)). Contains v name) e h)),
-    λ h. subst (λ (v : List (List ℕ)). Contains v name) (sym e) (Contains-dedup nat_list_eq_equiv (λ x y. (bytes_eq-Decides x y).0) perm name (Contains-permutation names perm name p h)));
+    λ h. subst (λ (v : List (List ℕ)). Contains v name) (sym e) (Contains-dedup nat_list_eq_equiv (λ x y. (bytes_eq-Decides x y).0) perm name (Contains-permutation names perm name p h)),
+  );
 }
 
 -- the module of a number
@@ -147,7 +148,7 @@ module _ (g : List Module) (number : ℕ) (first : Module) (lt : number < length
     from : (name : List ℕ) → IsStarName g number name → Contains stars name
     from name h =
         (sorted.same name).1 (to_flat_map (λ n. filter (is_taken first) (names_of g n)) numbers h.other name ((reached.reached h.other).1 h.reached)
-            (to_filter (is_taken first) (names_of g h.other) name h.exported (ap (λ v. is_new v name) (sym here) ∙ h.taken)))
+        (to_filter (is_taken first) (names_of g h.other) name h.exported (ap (λ v. is_new v name) (sym here) ∙ h.taken)))
 
     pub are_star_names : AreStarNames g number stars
     are_star_names = record { ordered = sorted.ordered; exact = λ name. (to name, from name) }

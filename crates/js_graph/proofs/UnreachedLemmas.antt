@@ -1,10 +1,10 @@
 -- Modules that aren't reached.
 use Rattle.std.proofs.Common.{◌≡◌, ℕ, List, ◌++◌, sym, ap, ◌∙◌, subst, ◌↔◌}
-use Rattle.std.specs.Prelude.{Contains, slice_get}
+use Rattle.std.specs.Prelude.{Contains}
 use Rattle.js_graph.specs.declared.resolution.Binding.{Binding}
-use Rattle.js_graph.specs.Leads.{Pair, to_binding, lead_at, lead_of, next_of, pairs_of}
+use Rattle.js_graph.specs.Leads.{Pair, lead_at, lead_of, next_of, pairs_of}
 use Rattle.js_graph.specs.Modules.{Module}
-use Rattle.js_graph.specs.Names.{AreExported, AreStarNames, IsStarName, is_new, names_of, own_names, stars_at, stars_by}
+use Rattle.js_graph.specs.Names.{AreExported, IsStarName, is_new, names_of, own_names, stars_at, stars_by}
 use Rattle.js_graph.specs.Paths.{Reaches, itself, onward}
 use Rattle.js_graph.specs.Resolving.{Bindings}
 use Rattle.js_graph.specs.Unreached.{AgreesFrom, AgreesOverStars, UnreachedModulesDontMatter}
@@ -29,7 +29,8 @@ module _ (g h : List Module) (number : ℕ) (name : List ℕ) (agrees : AgreesFr
   pub same_bindings : (b : Binding) → Bindings g number name b ↔ Bindings h number name b
   same_bindings b = (
     λ f. (f.0, there (next_of g) (next_of h) (number, name) next_same f.0 f.1, lead_same f.0 f.1 ∙ f.2),
-    λ f. let r = back (next_of g) (next_of h) (number, name) next_same f.0 f.1 in (f.0, r, sym (lead_same f.0 r) ∙ f.2))
+    λ f. let r = back (next_of g) (next_of h) (number, name) next_same f.0 f.1 in (f.0, r, sym (lead_same f.0 r) ∙ f.2),
+  )
 
 module _ (g h : List Module) (number : ℕ) (agrees : AgreesOverStars g number h) where
   stars_same : (other : ℕ) → Reaches (stars_at g) number other → stars_at h other ≡ stars_at g other
@@ -59,7 +60,8 @@ module _ (g h : List Module) (number : ℕ) (agrees : AgreesOverStars g number h
   pub same_names : (names : List (List ℕ)) → AreExported g number names ↔ AreExported h number names
   same_names names = (
     λ f. record { stars = f.stars; all = f.all ∙ ap (λ v. v ++ f.stars) (sym (names_same number itself)); brought = record { ordered = f.brought.ordered; exact = λ name. (λ c. star_there name ((f.brought.exact name).0 c), λ s. (f.brought.exact name).1 (star_back name s)) } },
-    λ f. record { stars = f.stars; all = f.all ∙ ap (λ v. v ++ f.stars) (names_same number itself); brought = record { ordered = f.brought.ordered; exact = λ name. (λ c. star_back name ((f.brought.exact name).0 c), λ s. (f.brought.exact name).1 (star_there name s)) } })
+    λ f. record { stars = f.stars; all = f.all ∙ ap (λ v. v ++ f.stars) (names_same number itself); brought = record { ordered = f.brought.ordered; exact = λ name. (λ c. star_back name ((f.brought.exact name).0 c), λ s. (f.brought.exact name).1 (star_there name s)) } },
+  )
 
 pub law : UnreachedModulesDontMatter
 law = record { bindings = same_bindings; names = same_names }

@@ -1,5 +1,5 @@
 -- How the names that star entries bring in are collected.
-use Rattle.std.specs.Prelude.{ℕ, ◌≡◌, ◌↔◌, List, [], ◌∷◌, Contains, filter}
+use Rattle.std.specs.Prelude.{ℕ, ◌↔◌, List, Contains, filter}
 use Rattle.std.specs.List.{flat_map}
 use Rattle.std.specs.List.Sorted.{IsStrictlySortedBy}
 use Rattle.std.specs.Cmp.Lexicographic.{slice_cmp}

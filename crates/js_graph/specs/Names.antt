@@ -1,10 +1,10 @@
 -- GetExportedNames (ECMA-262, 16.2.1.7.2.1), by what paths of star entries reach.
-use Rattle.std.specs.Prelude.{ℕ, ◌≡◌, ◌↔◌, Bool, ◌&&◌, not, bytes_eq, codes, List, [], ◌∷◌, ◌++◌, Option, Some, None, slice_get, Contains, IsTrue}
+use Rattle.std.specs.Prelude.{ℕ, ◌≡◌, ◌↔◌, Bool, ◌&&◌, not, bytes_eq, codes, List, [], ◌++◌, Option, Some, None, slice_get, Contains, IsTrue}
 use Rattle.std.specs.List.{flat_map, list_any}
 use Rattle.std.specs.List.Sorted.{IsStrictlySortedBy}
 use Rattle.std.specs.Cmp.Lexicographic.{slice_cmp}
 use Rattle.std.specs.Ordering.{nat_cmp}
-use Rattle.js_grammar.specs.ModuleRecords.{ExportEntry, own_export_names}
+use Rattle.js_grammar.specs.ModuleRecords.{own_export_names}
 use Rattle.js_visits.specs.Options.{places_of}
 use Rattle.js_graph.specs.Modules.{Module, target_by}
 use Rattle.js_graph.specs.Paths.{Reaches}

@@ -71,14 +71,22 @@ impl Module {
     pub(crate) fn local_export(&self, name: &str) -> Option<&ExportEntry>
         ensures { option_copied result ≡ export_of name.now self.now.module_record.local_export_entries }
     {
-        export_at(&self.index.local, &self.module_record.local_export_entries, name)
+        export_at(
+            &self.index.local,
+            &self.module_record.local_export_entries,
+            name,
+        )
     }
 
     /// The indirect entry that exports this name.
     pub(crate) fn indirect_export(&self, name: &str) -> Option<&ExportEntry>
         ensures { option_copied result ≡ export_of name.now self.now.module_record.indirect_export_entries }
     {
-        export_at(&self.index.indirect, &self.module_record.indirect_export_entries, name)
+        export_at(
+            &self.index.indirect,
+            &self.module_record.indirect_export_entries,
+            name,
+        )
     }
 
     /// Whether the module itself exports this name.

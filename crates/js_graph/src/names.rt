@@ -36,7 +36,11 @@ fn own_names(alloc: Global, first: &Module) -> Result<Texts, NoMemory>
 {
     let mut names = List::new(alloc);
     push_own(alloc, &mut names, &first.module_record.local_export_entries)?;
-    push_own(alloc, &mut names, &first.module_record.indirect_export_entries)?;
+    push_own(
+        alloc,
+        &mut names,
+        &first.module_record.indirect_export_entries,
+    )?;
     Ok(names)
 }
 

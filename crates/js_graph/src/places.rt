@@ -43,7 +43,10 @@ fn add_place(
 }
 
 /// Of each name, the place of the first of the entries that exports it.
-fn export_places(alloc: Global, entries: &ExportEntries) -> Result<IndexMap<String, usize>, NoMemory>
+fn export_places(
+    alloc: Global,
+    entries: &ExportEntries,
+) -> Result<IndexMap<String, usize>, NoMemory>
     ensures { IfOk result (λ m. ArePlaces m.entries entries.now) }
 {
     let mut places = IndexMap::new(alloc);

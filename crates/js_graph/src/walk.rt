@@ -116,9 +116,7 @@ impl<'a> Walk<'a> {
             return Ok(());
         };
         match &entry.import_name {
-            ExportImportName::Name(name) => {
-                self.reach(target, asked.import_of(name))
-            }
+            ExportImportName::Name(name) => { self.reach(target, asked.import_of(name)) }
             ExportImportName::All => {
                 self.find(Binding {
                     module: target,

@@ -1,4 +1,4 @@
-use Rattle.std.proofs.Common.{Some, None, sym, ◌∙◌}
+use Rattle.std.proofs.Common.{Some, None, ◌∙◌}
 use Rattle.js_graph.proofs.PlaceLemmas.{found_at}
 use Rattle.js_graph.proofs.module.export_at.Goals as goal
 

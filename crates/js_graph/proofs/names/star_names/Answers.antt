@@ -1,4 +1,4 @@
-use Rattle.std.proofs.Common.{List, ℕ, ap, sym, ◌∙◌, subst}
+use Rattle.std.proofs.Common.{List, ℕ, ap, ◌∙◌, subst}
 use Rattle.js_graph.specs.Collecting.{AreSorted, taken_from}
 use Rattle.js_graph.proofs.NameLemmas.{are_star_names}
 use Rattle.js_graph.proofs.names.star_names.Goals as goal

@@ -1,5 +1,4 @@
-use Rattle.std.proofs.Common.{sym, ◌∙◌, ap, ◌||◌}
-use Rattle.std.specs.Option.{is_some, option_copied}
+use Rattle.std.proofs.Common.{sym, ◌∙◌}
 use Rattle.js_graph.proofs.NameLemmas.{exports_here, exports_there}
 use Rattle.js_graph.proofs.module.Module.exports.Goals as goal
 
