@@ -86,8 +86,8 @@ impl Graph {
 
     /// What a name that a module is asked for stands for: ResolveExport (ECMA-262, 16.2.1.7.2.2). It is null exactly where
     /// no path from there reaches a binding, a binding exactly where paths reach it alone, and ambiguous exactly where they
-    /// reach two. The only error is want of memory. Each pair of a module and a name is followed once, at the cost of the
-    /// entries of that module.
+    /// reach two. Each pair of a module and a name on the paths is followed once, with no recursion. The only error is want
+    /// of memory.
     pub fn resolve_export(
         &self,
         alloc: Global,
@@ -96,7 +96,7 @@ impl Graph {
     ) -> Result<Resolution, NoMemory>
         requires module_exists { «module» < length self.now }
         requires linked { IsTrue (are_linked self.now) }
-        ensures { IfOk result (Answers (Bindings self.now «module» name.now)) }
+        ensures resolved { IfOk result (Answers (Bindings self.now «module» name.now)) }
     {
         resolve(alloc, &self.modules, module, name)
     }
@@ -108,7 +108,7 @@ impl Graph {
     pub fn exported_names(&self, alloc: Global, module: usize) -> Result<Texts, NoMemory>
         requires module_exists { «module» < length self.now }
         requires linked { IsTrue (are_linked self.now) }
-        ensures { IfOk result (AreExported self.now «module») }
+        ensures exported { IfOk result (AreExported self.now «module») }
     {
         exported_names(alloc, &self.modules, module)
     }

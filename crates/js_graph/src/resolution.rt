@@ -51,7 +51,7 @@ impl BindingName {
 
 impl Binding {
     /// Whether they are the same.
-    pub fn is_same(&self, other: &Binding) -> bool
+    pub(crate) fn is_same(&self, other: &Binding) -> bool
         ensures { IsTrue result ↔ (self.now ≡ other.now) }
     {
         self.module == other.module && self.name.is_same(&other.name)
