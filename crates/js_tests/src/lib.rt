@@ -6,6 +6,8 @@ mod base;
 #[cfg(test)]
 mod decoding;
 #[cfg(test)]
+mod graph;
+#[cfg(test)]
 mod record;
 #[cfg(test)]
 mod rows;

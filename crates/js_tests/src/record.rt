@@ -49,7 +49,12 @@ fn import_call(
 
 /// A node to be made: what it is, its places, and its slots: `n` is the next of the nodes that are in no slot yet, `-` an
 /// empty slot.
-struct Step(NodeKind, u32, u32, &'static str);
+pub(crate) struct Step(
+    pub(crate) NodeKind,
+    pub(crate) u32,
+    pub(crate) u32,
+    pub(crate) &'static str,
+);
 
 /// The place of an error and the other place.
 type Fault = (Span, Span);
@@ -304,14 +309,20 @@ static DEFAULT_WORD: Span = Span { start: 7, end: 14 };
 fn is_name(text: &str) -> bool
     ensures { IsTrue result → IsSome (name_text (chars (without_sign text.now))) }
 {
-    matches!(text, "x" | "v" | "a" | "f" | "ns" | "source" | "default")
+    matches!(
+        text,
+        "x" | "v" | "a" | "f" | "ns" | "source" | "default" | "d"
+    )
 }
 
 /// Whether it is one of the string literals of the rows.
 fn is_quoted(text: &str) -> bool
     ensures { IsTrue result → string_kind (chars text.now) ≡ Some Str }
 {
-    matches!(text, "'x'" | "'mod'" | "'source'" | "'\\uD800'")
+    matches!(
+        text,
+        "'x'" | "'mod'" | "'source'" | "'\\uD800'" | "'a'" | "'b'" | "'c'"
+    )
 }
 
 /// Whether a node of this kind is a name.
@@ -468,7 +479,7 @@ fn visit_steps(
 }
 
 /// Visits the nodes of a row in a tree of their own.
-fn visit_all(
+pub(crate) fn visit_all(
     alloc: Global,
     record: &mut ModuleRecordBuilder,
     source: &str,

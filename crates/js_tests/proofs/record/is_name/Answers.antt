@@ -36,6 +36,10 @@ default_name : IsSome (name_text (chars (without_sign (codes "default"))))
 unfolding chars lib.Utf8.encode
 default_name = refl
 
+d_name : IsSome (name_text (chars (without_sign (codes "d"))))
+unfolding chars lib.Utf8.encode
+d_name = refl
+
 pub returns-in-x : goal.returns-in-x
 returns-in-x c = λ _. known (codes "x") c.args.text.now x_name (cc)
 
@@ -56,3 +60,6 @@ returns-in-x-6 c = λ _. known (codes "source") c.args.text.now source_name (cc)
 
 pub returns-in-x-7 : goal.returns-in-x-7
 returns-in-x-7 c = λ _. known (codes "default") c.args.text.now default_name (cc)
+
+pub returns-in-x-8 : goal.returns-in-x-8
+returns-in-x-8 c = λ _. known (codes "d") c.args.text.now d_name (cc)

@@ -24,6 +24,18 @@ lone_string : string_kind (chars (codes "'\\uD800'")) ≡ Some Str
 unfolding chars lib.Utf8.encode
 lone_string = refl
 
+a_string : string_kind (chars (codes "'a'")) ≡ Some Str
+unfolding chars lib.Utf8.encode
+a_string = refl
+
+b_string : string_kind (chars (codes "'b'")) ≡ Some Str
+unfolding chars lib.Utf8.encode
+b_string = refl
+
+c_string : string_kind (chars (codes "'c'")) ≡ Some Str
+unfolding chars lib.Utf8.encode
+c_string = refl
+
 pub returns-in-text : goal.returns-in-text
 returns-in-text c = λ _. known (codes "'x'") c.args.text.now x_string (cc)
 
@@ -35,3 +47,12 @@ returns-in-text-3 c = λ _. known (codes "'source'") c.args.text.now source_stri
 
 pub returns-in-text-4 : goal.returns-in-text-4
 returns-in-text-4 c = λ _. known (codes "'\\uD800'") c.args.text.now lone_string (cc)
+
+pub returns-in-text-5 : goal.returns-in-text-5
+returns-in-text-5 c = λ _. known (codes "'a'") c.args.text.now a_string (cc)
+
+pub returns-in-text-6 : goal.returns-in-text-6
+returns-in-text-6 c = λ _. known (codes "'b'") c.args.text.now b_string (cc)
+
+pub returns-in-text-7 : goal.returns-in-text-7
+returns-in-text-7 c = λ _. known (codes "'c'") c.args.text.now c_string (cc)

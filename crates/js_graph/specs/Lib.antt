@@ -1,0 +1,10 @@
+pub mod Modules
+pub mod Leads
+pub mod Paths
+pub mod Places
+pub mod Names
+pub mod Collecting
+pub mod Resolving
+pub mod Following
+pub mod Walks
+pub mod Unreached
