@@ -19,6 +19,10 @@ use Rattle.std.specs.List.{All}
 use Rattle.js_parsing_laws.specs.Classes.{IsEarly, EndedByLast}
 use Rattle.js_parsing_laws.specs.States.{NodesLie}
 
+-- where none are asked for: parentheses have nodes, and nothing else is on
+abbrev pub default_options : ParseOptions
+default_options = record { allow_return_outside_function = false; preserve_parens = true; allow_v8_intrinsics = false }
+
 -- options as the grammar speaks of them
 abbrev pub options_of : ParseOptions → Options
 options_of o = record { allow_return = o.allow_return_outside_function; preserve_parens = o.preserve_parens; allow_v8 = o.allow_v8_intrinsics }

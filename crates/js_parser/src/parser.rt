@@ -9,7 +9,7 @@ ghost use Rattle.js_lex.specs.States.{goal_of};
 ghost use Rattle.js_parser.specs.CoreAnswers.{IsCoreAnswer};
 ghost use Rattle.js_parser.specs.Kept.{KeepsRight};
 ghost use Rattle.js_parser.specs.Readings.{read_at};
-ghost use Rattle.js_parser.specs.Parsed.{options_of, Answers, IsAnswer};
+ghost use Rattle.js_parser.specs.Parsed.{default_options, options_of, Answers, IsAnswer};
 
 use crate::answer::{ParserReturn, overlong, refused, taken};
 use crate::program::parse_program;
@@ -34,6 +34,7 @@ impl<'a> Parser<'a, NoTokensParserConfig> {
     pub fn new(alloc: Global, source_text: &'a str, source_type: SourceType) -> Self
         ensures source_text { result.source_text.now ≡ source_text.now }
         ensures source_type { result.source_type ≡ source_type }
+        ensures options { result.options ≡ default_options }
     {
         Parser {
             alloc,
@@ -51,6 +52,7 @@ impl<'a, C: ParserConfig> Parser<'a, C> {
         ensures source_text { result.source_text.now ≡ self.entry.source_text.now }
         ensures source_type { result.source_type ≡ self.entry.source_type }
         ensures options { result.options ≡ options }
+        ensures config { result.config ≡ self.entry.config }
     {
         Parser { options, ..self }
     }
@@ -60,6 +62,7 @@ impl<'a, C: ParserConfig> Parser<'a, C> {
         ensures source_text { result.source_text.now ≡ self.entry.source_text.now }
         ensures source_type { result.source_type ≡ self.entry.source_type }
         ensures options { result.options ≡ self.entry.options }
+        ensures config { result.config ≡ config }
     {
         Parser {
             alloc: self.alloc,
