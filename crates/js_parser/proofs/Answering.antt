@@ -265,13 +265,21 @@ refused_answer {text} {s} {o} {p} {ids} ns span nodes told out kept n a b k z t 
     some : out.errors ≡ [] → ⊥
     some y = h.some (second_empty told p.errors (sym (ap (λ (x : LexerOutput). x.errors) e) ∙ y))
 
-pub overlong_answer : {found old : List Diagnostic} {ids : List (Option NodeId)} (span : Span) (nodes ns : List Node) → old ≡ [] → found ≡ old ++ record { kind = OverlongSource; span = span; first = None; second = None } ∷ [] → span.start ≡ 0 → span.end ≡ 0 → ids ≡ [] → ns ≡ empty_program ∷ [] → ((cs : Slots) → HoldsAll ns 1 (length ns) ids cs → IsTree nodes (program_tree span cs)) → IsOverlong nodes found true
-overlong_answer {found} {old} {ids} span nodes ns o e a b z n t = record {
-  found_is = e ∙ (ap (λ (ds : List Diagnostic). ds ++ record { kind = OverlongSource; span = span; first = None; second = None } ∷ []) o ∙ ap (λ (v : Span). record { kind = OverlongSource; span = v; first = None; second = None } ∷ []) (span_is span a b));
-  tree = program_tree span end;
-  is_tree = t end (subst (λ (js : List (Option NodeId)). HoldsAll ns 1 (length ns) js end) (sym z) (HoldsAll-none ns 1 (length ns) (let l = ap (λ (xs : List Node). length xs) n in omega arith)));
+pub overlong_answer : {found old : List Diagnostic} {comments : List Comment} {blanks : List Span} {tokens : List Token} {ids : List (Option NodeId)} (span : Span) (nodes ns : List Node) → old ≡ [] → found ≡ old ++ record { kind = OverlongSource; span = span; first = None; second = None } ∷ [] → comments ≡ [] → blanks ≡ [] → tokens ≡ [] → span.start ≡ 0 → span.end ≡ 0 → ids ≡ [] → ns ≡ empty_program ∷ [] → nodes ≡ with_program (program_node span ids) ns → IsOverlong nodes (record { comments = comments; irregular_whitespaces = blanks; tokens = tokens; errors = found }) true
+overlong_answer {found} {old} {comments} {blanks} {tokens} {ids} span nodes ns o e c w k a b z n t = record {
+  found_is = e ∙ (ap (λ (ds : List Diagnostic). ds ++ record { kind = OverlongSource; span = span; first = None; second = None } ∷ []) o ∙ ap (λ (v : Span). record { kind = OverlongSource; span = v; first = None; second = None } ∷ []) at_start);
+  no_comments = c;
+  no_blanks = w;
+  no_tokens = k;
+  tree = program_tree (record { start = 0; end = 0 }) end;
+  is_tree = subst (λ (v : Span). IsTree nodes (program_tree v end)) at_start (childless ns span z t);
+  childless = refl;
+  alone = t ∙ (λ i. with_program (program_node (at_start i) (z i)) (n i));
   is_fatal = refl;
 }
+  where
+    at_start : span ≡ record { start = 0; end = 0 }
+    at_start = span_is span a b
 
 -- what follows of an answer
 pub if_ok : {V E : Type 0} {P Q : V → Type 0} (r : Result V E) → ((v : V) → P v → Q v) → IfOk r P → IfOk r Q

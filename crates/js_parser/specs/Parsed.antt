@@ -1,7 +1,6 @@
 -- What a parse of a whole text answers.
 use Rattle.std.specs.Prelude.{ℕ, ◌≡◌, ◌≤◌, ◌<◌, Bool, true, false, List, [], ◌∷◌, length, None}
 use Rattle.js_base.specs.declared.TheConstants.{MAX_LEN}
-use Rattle.js_base.specs.declared.diagnostic.Diagnostic.{Diagnostic}
 use Rattle.js_base.specs.declared.diagnostic.DiagnosticKind.TheVariants.{OverlongSource}
 use Rattle.js_base.specs.declared.options.ParseOptions.{ParseOptions}
 use Rattle.js_base.specs.declared.source_type.SourceType.{SourceType}
@@ -11,7 +10,7 @@ use Rattle.js_grammar.specs.Settings.{Goal}
 use Rattle.js_lex.specs.Kept.{LieIn}
 use Rattle.js_lex.specs.States.{goal_of}
 use Rattle.js_lex.specs.declared.output.LexerOutput.{LexerOutput}
-use Rattle.js_tree.specs.Nodes.{Node}
+use Rattle.js_tree.specs.Nodes.{Node, empty_program}
 use Rattle.js_tree.specs.Holding.{IsTree, program_tree}
 use Rattle.js_parser.specs.NodeSpans.{NodeLies, SlotsLie}
 use Rattle.js_parser.specs.Readings.{read_at, HasNoReading, IsOnlyReading, AreOf}
@@ -44,14 +43,19 @@ pub record IsAnswer (text : List ℕ) (goal : Goal) (o : Options) (nodes : List 
   pub childless : fatal ≡ true → tree ≡ program_tree (record { start = 0; end = length text }) end
   pub no_tokens : fatal ≡ true → out.tokens ≡ []
 
--- The answer for a text that is too long: nothing of it was read.
-pub record IsOverlong (nodes : List Node) (found : List Diagnostic) (fatal : Bool) : Type 0 where
-  pub found_is : found ≡ record { kind = OverlongSource; span = record { start = 0; end = 0 }; first = None; second = None } ∷ []
+-- The answer for a text that is too long: this is told, and nothing of it was read. Program stands at the text's start, without a child, and all else that is kept of a text is empty.
+pub record IsOverlong (nodes : List Node) (out : LexerOutput) (fatal : Bool) : Type 0 where
+  pub found_is : out.errors ≡ record { kind = OverlongSource; span = record { start = 0; end = 0 }; first = None; second = None } ∷ []
+  pub no_comments : out.comments ≡ []
+  pub no_blanks : out.irregular_whitespaces ≡ []
+  pub no_tokens : out.tokens ≡ []
   pub tree : Tree
   pub is_tree : IsTree nodes tree
+  pub childless : tree ≡ program_tree (record { start = 0; end = 0 }) end
+  pub alone : nodes ≡ empty_program ∷ []
   pub is_fatal : fatal ≡ true
 
 pub record Answers (text : List ℕ) (given taken : SourceType) (o : ParseOptions) (nodes : List Node) (out : LexerOutput) (fatal : Bool) : Type 0 where
   pub settled : goal_of taken ≡ read_at (goal_of given)
   pub short : length text ≤ MAX_LEN → IsAnswer text (read_at (goal_of given)) (options_of o) nodes out fatal
-  pub long : MAX_LEN < length text → IsOverlong nodes out.errors fatal
+  pub long : MAX_LEN < length text → IsOverlong nodes out fatal

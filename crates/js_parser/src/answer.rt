@@ -1,9 +1,10 @@
 //! What a parse answers.
 
-ghost use Rattle.std.specs.Prelude.{ℕ, ◌≡◌, ◌++◌, Bool, List, [], IfOk, OnOk, take};
+ghost use Rattle.std.specs.Prelude.{ℕ, ◌≡◌, ◌++◌, Bool, false, List, [], IfOk, OnOk, take};
 ghost use Rattle.js_base.specs.declared.options.ParseOptions.{ParseOptions};
 ghost use Rattle.js_base.specs.declared.source_type.SourceType.{SourceType};
 ghost use Rattle.js_cursor.specs.Places.{IsAt};
+ghost use Rattle.js_grammar.specs.ModuleRecords.{record_of_parts};
 ghost use Rattle.js_lex.specs.States.{goal_of};
 ghost use Rattle.js_parsing_laws.specs.States.{NodesLie};
 ghost use Rattle.js_parser.specs.Kept.{KeepsRight};
@@ -62,6 +63,7 @@ pub fn taken(
     requires lie { NodesLie p.text p.nodes }
     ensures answer { IfOk result (λ r. (text : List ℕ) (s : SourceType) (o : ParseOptions) (asks : Bool) → ProgramTaken text s o asks p.entry items.items → IsAnswer text (goal_of s) (options_of o) r.program.tree (record { comments = r.program.comments; irregular_whitespaces = r.irregular_whitespaces; tokens = r.tokens; errors = r.diagnostics }) r.fatal_error) }
     ensures kept { IfOk result (λ r. (text : List ℕ) (s : SourceType) (o : ParseOptions) (asks : Bool) → ProgramTaken text s o asks p.entry items.items → KeepsRight text (goal_of s) (options_of o) asks (record { comments = r.program.comments; irregular_whitespaces = r.irregular_whitespaces; tokens = r.tokens; errors = r.diagnostics })) }
+    ensures no_flow { IfOk result (λ r. r.is_flow_language ≡ false) }
     ensures source_type { IfOk result (λ r. r.program.source_type ≡ source_type) }
 {
     let alloc = p.alloc;
@@ -95,6 +97,7 @@ pub fn refused(source_type: SourceType, p: Parser<'_>) -> Result<ParserReturn, N
     requires { IsAt p }
     ensures answer { IfOk result (λ r. (text : List ℕ) (s : SourceType) (o : ParseOptions) → ProgramRefused text s o p.entry → IsAnswer text (goal_of s) (options_of o) r.program.tree (record { comments = r.program.comments; irregular_whitespaces = r.irregular_whitespaces; tokens = r.tokens; errors = r.diagnostics }) r.fatal_error) }
     ensures kept { IfOk result (λ r. (text : List ℕ) (s : SourceType) (o : ParseOptions) (asks : Bool) → ProgramRefused text s o p.entry → KeepsRight text (goal_of s) (options_of o) asks (record { comments = r.program.comments; irregular_whitespaces = r.irregular_whitespaces; tokens = r.tokens; errors = r.diagnostics })) }
+    ensures no_flow { IfOk result (λ r. r.is_flow_language ≡ false) }
     ensures source_type { IfOk result (λ r. r.program.source_type ≡ source_type) }
 {
     let alloc = p.alloc;
@@ -123,8 +126,9 @@ pub fn refused(source_type: SourceType, p: Parser<'_>) -> Result<ParserReturn, N
 
 /// The answer for a text that is too long.
 pub fn overlong(alloc: Global, source_type: SourceType) -> Result<ParserReturn, NoMemory>
-    ensures answer { IfOk result (λ r. IsOverlong r.program.tree r.diagnostics r.fatal_error) }
-    ensures no_tokens { IfOk result (λ r. r.tokens ≡ []) }
+    ensures answer { IfOk result (λ r. IsOverlong r.program.tree (record { comments = r.program.comments; irregular_whitespaces = r.irregular_whitespaces; tokens = r.tokens; errors = r.diagnostics }) r.fatal_error) }
+    ensures no_record { IfOk result (λ r. r.module_record ≡ record_of_parts []) }
+    ensures no_flow { IfOk result (λ r. r.is_flow_language ≡ false) }
     ensures source_type { IfOk result (λ r. r.program.source_type ≡ source_type) }
 {
     let mut diagnostics = Diagnostics::new(alloc);
