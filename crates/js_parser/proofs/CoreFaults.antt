@@ -1,6 +1,6 @@
 -- A core text has no lexical fault.
-use Rattle.std.proofs.Common.{◌≡◌, ℕ, ◌+◌, ◌==◌, Bool, true, false, List, [], ◌∷◌, ◌++◌, refl, sym, ap, subst, ◌∙◌, not, ◌&&◌, ◌||◌, Option, Some, None, inl, inr, arith, nat_le}
-use Rattle.std.specs.Prelude.{chars, codes, IsUtf8, is_some, drop, bytes_eq}
+use Rattle.std.proofs.Common.{◌≡◌, ℕ, ◌+◌, ◌==◌, Bool, true, false, List, [], ◌∷◌, ◌++◌, refl, sym, ap, subst, ◌∙◌, not, ◌&&◌, ◌||◌, Option, Some, None, inl, inr, nat_le}
+use Rattle.std.specs.Prelude.{chars, codes, IsUtf8, is_some, bytes_eq}
 use Rattle.std.specs.List.{list_all}
 use Rattle.std.proofs.lemmas.Bool.{eqb-true}
 use Rattle.js_base.specs.declared.diagnostic.DiagnosticKind.{DiagnosticKind}
@@ -16,16 +16,16 @@ use Rattle.js_grammar.specs.Grammar.{Lexeme, Lexemes, last, next}
 use Rattle.js_grammar.specs.Characters.{width, begins}
 use Rattle.js_grammar.specs.Longest.{longest, none_longer, none_begins, joined}
 use Rattle.js_grammar.specs.Lexed.{Lexes, Lex, Stands, all_faults, end_of}
-use Rattle.js_grammar.specs.Lexemes.{a_number, a_string, division, kind_of, lexemes_in, may_precede, opening, Opening, plain_kind}
+use Rattle.js_grammar.specs.Lexemes.{a_number, a_string, division, lexemes_in, may_precede, opening}
 use Rattle.js_grammar.specs.Numbers.{Rest, number_kind, suffix, digits, signed, exponent, fraction, decimal_rest, integer_rest, legacy, zero_rest, is_number, stops_number}
 use Rattle.js_grammar.specs.Settings.{Goal}
 use Rattle.js_grammar.specs.Strings.{closes_string, nothing_left, string_inside, string_kind}
 use Rattle.js_grammar.specs.Trivia.{are_trivia, is_html_comment, lack_html_comments}
 use Rattle.js_grammar.specs.CoreTexts.{CoreSource, are_core, closes_core_string, core_punctuators, ends_in_glue, occurs}
-use Rattle.js_grammar.specs.LexicalFaults.{behind, begins_nothing, Due, Reached, FaultyBehind, Condition, InvalidCharacter, InvalidNameEscape, InvalidNumber, InvalidStringEscape, BinaryFile, HtmlComment, Unterminated, WrongFlag, is_closed_string, is_number_word, is_open_comment, is_open_part, is_open_pattern, is_open_regular_expression, is_open_string, is_part, is_comment, lacks_line_end}
+use Rattle.js_grammar.specs.LexicalFaults.{behind, Due, Reached, FaultyBehind, Condition, InvalidCharacter, InvalidNameEscape, InvalidNumber, InvalidStringEscape, BinaryFile, Unterminated, is_closed_string, is_number_word, is_open_comment, is_open_part, is_open_pattern, is_open_regular_expression, is_open_string, is_part, is_comment, lacks_line_end}
 use Rattle.js_grammar.specs.Lexemes.{regular_expression}
 use Rattle.js_grammar.proofs.Alike.{stands-same}
-use Rattle.js_grammar.proofs.CoreFirst.{is_core_first, IsMark, punctuator_mark, Sort, blank, name, number, string, punctuator, decimal-ascii}
+use Rattle.js_grammar.proofs.CoreFirst.{is_core_first, punctuator_mark, Sort, blank, name, number, string, punctuator, decimal-ascii}
 use Rattle.js_grammar.proofs.CoreLemmas.{none_longer-from, opens, opens-same, plain_of}
 use Rattle.js_grammar.proofs.CoreLexed.{at_end, at_word}
 use Rattle.js_grammar.proofs.CoreNames.{ascii, IsPlain, name_no_backslash}

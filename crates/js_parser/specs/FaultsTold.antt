@@ -1,5 +1,5 @@
 -- Which faults of lexemes are told where a fatal diagnostic ended the parse: each that was kept, in the order of keeping, before what the parser found; but where the fatal diagnostic is itself a fault that stops the lexemes, the last of those kept, it isn't told twice.
-use Rattle.std.specs.Prelude.{ℕ, Bool, true, false, ◌&&◌, cond, List, [], ◌∷◌, ◌++◌, ◌-◌, length, take}
+use Rattle.std.specs.Prelude.{Bool, true, false, ◌&&◌, cond, List, [], ◌∷◌, ◌++◌, ◌-◌, length, take}
 use Rattle.js_base.specs.declared.diagnostic.Diagnostic.{Diagnostic}
 use Rattle.js_base.specs.declared.diagnostic.DiagnosticClass.{DiagnosticClass}
 use Rattle.js_base.specs.declared.diagnostic.DiagnosticClass.TheVariants.{Lexical}
