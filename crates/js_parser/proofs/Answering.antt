@@ -1,5 +1,5 @@
 -- What a parse answers, from what holds of the parser at its end.
-use Rattle.std.proofs.Common.{Bool, ℕ, ◌≡◌, inl, inr, List, [], ◌∷◌, ◌++◌, length, map, take, true, false, Option, None, refl, sym, ap, subst, arith, ◌∙◌}
+use Rattle.std.proofs.Common.{Bool, ℕ, ◌≡◌, inl, inr, List, [], ◌∷◌, ◌++◌, ◌-◌, length, map, true, false, Option, None, refl, sym, ap, subst, arith, ◌∙◌}
 use Rattle.std.specs.List.{All}
 use Rattle.std.specs.Prelude.{IsCharBoundary, IsUtf8, Result, Ok, Err, IfOk}
 use Rattle.std.proofs.lemmas.List.Elements.{All-append, All-take, All-weaker, All-nil}
@@ -30,6 +30,7 @@ use Rattle.js_parser.proofs.Lists.{first_empty, second_empty}
 use Rattle.js_parser.specs.Readings.{HasNoReading, HasNoReadingBy, IsOnlyReadingBy, AreOf}
 use Rattle.js_parser.specs.Broken.{told_in}
 use Rattle.js_parser.specs.declared.early.Position.TheVariants.{Anywhere}
+use Rattle.js_parser.specs.FaultsTold.{without_last}
 use Rattle.js_parser.specs.Leftover.{leftover, with_leftover}
 use Rattle.js_parser.specs.NodeSpans.{SlotsLie}
 use Rattle.js_parser.proofs.Leftovers.{all_early, covered, early_marked, in_program, told_in_program, leftover_early, leftover_marked, leftover_none, none_before, none_leftover, none_read, only_read, spans_lie, spans_marked}
@@ -173,6 +174,7 @@ taken_answer {text} {s} {o} {asks} {p} {ids} span nodes out kept early covers a 
           ended = λ z y. false≢true z;
           childless = λ z. absurd (false≢true z);
           no_tokens = λ z. absurd (false≢true z);
+          left = λ t r. absurd (by_cover.1 some t r);
         }
     go [] q =
         let found_is : out.errors ≡ leftover early covers = ap (λ (x : LexerOutput). x.errors) e ∙ ap (λ (v : List Diagnostic). with_leftover v early covers) q in
@@ -205,6 +207,9 @@ taken_answer {text} {s} {o} {asks} {p} {ids} span nodes out kept early covers a 
           ended = λ z y. false≢true z;
           childless = λ z. absurd (false≢true z);
           no_tokens = λ z. absurd (false≢true z);
+          left = λ t r.
+              let same : t ≡ program = (read.only t r).0 in
+              (sym same, refl, found_is ∙ (left_is ∙ ap (λ (v : Tree). leftover (told_in text Anywhere v.slots) (map placed (initialised_in v.slots))) (sym same)));
         }
 
 -- and what was kept
@@ -238,8 +243,13 @@ childless {nodes} {ids} ns span z e = subst (λ (ms : List Node). IsTree ms (pro
   children = HoldsAll-none (with_program (program_node span []) ns) 1 (length (with_program (program_node span []) ns)) (omega arith);
 })
 
-pub refused_answer : {text : List ℕ} {s : SourceType} {o : ParseOptions} {p : Parser} {ids : List (Option NodeId)} (ns : List Node) (span : Span) (nodes : List Node) (faults_told : List Diagnostic) (out kept : LexerOutput) (n : ℕ) → span.start ≡ 0 → span.end ≡ length p.text → faults_told ≡ take n p.lexer.kept.errors → ids ≡ [] → nodes ≡ with_program (program_node span ids) ns → ns ≡ p.nodes → out ≡ record kept { tokens = []; errors = faults_told ++ p.errors } → LieIn p.lexer.text kept → ProgramRefused text s o p → IsAnswer text (goal_of s) (options_of o) nodes out true
-refused_answer {text} {s} {o} {p} {ids} ns span nodes told out kept n a b k z t same e l h = record {
+-- what holds of all holds of all but the last
+all_without_last : (P : Diagnostic → Type 0) (b : Bool) (ds : List Diagnostic) → All P ds → All P (without_last b ds)
+all_without_last P true ds h = All-take P (length ds - 1) ds h
+all_without_last P false ds h = h
+
+pub refused_answer : {text : List ℕ} {s : SourceType} {o : ParseOptions} {p : Parser} {ids : List (Option NodeId)} (ns : List Node) (span : Span) (nodes : List Node) (faults_told : List Diagnostic) (out kept : LexerOutput) (b : Bool) → span.start ≡ 0 → span.end ≡ length p.text → faults_told ≡ without_last b p.lexer.kept.errors → ids ≡ [] → nodes ≡ with_program (program_node span ids) ns → ns ≡ p.nodes → out ≡ record kept { tokens = []; errors = faults_told ++ p.errors } → LieIn p.lexer.text kept → ProgramRefused text s o p → IsAnswer text (goal_of s) (options_of o) nodes out true
+refused_answer {text} {s} {o} {p} {ids} ns span nodes told out kept f a b k z t same e l h = record {
   told = told_all h.is_of told out.errors (ap (λ (x : LexerOutput). x.errors) e) are_faults;
   lie = lies h.is_of (record kept { tokens = [] }) out told e (record { comments = l.comments; irregular_whitespaces = l.irregular_whitespaces; tokens = All-nil (λ (d : Token). LiesIn d.span p.lexer.text); errors = l.errors }) are_faults;
   tree = program_tree (record { start = 0; end = length text }) end;
@@ -254,24 +264,33 @@ refused_answer {text} {s} {o} {p} {ids} ns span nodes told out kept n a b k z t 
   ended = λ q y. some y;
   childless = λ q. refl;
   no_tokens = λ q. ap (λ (x : LexerOutput). x.tokens) e;
+  left = λ u r. absurd (h.none u r);
 }
   where
     whole : LiesIn (record { start = 0; end = length text }) text
     whole = record { ordered = omega arith; starts_whole = IsCharBoundary-start text (characters h.is_of); ends_whole = IsCharBoundary-end text }
 
     are_faults : All (IsFault (goal_of s) text) told
-    are_faults = subst (λ (ds : List Diagnostic). All (IsFault (goal_of s) text) ds) (sym k) (All-take (IsFault (goal_of s) text) n p.lexer.kept.errors (faults h.is_of))
+    are_faults = subst (λ (ds : List Diagnostic). All (IsFault (goal_of s) text) ds) (sym k) (all_without_last (IsFault (goal_of s) text) f p.lexer.kept.errors (faults h.is_of))
 
     some : out.errors ≡ [] → ⊥
     some y = h.some (second_empty told p.errors (sym (ap (λ (x : LexerOutput). x.errors) e) ∙ y))
 
-pub overlong_answer : {found old : List Diagnostic} {ids : List (Option NodeId)} (span : Span) (nodes ns : List Node) → old ≡ [] → found ≡ old ++ record { kind = OverlongSource; span = span; first = None; second = None } ∷ [] → span.start ≡ 0 → span.end ≡ 0 → ids ≡ [] → ns ≡ empty_program ∷ [] → ((cs : Slots) → HoldsAll ns 1 (length ns) ids cs → IsTree nodes (program_tree span cs)) → IsOverlong nodes found true
-overlong_answer {found} {old} {ids} span nodes ns o e a b z n t = record {
-  found_is = e ∙ (ap (λ (ds : List Diagnostic). ds ++ record { kind = OverlongSource; span = span; first = None; second = None } ∷ []) o ∙ ap (λ (v : Span). record { kind = OverlongSource; span = v; first = None; second = None } ∷ []) (span_is span a b));
-  tree = program_tree span end;
-  is_tree = t end (subst (λ (js : List (Option NodeId)). HoldsAll ns 1 (length ns) js end) (sym z) (HoldsAll-none ns 1 (length ns) (let l = ap (λ (xs : List Node). length xs) n in omega arith)));
+pub overlong_answer : {found old : List Diagnostic} {comments : List Comment} {blanks : List Span} {tokens : List Token} {ids : List (Option NodeId)} (span : Span) (nodes ns : List Node) → old ≡ [] → found ≡ old ++ record { kind = OverlongSource; span = span; first = None; second = None } ∷ [] → comments ≡ [] → blanks ≡ [] → tokens ≡ [] → span.start ≡ 0 → span.end ≡ 0 → ids ≡ [] → ns ≡ empty_program ∷ [] → nodes ≡ with_program (program_node span ids) ns → IsOverlong nodes (record { comments = comments; irregular_whitespaces = blanks; tokens = tokens; errors = found }) true
+overlong_answer {found} {old} {comments} {blanks} {tokens} {ids} span nodes ns o e c w k a b z n t = record {
+  found_is = e ∙ (ap (λ (ds : List Diagnostic). ds ++ record { kind = OverlongSource; span = span; first = None; second = None } ∷ []) o ∙ ap (λ (v : Span). record { kind = OverlongSource; span = v; first = None; second = None } ∷ []) at_start);
+  no_comments = c;
+  no_blanks = w;
+  no_tokens = k;
+  tree = program_tree (record { start = 0; end = 0 }) end;
+  is_tree = subst (λ (v : Span). IsTree nodes (program_tree v end)) at_start (childless ns span z t);
+  childless = refl;
+  alone = t ∙ (λ i. with_program (program_node (at_start i) (z i)) (n i));
   is_fatal = refl;
 }
+  where
+    at_start : span ≡ record { start = 0; end = 0 }
+    at_start = span_is span a b
 
 -- what follows of an answer
 pub if_ok : {V E : Type 0} {P Q : V → Type 0} (r : Result V E) → ((v : V) → P v → Q v) → IfOk r P → IfOk r Q

@@ -31,9 +31,23 @@ use Rattle.js_parsing_laws.specs.Lexemes.{Faultless, is_read, read_kinds}
 use Rattle.js_parsing_laws.proofs.Paths.{read_of}
 use Rattle.js_tree.specs.Nodes.{Node}
 use Rattle.js_parser.specs.Parsed.{options_of, IsAnswer}
-use Rattle.js_parser.specs.Readings.{parameters, read_at, Reading, ReadingBy, IsOnlyReading, HasNoReading, AreRead, from_text_start, behind_a_hashbang}
+use Rattle.std.specs.List.{All}
+use Rattle.std.proofs.lemmas.List.Elements.{All-append, All-pop, All-push, All-weaker}
+use Rattle.js_base.specs.declared.diagnostic.Diagnostic.{Diagnostic}
+use Rattle.js_base.specs.declared.diagnostic.DiagnosticClass.{DiagnosticClass}
+use Rattle.js_base.specs.declared.diagnostic.DiagnosticClass.TheVariants.{Lexical, Syntax, Form}
+use Rattle.js_base.specs.declared.diagnostic.DiagnosticKind.{DiagnosticKind}
+use Rattle.js_base.specs.declared.diagnostic.DiagnosticKind.TheVariants as fault
+use Rattle.js_base.specs.declared.span.Span.{Span}
+use Rattle.js_base.specs.Diagnostics.{class_of}
+use Rattle.js_grammar.specs.LexicalFaults.{Faulty}
+use Rattle.js_grammar.specs.Marks.{Mark, StandsAt}
+use Rattle.js_cursor.specs.Places.{IsFault}
+use Rattle.js_parsing_laws.specs.Classes.{IsEarly, EndsParse, EndedByLast, ends_parse}
+use Rattle.js_parser.proofs.CoreFaults.{none_faulty}
+use Rattle.js_parser.specs.Readings.{parameters, read_at, AreOf, Reading, ReadingBy, IsOnlyReading, HasNoReading, AreRead, from_text_start, behind_a_hashbang}
 use Rattle.js_parser.specs.EarlyErrors.{MeetsEarlyRules}
-use Rattle.js_parser.specs.CoreAnswers.{IsOnlyCoreReading, HasNoCoreReading, IsCoreAnswer}
+use Rattle.js_parser.specs.CoreAnswers.{told_of_core, IsOnlyCoreReading, HasNoCoreReading, IsCoreAnswer}
 
 plainly_so : (b : Bool) → not b ≡ true → b ≡ false
 plainly_so true h = absurd (false≢true h)
@@ -118,13 +132,60 @@ module _ {text : List ℕ} (u : IsUtf8 text) (s : CoreSource text) where
     pub none_core : HasNoReading text goal o → HasNoCoreReading text o.allow_v8
     none_core n t r = n t (to_reading t r)
 
+-- ---- the classes of what is told of it
+
+-- a diagnostic of the class Lexical has the mark of a fault
+faulty_by : (k : DiagnosticKind) (goal : Goal) (text : List ℕ) (at : Span) (first second : Option Span) → class_of k ≡ Lexical → StandsAt k goal text at first second → Faulty k goal text at.start at.end
+faulty_by fault.InvalidCharacter goal text at first second e p = p.0
+faulty_by fault.BinaryFile goal text at first second e p = p.0
+faulty_by fault.UnterminatedString goal text at first second e p = p.0
+faulty_by fault.UnterminatedTemplate goal text at first second e p = p.0
+faulty_by fault.UnterminatedRegexp goal text at first second e p = p.0
+faulty_by fault.UnterminatedComment goal text at first second e p = p.0
+faulty_by fault.InvalidEscape goal text at first second e p = p.0
+faulty_by fault.InvalidNumber goal text at first second e p = p.0
+faulty_by fault.RegExpFlag goal text at first second e p = p.0
+faulty_by fault.HtmlCommentInModule goal text at first second e p = p.0
+faulty_by _ goal text at first second e p = cc
+
+allowed : (c : DiagnosticClass) → ends_parse c ≡ true → (c ≡ Lexical → ⊥) → told_of_core c ≡ true
+allowed Lexical e n = absurd (n refl)
+allowed Syntax e n = refl
+allowed Form e n = refl
+allowed _ e n = absurd (false≢true e)
+
+-- an abbreviation for what is claimed of each
+abbrev Allowed : Diagnostic → Type 0
+Allowed d = told_of_core (class_of d.kind) ≡ true
+
+module _ {text : List ℕ} (u : IsUtf8 text) (s : CoreSource text) (goal : Goal) where
+  no_fault : (ds : List Diagnostic) → All (IsFault goal text) ds → All Allowed ds
+  no_fault ds h = All-weaker (IsFault goal text) Allowed (λ d f. absurd (none_faulty u s goal d.kind f.place d.span.start d.span.end f.reached f.faulty)) ds h
+
+  early_allowed : (ds : List Diagnostic) → All IsEarly ds → All Allowed ds
+  early_allowed ds h = All-weaker IsEarly Allowed (λ d e. ap told_of_core e) ds h
+
+  ending_allowed : (d : Diagnostic) → EndsParse d → Mark goal text d → Allowed d
+  ending_allowed d e m = allowed (class_of d.kind) e (λ l. let f = faulty_by d.kind goal text d.span d.first d.second l m.stands in none_faulty u s goal d.kind f.place d.span.start d.span.end f.reached f.faulty)
+
+  stopped_allowed : (ds : List Diagnostic) → All (Mark goal text) ds → EndedByLast ds → All Allowed ds
+  stopped_allowed ds m h = subst (λ (es : List Diagnostic). All Allowed es) (sym h.is) (All-push Allowed h.before h.last (early_allowed h.before h.early) (ending_allowed h.last h.ends (All-pop (Mark goal text) ds h.before (Some h.last) h.is m).1))
+
+  told_allowed : (fatal : Bool) (ds : List Diagnostic) → All (Mark goal text) ds → (fatal ≡ false → All IsEarly ds) → (fatal ≡ true → EndedByLast ds) → All Allowed ds
+  told_allowed false ds m e n = early_allowed ds (e refl)
+  told_allowed true ds m e n = stopped_allowed ds m (n refl)
+
+  found_allowed : {found : List Diagnostic} (fatal : Bool) (a : AreOf goal text found) → (fatal ≡ false → All IsEarly a.told) → (fatal ≡ true → EndedByLast a.told) → All Allowed found
+  found_allowed fatal a e n = subst (λ (ds : List Diagnostic). All Allowed ds) (sym a.in_order) (All-append Allowed a.faults a.told (no_fault a.faults a.faulty) (told_allowed fatal a.told a.marked e n))
+
 -- what is answered for a text, if it is a core text
 pub core_answer : {text : List ℕ} {given read taken : SourceType} {o : ParseOptions} {nodes : List Node} {out : LexerOutput} {fatal : Bool} → goal_of read ≡ read_at (goal_of given) → taken ≡ read → IsAnswer text (goal_of read) (options_of o) nodes out fatal → IsUtf8 text → CoreSource text → IsCoreAnswer text given taken o.allow_v8_intrinsics nodes out.errors
-core_answer {read = read} {o = o} settled same a u s = record {
+core_answer {read = read} {o = o} {fatal = fatal} settled same a u s = record {
   tree = a.tree;
   is_tree = a.is_tree;
   clean = λ z. only_core u s (goal_of read) (options_of o) a.tree (a.clean z);
   unclean = λ n. none_core u s (goal_of read) (options_of o) (a.unclean n);
+  classes = found_allowed u s (goal_of read) fatal a.told a.early a.stopped;
   inside = a.told.lie;
   as_script = λ e. ap goal_of same ∙ (settled ∙ ap read_at e);
 }

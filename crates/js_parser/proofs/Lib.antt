@@ -5,6 +5,7 @@ pub mod Fronts
 pub mod Readings
 pub mod NodeSpans
 pub mod Answering
+pub mod CoreFaults
 pub mod CoreTexts
 pub mod FlagScans
 pub mod Broken

@@ -8,4 +8,5 @@ pub mod Taken
 pub mod NodeSpans
 pub mod CoreAnswers
 pub mod Leftover
+pub mod FaultsTold
 pub mod Language

@@ -1,27 +1,40 @@
 -- What a parse of a whole text answers.
-use Rattle.std.specs.Prelude.{ℕ, ◌≡◌, ◌≤◌, ◌<◌, Bool, true, false, List, [], ◌∷◌, length, None}
+use Rattle.std.specs.Prelude.{ℕ, ◌≡◌, ◌≤◌, ◌<◌, Bool, true, false, List, [], ◌∷◌, length, map, None}
 use Rattle.js_base.specs.declared.TheConstants.{MAX_LEN}
 use Rattle.js_base.specs.declared.diagnostic.Diagnostic.{Diagnostic}
 use Rattle.js_base.specs.declared.diagnostic.DiagnosticKind.TheVariants.{OverlongSource}
 use Rattle.js_base.specs.declared.options.ParseOptions.{ParseOptions}
 use Rattle.js_base.specs.declared.source_type.SourceType.{SourceType}
+use Rattle.js_grammar.specs.CoverInitialisers.{initialised_in}
 use Rattle.js_grammar.specs.Trees.{Tree, end}
 use Rattle.js_grammar.specs.Options.{Options}
 use Rattle.js_grammar.specs.Settings.{Goal}
 use Rattle.js_lex.specs.Kept.{LieIn}
 use Rattle.js_lex.specs.States.{goal_of}
 use Rattle.js_lex.specs.declared.output.LexerOutput.{LexerOutput}
-use Rattle.js_tree.specs.Nodes.{Node}
+use Rattle.js_tree.specs.Covering.{placed}
+use Rattle.js_tree.specs.Nodes.{Node, empty_program}
 use Rattle.js_tree.specs.Holding.{IsTree, program_tree}
+use Rattle.js_parser.specs.Broken.{told_in}
+use Rattle.js_parser.specs.declared.early.Position.TheVariants.{Anywhere}
+use Rattle.js_parser.specs.Leftover.{leftover}
 use Rattle.js_parser.specs.NodeSpans.{NodeLies, SlotsLie}
-use Rattle.js_parser.specs.Readings.{read_at, HasNoReading, IsOnlyReading, AreOf}
+use Rattle.js_parser.specs.Readings.{read_at, HasNoReading, IsOnlyReading, AreOf, ReadingBy}
 use Rattle.std.specs.List.{All}
 use Rattle.js_parsing_laws.specs.Classes.{IsEarly, EndedByLast}
 use Rattle.js_parsing_laws.specs.States.{NodesLie}
 
+-- where none are asked for: parentheses have nodes, and nothing else is on
+abbrev pub default_options : ParseOptions
+default_options = record { allow_return_outside_function = false; preserve_parens = true; allow_v8_intrinsics = false }
+
 -- options as the grammar speaks of them
 abbrev pub options_of : ParseOptions → Options
 options_of o = record { allow_return = o.allow_return_outside_function; preserve_parens = o.preserve_parens; allow_v8 = o.allow_v8_intrinsics }
+
+-- Where the cover grammar derives a tree of the text, in which a shorthand may have an initialiser, nothing else is wrong with it: the tree is told, and it is told, in the tree's order, of each node that breaks an early rule, and then of each shorthand with an initialiser that no target took (CoverInitializedName, 13.2.5.1); and of nothing else.
+abbrev pub TellsLeftover : List ℕ → Goal → Options → Tree → List Diagnostic → Bool → Type 0
+TellsLeftover text goal o tree found fatal = (t : Tree) → ReadingBy true text goal o t → (tree ≡ t) × (fatal ≡ false) × (found ≡ leftover (told_in text Anywhere t.slots) (map placed (initialised_in t.slots)))
 
 -- The answer for a text at a goal. Where nothing was found the tree is its only reading. Where something was, it has none. All spans of what was kept lie in the text and split no character, and so do those of all nodes, whether anything was found or not. Of what the parser itself found, each is of the class Early, but for a fatal diagnostic, which is the last one and of the class Syntax, Form or Lexical. After a fatal diagnostic Program has the whole text and no child, and no token was kept.
 pub record IsAnswer (text : List ℕ) (goal : Goal) (o : Options) (nodes : List Node) (out : LexerOutput) (fatal : Bool) : Type 0 where
@@ -39,15 +52,21 @@ pub record IsAnswer (text : List ℕ) (goal : Goal) (o : Options) (nodes : List 
   pub ended : fatal ≡ true → out.errors ≡ [] → ⊥
   pub childless : fatal ≡ true → tree ≡ program_tree (record { start = 0; end = length text }) end
   pub no_tokens : fatal ≡ true → out.tokens ≡ []
+  pub left : TellsLeftover text goal o tree out.errors fatal
 
--- The answer for a text that is too long: nothing of it was read.
-pub record IsOverlong (nodes : List Node) (found : List Diagnostic) (fatal : Bool) : Type 0 where
-  pub found_is : found ≡ record { kind = OverlongSource; span = record { start = 0; end = 0 }; first = None; second = None } ∷ []
+-- The answer for a text that is too long: this is told, and nothing of it was read. Program stands at the text's start, without a child, and all else that is kept of a text is empty.
+pub record IsOverlong (nodes : List Node) (out : LexerOutput) (fatal : Bool) : Type 0 where
+  pub found_is : out.errors ≡ record { kind = OverlongSource; span = record { start = 0; end = 0 }; first = None; second = None } ∷ []
+  pub no_comments : out.comments ≡ []
+  pub no_blanks : out.irregular_whitespaces ≡ []
+  pub no_tokens : out.tokens ≡ []
   pub tree : Tree
   pub is_tree : IsTree nodes tree
+  pub childless : tree ≡ program_tree (record { start = 0; end = 0 }) end
+  pub alone : nodes ≡ empty_program ∷ []
   pub is_fatal : fatal ≡ true
 
 pub record Answers (text : List ℕ) (given taken : SourceType) (o : ParseOptions) (nodes : List Node) (out : LexerOutput) (fatal : Bool) : Type 0 where
   pub settled : goal_of taken ≡ read_at (goal_of given)
   pub short : length text ≤ MAX_LEN → IsAnswer text (read_at (goal_of given)) (options_of o) nodes out fatal
-  pub long : MAX_LEN < length text → IsOverlong nodes out.errors fatal
+  pub long : MAX_LEN < length text → IsOverlong nodes out fatal

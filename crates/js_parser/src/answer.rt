@@ -1,11 +1,13 @@
 //! What a parse answers.
 
-ghost use Rattle.std.specs.Prelude.{ℕ, ◌≡◌, ◌++◌, Bool, List, [], IfOk, OnOk, take};
+ghost use Rattle.std.specs.Prelude.{ℕ, ◌≡◌, ◌++◌, Bool, false, List, [], IfOk, OnOk};
 ghost use Rattle.js_base.specs.declared.options.ParseOptions.{ParseOptions};
 ghost use Rattle.js_base.specs.declared.source_type.SourceType.{SourceType};
 ghost use Rattle.js_cursor.specs.Places.{IsAt};
+ghost use Rattle.js_grammar.specs.ModuleRecords.{record_of_parts};
 ghost use Rattle.js_lex.specs.States.{goal_of};
 ghost use Rattle.js_parsing_laws.specs.States.{NodesLie};
+ghost use Rattle.js_parser.specs.FaultsTold.{ends_in_fault, is_stopped_by_fault, told_at_stop, without_last};
 ghost use Rattle.js_parser.specs.Kept.{KeepsRight};
 ghost use Rattle.js_parser.specs.Leftover.{told_at, with_leftover};
 ghost use Rattle.js_parser.specs.Parsed.{options_of, IsAnswer, IsOverlong};
@@ -62,6 +64,7 @@ pub fn taken(
     requires lie { NodesLie p.text p.nodes }
     ensures answer { IfOk result (λ r. (text : List ℕ) (s : SourceType) (o : ParseOptions) (asks : Bool) → ProgramTaken text s o asks p.entry items.items → IsAnswer text (goal_of s) (options_of o) r.program.tree (record { comments = r.program.comments; irregular_whitespaces = r.irregular_whitespaces; tokens = r.tokens; errors = r.diagnostics }) r.fatal_error) }
     ensures kept { IfOk result (λ r. (text : List ℕ) (s : SourceType) (o : ParseOptions) (asks : Bool) → ProgramTaken text s o asks p.entry items.items → KeepsRight text (goal_of s) (options_of o) asks (record { comments = r.program.comments; irregular_whitespaces = r.irregular_whitespaces; tokens = r.tokens; errors = r.diagnostics })) }
+    ensures no_flow { IfOk result (λ r. r.is_flow_language ≡ false) }
     ensures source_type { IfOk result (λ r. r.program.source_type ≡ source_type) }
 {
     let alloc = p.alloc;
@@ -95,15 +98,17 @@ pub fn refused(source_type: SourceType, p: Parser<'_>) -> Result<ParserReturn, N
     requires { IsAt p }
     ensures answer { IfOk result (λ r. (text : List ℕ) (s : SourceType) (o : ParseOptions) → ProgramRefused text s o p.entry → IsAnswer text (goal_of s) (options_of o) r.program.tree (record { comments = r.program.comments; irregular_whitespaces = r.irregular_whitespaces; tokens = r.tokens; errors = r.diagnostics }) r.fatal_error) }
     ensures kept { IfOk result (λ r. (text : List ℕ) (s : SourceType) (o : ParseOptions) (asks : Bool) → ProgramRefused text s o p.entry → KeepsRight text (goal_of s) (options_of o) asks (record { comments = r.program.comments; irregular_whitespaces = r.irregular_whitespaces; tokens = r.tokens; errors = r.diagnostics })) }
+    ensures told { IfOk result (λ r. r.diagnostics ≡ told_at_stop p.entry) }
+    ensures no_flow { IfOk result (λ r. r.is_flow_language ≡ false) }
     ensures source_type { IfOk result (λ r. r.program.source_type ≡ source_type) }
 {
     let alloc = p.alloc;
     let span = Span::new(0, p.source_text.len() as u32);
-    let tells_fault = p.at(Kind::Undetermined) && ends_with_fault(&p.errors);
+    let tells_fault = is_stopped_by_fault(&p);
     let parts = p.into_parts();
     let kept = parts.lexer.finish();
     let tree = parts.ast.finish(span, Vec::new(alloc))?;
-    let faults = fewer_faults(tells_fault, kept.errors);
+    let faults = without_last(tells_fault, kept.errors);
     let diagnostics = joined(faults, parts.errors)?;
     let (module_record, _) = parts.module_record_builder.build()?;
     Ok(ParserReturn {
@@ -123,8 +128,9 @@ pub fn refused(source_type: SourceType, p: Parser<'_>) -> Result<ParserReturn, N
 
 /// The answer for a text that is too long.
 pub fn overlong(alloc: Global, source_type: SourceType) -> Result<ParserReturn, NoMemory>
-    ensures answer { IfOk result (λ r. IsOverlong r.program.tree r.diagnostics r.fatal_error) }
-    ensures no_tokens { IfOk result (λ r. r.tokens ≡ []) }
+    ensures answer { IfOk result (λ r. IsOverlong r.program.tree (record { comments = r.program.comments; irregular_whitespaces = r.irregular_whitespaces; tokens = r.tokens; errors = r.diagnostics }) r.fatal_error) }
+    ensures no_record { IfOk result (λ r. r.module_record ≡ record_of_parts []) }
+    ensures no_flow { IfOk result (λ r. r.is_flow_language ≡ false) }
     ensures source_type { IfOk result (λ r. r.program.source_type ≡ source_type) }
 {
     let mut diagnostics = Diagnostics::new(alloc);
@@ -153,8 +159,17 @@ pub fn overlong(alloc: Global, source_type: SourceType) -> Result<ParserReturn, 
     })
 }
 
+/// Whether the fatal diagnostic is the fault of what stands there, where no lexeme does.
+fn is_stopped_by_fault(p: &Parser<'_>) -> bool
+    ensures { result ≡ is_stopped_by_fault p.now }
+{
+    p.at(Kind::Undetermined) && ends_in_fault(&p.errors)
+}
+
 /// Whether the last diagnostic is a fault of lexemes.
-fn ends_with_fault(found: &Diagnostics) -> bool {
+fn ends_in_fault(found: &Diagnostics) -> bool
+    ensures { result ≡ ends_in_fault found.now }
+{
     let count = found.len();
     if count == 0 {
         return false;
@@ -163,8 +178,8 @@ fn ends_with_fault(found: &Diagnostics) -> bool {
 }
 
 /// The faults that are told beside a fatal diagnostic: without the last one, where that is the fatal one itself.
-fn fewer_faults(tells_fault: bool, faults: Diagnostics) -> Diagnostics
-    ensures { (n : ℕ) × (result ≡ take n faults) }
+fn without_last(tells_fault: bool, faults: Diagnostics) -> Diagnostics
+    ensures { result ≡ without_last tells_fault faults }
 {
     let mut faults = faults;
     let count = faults.len();

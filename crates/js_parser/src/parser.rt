@@ -1,15 +1,16 @@
 //! The public call.
 
-ghost use Rattle.std.specs.Prelude.{◌≡◌, ◌≢◌, ◌≤◌, length, true, IfOk, IsUtf8};
+ghost use Rattle.std.specs.Prelude.{◌≡◌, ◌≢◌, ◌<◌, ◌≤◌, [], length, true, false, IfOk, IsUtf8};
 ghost use Rattle.js_base.specs.declared.TheConstants.{MAX_LEN};
 ghost use Rattle.js_base.specs.declared.source_type.Goal.TheVariants.{Unambiguous};
 ghost use Rattle.js_base.specs.Sources.{is_goal};
 ghost use Rattle.js_grammar.specs.CoreTexts.{CoreSource};
+ghost use Rattle.js_grammar.specs.ModuleRecords.{record_of_parts};
 ghost use Rattle.js_lex.specs.States.{goal_of};
 ghost use Rattle.js_parser.specs.CoreAnswers.{IsCoreAnswer};
 ghost use Rattle.js_parser.specs.Kept.{KeepsRight};
 ghost use Rattle.js_parser.specs.Readings.{read_at};
-ghost use Rattle.js_parser.specs.Parsed.{options_of, Answers, IsAnswer};
+ghost use Rattle.js_parser.specs.Parsed.{default_options, options_of, Answers, IsAnswer};
 
 use crate::answer::{ParserReturn, overlong, refused, taken};
 use crate::program::parse_program;
@@ -34,6 +35,7 @@ impl<'a> Parser<'a, NoTokensParserConfig> {
     pub fn new(alloc: Global, source_text: &'a str, source_type: SourceType) -> Self
         ensures source_text { result.source_text.now ≡ source_text.now }
         ensures source_type { result.source_type ≡ source_type }
+        ensures options { result.options ≡ default_options }
     {
         Parser {
             alloc,
@@ -51,6 +53,7 @@ impl<'a, C: ParserConfig> Parser<'a, C> {
         ensures source_text { result.source_text.now ≡ self.entry.source_text.now }
         ensures source_type { result.source_type ≡ self.entry.source_type }
         ensures options { result.options ≡ options }
+        ensures config { result.config ≡ self.entry.config }
     {
         Parser { options, ..self }
     }
@@ -60,6 +63,7 @@ impl<'a, C: ParserConfig> Parser<'a, C> {
         ensures source_text { result.source_text.now ≡ self.entry.source_text.now }
         ensures source_type { result.source_type ≡ self.entry.source_type }
         ensures options { result.options ≡ self.entry.options }
+        ensures config { result.config ≡ config }
     {
         Parser {
             alloc: self.alloc,
@@ -82,6 +86,9 @@ impl<'a, C: ParserConfig> Parser<'a, C> {
         // where the config asks for them; where it doesn't, there are none.
         ensures kept { IfOk result (λ r. KeepsRight self.entry.source_text.now (read_at (goal_of self.entry.source_type)) (options_of self.entry.options) (C.asks_for_tokens self.entry.config) (record { comments = r.program.comments; irregular_whitespaces = r.irregular_whitespaces; tokens = r.tokens; errors = r.diagnostics })) }
         ensures answers { IfOk result (λ r. Answers self.entry.source_text.now self.entry.source_type r.program.source_type self.entry.options r.program.tree (record { comments = r.program.comments; irregular_whitespaces = r.irregular_whitespaces; tokens = r.tokens; errors = r.diagnostics }) r.fatal_error) }
+        // Of a text that is too long no declaration of a module is read.
+        ensures overlong_record { IfOk result (λ r. MAX_LEN < length self.entry.source_text.now → r.module_record ≡ record_of_parts []) }
+        ensures no_flow { IfOk result (λ r. r.is_flow_language ≡ false) }
     {
         let source_type = settled(self.source_type);
         if self.source_text.len() > MAX_LEN {
@@ -122,6 +129,7 @@ fn parse_as(
     requires named { is_goal source_type ≢ Unambiguous }
     ensures answer { IfOk result (λ r. IsAnswer source_text.now (goal_of source_type) (options_of options) r.program.tree (record { comments = r.program.comments; irregular_whitespaces = r.irregular_whitespaces; tokens = r.tokens; errors = r.diagnostics }) r.fatal_error) }
     ensures kept { IfOk result (λ r. KeepsRight source_text.now (goal_of source_type) (options_of options) tokens (record { comments = r.program.comments; irregular_whitespaces = r.irregular_whitespaces; tokens = r.tokens; errors = r.diagnostics })) }
+    ensures no_flow { IfOk result (λ r. r.is_flow_language ≡ false) }
     ensures source_type { IfOk result (λ r. r.program.source_type ≡ source_type) }
 {
     let config = RuntimeParserConfig::new(tokens);

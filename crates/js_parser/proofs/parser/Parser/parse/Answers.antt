@@ -11,7 +11,13 @@ pub returns-clause-core_headline : goal.returns-clause-core_headline
 returns-clause-core_headline g c = both_ok c.parse_as.result (λ r a same u s e. core_answer c.settled-source_type.ensures.settled same a u s) c.parse_as.ensures.answer c.parse_as.ensures.source_type
 
 pub returns-then-self-gt-MAX_LEN-clause-kept : goal.returns-then-self-gt-MAX_LEN-clause-kept
-returns-then-self-gt-MAX_LEN-clause-kept g c = both_ok c.overlong.result (λ r n h. found_kept n (λ z. cons_some _ _ (sym h.found_is ∙ z))) c.overlong.ensures.no_tokens c.overlong.ensures.answer
+returns-then-self-gt-MAX_LEN-clause-kept g c = if_ok c.overlong.result (λ r h. found_kept h.no_tokens (λ z. cons_some _ _ (sym h.found_is ∙ z))) c.overlong.ensures.answer
 
 pub returns-clause-kept : goal.returns-clause-kept
 returns-clause-kept g c = if_ok c.parse_as.result (λ r h. kept_for c.settled-source_type.ensures.settled (c.tokens-tokens.ensures ∙ c.lexer_config.ensures) h) c.parse_as.ensures.kept
+
+pub returns-then-self-gt-MAX_LEN-clause-overlong_record : goal.returns-then-self-gt-MAX_LEN-clause-overlong_record
+returns-then-self-gt-MAX_LEN-clause-overlong_record g c = if_ok c.overlong.result (λ r h long. h) c.overlong.ensures.no_record
+
+pub returns-clause-overlong_record : goal.returns-clause-overlong_record
+returns-clause-overlong_record g c = if_ok c.parse_as.result (λ r h long. absurd (let short = c.if-self-gt-MAX_LEN.false in omega arith)) c.parse_as.ensures.no_flow
