@@ -158,8 +158,10 @@ head_noted {p} {q} {r} {id} {place} b a i x n h = (ap (λ (z : Parser). z.token.
   where
     q' : Parser
     q' = record q { state = r.state }
+
     unmoved_by : {text : List ℕ} {f : Flags} → At text f q → Same p q → Unmoved q q'
     unmoved_by c s = subst (Unmoved q) h.is (operand_noted_behind a (standing c) s n i h)
+
     by : {text : List ℕ} {f g : Flags} → HeadRead text f g p q id → HeadRead text f g p q' id
     by {text} {f} (read_clean y) =
         let u = unmoved_by y.at y.same in
