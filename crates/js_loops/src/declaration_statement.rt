@@ -13,7 +13,6 @@ ghost use Rattle.js_tree.specs.Labels.{declaration_kind};
 ghost use Rattle.js_statement_laws.specs.DeclarationStatements.{ReadsDeclaration};
 ghost use Rattle.js_statement_laws.specs.LetStatements.{BeginsLexical, FindsLexical, LetBegins, TellsLexical, behind_let};
 
-use crate::semicolon::end_statement;
 use js_base::{DiagnosticKind, Kind};
 use js_cursor::{ParserImpl, Stop};
 use js_declarations::declaration::parse_declarators;
@@ -21,6 +20,7 @@ use js_lex::ParserConfig;
 use js_parsing::diagnostics::diagnostic_at;
 use js_parsing::lexemes::{advance, stands};
 use js_parsing::nodes::make_list;
+use js_parsing::semicolon::end_statement;
 use js_pattern_laws::patterns::Patterns;
 use js_tree::{DeclarationKind, NodeId, NodeKind, Op};
 

@@ -1,9 +1,8 @@
-//! Statements with a head and a body, declarations, and the semicolon behind a statement (ECMA-262, sections 12.10, 14.3, 14.6, 14.7
-//! and 14.11).
+//! Statements with a head and a body, and declarations of variables and constants as statements (ECMA-262, sections 14.3, 14.6,
+//! 14.7 and 14.11).
 #![tactic(auto)]
 
 pub mod compound_statement;
 pub mod declaration_statement;
 pub mod for_parts;
 pub mod for_statement;
-pub mod semicolon;

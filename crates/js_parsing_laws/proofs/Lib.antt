@@ -32,3 +32,4 @@ pub mod ToEnd
 pub mod Unbuilt
 pub mod Verdicts
 pub mod Classes
+pub mod Semicolons

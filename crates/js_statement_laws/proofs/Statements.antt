@@ -649,15 +649,6 @@ module _ {text : List ℕ} {f : Flags} {p : Parser} (a : At text f p) where
 pub in_of : {text : List ℕ} {f : Flags} {p : Parser} → At text f p → has_flag in_flag p.ctx ≡ true → f.in_ ≡ true
 in_of a h = sym (ap (λ (g : Flags). g.in_) a.flags_are) ∙ h
 
--- what the end of a statement answers
-pub end_answers : {text : List ℕ} {f : Flags} (p q : Parser) (r : Result (Unit {0}) Stop) → At text f p → (p.token.is_on_new_line && one_of_kinds link_kinds p.token.kind) ≡ false → EndsOr p q r → MatchResult r (λ x. EndsStatement p q) (λ e. Stops p q e (NoEnd p))
-end_answers p q (Ok x) a v e = (λ w. subst (λ (b : Bool). (b && one_of_kinds link_kinds p.token.kind) ≡ false) w v, e)
-end_answers p q (Err Fatal) a v e = gives_up _ p q Fatal a e.1 (here_ends ExpectToken refl) (inr (e.0 refl))
-end_answers p q (Err NoMemory) a v e = tt
-
-pub link_ends : {text : List ℕ} {f : Flags} (p q : Parser) (e : Stop) → At text f p → (p.token.is_on_new_line && one_of_kinds link_kinds p.token.kind) ≡ true → GivesUp (IsUnexpected p) p q e → Stops p q e (NoEnd p)
-link_ends p q e a v g = gives_up_here p q e a g (inl (and_parts p.token.is_on_new_line _ v).1)
-
 -- none of the kinds that begin a statement alone
 pub no_own_kind : (k : Kind) → (k ≡ LCurly → ⊥) → (k ≡ Semicolon → ⊥) → (k ≡ kind.If → ⊥) → (k ≡ kind.Do → ⊥) → (k ≡ kind.While → ⊥) → (k ≡ kind.With → ⊥) → (k ≡ kind.Break → ⊥) → (k ≡ kind.Continue → ⊥) → (k ≡ kind.Return → ⊥) → (k ≡ kind.Function → ⊥) → (k ≡ kind.Throw → ⊥) → (k ≡ kind.Switch → ⊥) → (k ≡ kind.Try → ⊥) → (k ≡ kind.For → ⊥) → (k ≡ kind.Debugger → ⊥) → (k ≡ kind.Var → ⊥) → (k ≡ kind.Const → ⊥) → one_of_kinds statement_kinds k ≡ false
 no_own_kind k m a b c d e f g r o h u v w i j l = rw (not_kind LCurly k m, not_kind Semicolon k a, not_kind kind.If k b, not_kind kind.Do k c, not_kind kind.While k d, not_kind kind.With k e, not_kind kind.Break k f, not_kind kind.Continue k g, not_kind kind.Return k r, not_kind kind.Function k o, not_kind kind.Throw k h, not_kind kind.Switch k u, not_kind kind.Try k v, not_kind kind.For k w, not_kind kind.Debugger k i, not_kind kind.Var k j, not_kind kind.Const k l) refl

@@ -34,9 +34,9 @@ use js_loops::declaration_statement::{
     lexical_kind, parse_lexical_body, parse_lexical_declaration, parse_variable_statement,
 };
 use js_loops::for_statement::parse_for_statement;
-use js_loops::semicolon::end_statement;
 use js_parsing::lexemes::{advance, escaped_word_stands, is_name_here};
 use js_parsing::nodes::{make_name, make_one, make_two};
+use js_parsing::semicolon::end_statement;
 use js_parsing_laws::nested::Nested;
 use js_statement_laws::sequences::Sequences;
 use js_tree::{NodeId, NodeKind, Op};

@@ -17,11 +17,11 @@ use js_base::{DiagnosticKind, Span};
 use js_cursor::{ParserImpl, Stop};
 use js_lex::ParserConfig;
 use js_literals::leaf::parse_name;
-use js_loops::semicolon::end_statement;
 use js_memory::NoMemory;
 use js_parsing::diagnostics::diagnostic_at;
 use js_parsing::lexemes::{advance, name_stands};
 use js_parsing::nodes::{make_leaf, make_one, make_optional};
+use js_parsing::semicolon::end_statement;
 use js_statement_laws::sequences::Sequences;
 use js_tree::{NodeId, NodeKind, Op};
 
