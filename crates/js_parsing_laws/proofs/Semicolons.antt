@@ -1,5 +1,5 @@
 -- The semicolon of a statement (ECMA-262, 12.10): what its parse function answers.
-use Rattle.std.proofs.Common.{ℕ, ◌≡◌, inl, inr, List, Bool, true, false, ◌&&◌, subst}
+use Rattle.std.proofs.Common.{ℕ, ◌≡◌, inl, inr, List, Bool, true, false, ◌&&◌, subst, refl}
 use Rattle.std.specs.Prelude.{Result, Ok, Err, MatchResult}
 use Rattle.std.proofs.lemmas.Bool.{and_parts}
 use Rattle.js_base.specs.Kinds.{one_of_kinds}
