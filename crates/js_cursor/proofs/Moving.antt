@@ -13,6 +13,7 @@ use Rattle.js_base.specs.declared.kind.Kind.{Kind}
 use Rattle.js_base.specs.declared.kind.Kind.TheVariants.{Undetermined, RAngle, Eof}
 use Rattle.js_base.specs.declared.token.Token.{Token}
 use Rattle.js_base.specs.Kinds.{same_kind}
+use Rattle.js_base.specs.declared.span.Span.{Span}
 use Rattle.js_base.specs.Spans.{LiesIn}
 use Rattle.js_base.proofs.KindLemmas.{kind_of_same}
 use Rattle.js_grammar.specs.Grammar.{Lexeme, Lexemes, last, next}
@@ -104,6 +105,10 @@ is_fault {source} {text} {s} d r p h a = record { place = s; reached = r; faulty
 
 are_faults : {source : Goal} {text : List ℕ} {s : ℕ} (ds : List Diagnostic) → Reached text s → 0 < s → All (λ d. FaultyBehind d.kind source text s d.span.start d.span.end) ds → All Alone ds → All (IsFault source text) ds
 are_faults ds r p h a = λ k d l. is_fault (slice_index_or ds k d) r p (h k d l) (a k d l)
+
+-- one that is told with a place elsewhere is none
+none_related : {source : Goal} {text : List ℕ} {k : DiagnosticKind} (span place : Span) → IsFault source text (record { kind = k; span = span; first = Some place; second = None }) → ⊥
+none_related span place f = let e : Some place ≡ None = f.alone.0 in cc
 
 pub html_alone : (b : Bool) (s : ℕ) (ps : List (List ℕ)) → All Alone (each_at (html_fault_at b) s ps)
 html_alone b s [] = All-nil Alone
