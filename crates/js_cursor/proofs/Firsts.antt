@@ -1,9 +1,9 @@
 -- What holds of the first token of a text.
 use Rattle.std.proofs.Common.{ℕ, ◌≡◌, ◌≤◌, inl, inr, Bool, true, false, List, [], ◌∷◌, ◌++◌, refl, sym, ap, subst, arith, ◌∙◌, not, ◌&&◌, ◌==◌, Some, None, Option}
-use Rattle.std.specs.Prelude.{IsTrue, ◌↔◌, IsUtf8, codes, is_some, chars, length}
+use Rattle.std.specs.Prelude.{IsTrue, ◌↔◌, IsUtf8, codes, is_some, chars, length, slice_index_or}
 use Rattle.std.specs.List.{All}
 use Rattle.std.proofs.lemmas.Bool.{false≢true, eqb-true}
-use Rattle.std.proofs.lemmas.List.Elements.{All-append, All-same, All-cons, All-nil, All-weaker}
+use Rattle.std.proofs.lemmas.List.Elements.{All-append, All-same, All-cons, All-nil}
 use Rattle.std.proofs.lemmas.Str.{IsCharBoundary-start, chars_past_char, IsUtf8-past_char, encode_ascii}
 use Rattle.js_base.specs.declared.context.Context.{Context}
 use Rattle.js_base.specs.declared.diagnostic.Diagnostic.{Diagnostic}
@@ -40,7 +40,7 @@ use Rattle.js_cursor.specs.Notes.{Notes, HasNone}
 use Rattle.js_cursor.specs.Tokens.{IsToken, whole}
 use Rattle.js_cursor.specs.Places.{IsFault}
 use Rattle.js_cursor.specs.Starts.{AtStart, Starts}
-use Rattle.js_cursor.proofs.Moving.{token_given}
+use Rattle.js_cursor.proofs.Moving.{Alone, found_alone, html_alone, token_given}
 
 -- ---- a text that begins with `#!` begins with a hashbang comment
 
@@ -98,11 +98,11 @@ no_hashbang text u none h = let s = starts_so text h in opens_comment text (char
 
 -- ---- the faults of the first token
 
-first_fault : {source : Goal} {text : List ℕ} (d : Diagnostic) → IsUtf8 text → NoLexeme hashbang text 0 → FaultyBehind d.kind source text 0 d.span.start d.span.end → IsFault source text d
-first_fault {source} {text} d u none f = record { place = 0; reached = inl refl; faulty = f; no_hashbang = λ e z q. no_hashbang text u none q }
+first_fault : {source : Goal} {text : List ℕ} (d : Diagnostic) → IsUtf8 text → NoLexeme hashbang text 0 → FaultyBehind d.kind source text 0 d.span.start d.span.end → Alone d → IsFault source text d
+first_fault {source} {text} d u none f a = record { place = 0; reached = inl refl; faulty = f; no_hashbang = λ e z q. no_hashbang text u none q; alone = a }
 
-first_faults : {source : Goal} {text : List ℕ} (ds : List Diagnostic) → IsUtf8 text → NoLexeme hashbang text 0 → All (λ d. FaultyBehind d.kind source text 0 d.span.start d.span.end) ds → All (IsFault source text) ds
-first_faults {source} {text} ds u none h = All-weaker (λ d. FaultyBehind d.kind source text 0 d.span.start d.span.end) (IsFault source text) (λ d f. first_fault d u none f) ds h
+first_faults : {source : Goal} {text : List ℕ} (ds : List Diagnostic) → IsUtf8 text → NoLexeme hashbang text 0 → All (λ d. FaultyBehind d.kind source text 0 d.span.start d.span.end) ds → All Alone ds → All (IsFault source text) ds
+first_faults ds u none h a = λ k d l. first_fault (slice_index_or ds k d) u none (h k d l) (a k d l)
 
 stopping_fault : {source : Goal} {text : List ℕ} {s : ℕ} (t : Token) (faults : List Diagnostic) → Outcome division cut source text s t [] faults → All (λ d. FaultyBehind d.kind source text s d.span.start d.span.end) faults
 stopping_fault {source} {text} {s} t faults o = go (same_kind Undetermined t.kind) o
@@ -152,7 +152,7 @@ module _ {first l : State} {t : Token} {b : Bool} where
     token = token_given g.faults passing b i kept outcome;
     lies = g.lies;
     last = g.place;
-    faulty = All-same (IsFault first.goal first.text) l.kept.errors (passing ++ g.faults) kept (All-append (IsFault first.goal first.text) passing g.faults (first_faults passing g.utf8 none passed) (first_faults g.faults g.utf8 none (stopping_fault t g.faults outcome)));
+    faulty = All-same (IsFault first.goal first.text) l.kept.errors (passing ++ g.faults) kept (All-append (IsFault first.goal first.text) passing g.faults (first_faults passing g.utf8 none passed (html_alone (in_a_module first.goal) first.place g.pieces)) (first_faults g.faults g.utf8 none (stopping_fault t g.faults outcome) (found_alone division cut first.goal first.text 0 t [] g.faults outcome (λ e. All-nil Alone))));
   }
     where
       passing : List Diagnostic

@@ -7,7 +7,7 @@ use Rattle.js_base.specs.Spans.{LiesIn}
 use Rattle.js_base.specs.Kinds.{one_of_kinds}
 use Rattle.js_memory.specs.Lists.{replaced}
 use Rattle.js_base.specs.declared.kind.Kind.{Kind}
-use Rattle.js_base.specs.declared.kind.Kind.TheVariants.{LParen, LBrack, LCurly, TemplateHead, TemplateMiddle}
+use Rattle.js_base.specs.declared.kind.Kind.TheVariants.{LParen, LBrack, LCurly}
 use Rattle.js_base.specs.declared.diagnostic.Diagnostic.{Diagnostic}
 use Rattle.js_base.specs.declared.span.Span.{Span}
 use Rattle.js_base.specs.declared.token.Token.{Token}
@@ -218,7 +218,7 @@ may_go_back {p} {q} {c} a r f = record {
 -- ---- brackets
 
 abbrev pub is_opening : Kind → Bool
-is_opening k = one_of_kinds (LParen ∷ LBrack ∷ LCurly ∷ TemplateHead ∷ TemplateMiddle ∷ []) k
+is_opening k = one_of_kinds (LParen ∷ LBrack ∷ LCurly ∷ []) k
 
 not_cut : {p : Parser} → IsAt p → is_opening p.token.kind ≡ true → p.cut ≡ true → ⊥
 not_cut {p} a o e = go p.cut a.token e
@@ -231,8 +231,6 @@ open_not_last : (k : Kind) → is_opening k ≡ true → is_last k ≡ true → 
 open_not_last LParen o l = false≢true l
 open_not_last LBrack o l = false≢true l
 open_not_last LCurly o l = false≢true l
-open_not_last TemplateHead o l = false≢true l
-open_not_last TemplateMiddle o l = false≢true l
 open_not_last _ o l = false≢true o
 
 passed_opened : {p q : Parser} → IsAt p → is_opening p.token.kind ≡ true → Passed p q → Opened q p.token.span

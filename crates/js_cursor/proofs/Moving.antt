@@ -1,18 +1,19 @@
 -- What holds at a place when the lexer has given the next token.
 use Rattle.std.proofs.Common.{ℕ, ◌+◌, ◌≡◌, ◌≤◌, ◌<◌, inl, inr, Bool, true, false, List, [], ◌∷◌, ◌++◌, refl, sym, ap, subst, arith, ◌∙◌, append-nil}
 use Rattle.std.specs.List.{All}
-use Rattle.std.specs.Prelude.{IsCharBoundary, IsTrue, Some, ◌↔◌}
+use Rattle.std.specs.Prelude.{IsCharBoundary, IsTrue, Some, None, ◌↔◌, ◌&&◌, slice_index_or}
 use Rattle.js_lex.proofs.Again.{cut_same}
 use Rattle.std.proofs.lemmas.List.Elements.{All-append}
 use Rattle.js_base.specs.declared.diagnostic.Diagnostic.{Diagnostic}
 use Rattle.js_base.specs.declared.diagnostic.DiagnosticKind.{DiagnosticKind}
 use Rattle.js_base.specs.declared.diagnostic.DiagnosticKind.TheVariants as fault
 use Rattle.std.proofs.lemmas.Bool.{false≢true}
-use Rattle.js_lex.specs.Comments.{each_at, html_fault_at}
+use Rattle.js_lex.specs.Comments.{each_at, html_fault_at, span_at}
 use Rattle.js_base.specs.declared.kind.Kind.{Kind}
 use Rattle.js_base.specs.declared.kind.Kind.TheVariants.{Undetermined, RAngle, Eof}
 use Rattle.js_base.specs.declared.token.Token.{Token}
 use Rattle.js_base.specs.Kinds.{same_kind}
+use Rattle.js_base.specs.declared.span.Span.{Span}
 use Rattle.js_base.specs.Spans.{LiesIn}
 use Rattle.js_base.proofs.KindLemmas.{kind_of_same}
 use Rattle.js_grammar.specs.Grammar.{Lexeme, Lexemes, last, next}
@@ -23,8 +24,10 @@ use Rattle.js_grammar.specs.Characters.{width}
 use Rattle.js_grammar.specs.Lexemes.{regular_expression, template_tail, hashbang, kind_in}
 use Rattle.js_words.proofs.KindsOfLexemes.{plain_end}
 use Rattle.js_lex.proofs.TriviaLemmas.{some_width}
-use Rattle.std.proofs.lemmas.List.Elements.{All-weaker, All-same, All-cons, All-nil}
+use Rattle.std.proofs.lemmas.List.Elements.{All-same, All-cons, All-nil}
+use Rattle.js_grammar.specs.Marks.{Unrelated}
 use Rattle.js_grammar.specs.Settings.{Goal}
+use Rattle.js_grammar.specs.Trivia.{is_html_comment}
 use Rattle.js_grammar.proofs.Parts.{joins}
 use Rattle.js_lex.specs.Reading.{cut, is_right_angle, Tells, LexemeBehind, GivesLexeme, GivesNone, Outcome, GivesNext, GivesAgain, WasGiven, in_a_module}
 use Rattle.js_lex.specs.States.{State, SameText}
@@ -93,18 +96,42 @@ further_on : (k : DiagnosticKind) (source : Goal) (text : List ℕ) (s from to :
 further_on fault.InvalidCharacter source text s from to p c e z = let q = c.1.place in let r = c.2.0 in absurd (omega arith)
 further_on _ source text s from to p c e z = false≢true e
 
-pub is_fault : {source : Goal} {text : List ℕ} {s : ℕ} (d : Diagnostic) → Reached text s → 0 < s → FaultyBehind d.kind source text s d.span.start d.span.end → IsFault source text d
-is_fault {source} {text} {s} d r p h = record { place = s; reached = r; faulty = h; no_hashbang = λ e z q. further_on d.kind source text s d.span.start d.span.end p h.condition e z }
+-- no related places
+abbrev pub Alone : Diagnostic → Type 0
+Alone d = Unrelated d.first d.second
 
-pub are_faults : {source : Goal} {text : List ℕ} {s : ℕ} (ds : List Diagnostic) → Reached text s → 0 < s → All (λ d. FaultyBehind d.kind source text s d.span.start d.span.end) ds → All (IsFault source text) ds
-are_faults {source} {text} {s} ds r p h = All-weaker (λ d. FaultyBehind d.kind source text s d.span.start d.span.end) (IsFault source text) (λ d f. is_fault d r p f) ds h
+is_fault : {source : Goal} {text : List ℕ} {s : ℕ} (d : Diagnostic) → Reached text s → 0 < s → FaultyBehind d.kind source text s d.span.start d.span.end → Alone d → IsFault source text d
+is_fault {source} {text} {s} d r p h a = record { place = s; reached = r; faulty = h; no_hashbang = λ e z q. further_on d.kind source text s d.span.start d.span.end p h.condition e z; alone = a }
+
+are_faults : {source : Goal} {text : List ℕ} {s : ℕ} (ds : List Diagnostic) → Reached text s → 0 < s → All (λ d. FaultyBehind d.kind source text s d.span.start d.span.end) ds → All Alone ds → All (IsFault source text) ds
+are_faults ds r p h a = λ k d l. is_fault (slice_index_or ds k d) r p (h k d l) (a k d l)
+
+-- one that is told with a place elsewhere is none
+none_related : {source : Goal} {text : List ℕ} {k : DiagnosticKind} (span place : Span) → IsFault source text (record { kind = k; span = span; first = Some place; second = None }) → ⊥
+none_related span place f = let e : Some place ≡ None = f.alone.0 in cc
+
+pub html_alone : (b : Bool) (s : ℕ) (ps : List (List ℕ)) → All Alone (each_at (html_fault_at b) s ps)
+html_alone b s [] = All-nil Alone
+html_alone b s (p ∷ ps) = All-append Alone (html_fault_at b s p) (each_at (html_fault_at b) (s + width p) ps) (one (b && is_html_comment p)) (html_alone b (s + width p) ps)
+  where
+    one : (v : Bool) → All Alone (elim v [ true ↦ record { kind = fault.HtmlCommentInModule; span = span_at s p; first = None; second = None } ∷ [] | false ↦ [] ])
+    one true = All-cons Alone (record { kind = fault.HtmlCommentInModule; span = span_at s p; first = None; second = None }) [] (refl, refl) (All-nil Alone)
+    one false = All-nil Alone
+
+-- of the faults that come with a token, where it is so of those that go on
+pub found_alone : (g : LexicalGoal) (shown : Lexeme → Lexeme) (source : Goal) (text : List ℕ) (s : ℕ) (t : Token) (going_on faults : List Diagnostic) → Outcome g shown source text s t going_on faults → (same_kind Undetermined t.kind ≡ false → All Alone going_on) → All Alone faults
+found_alone g shown source text s t going_on faults o a = go (same_kind Undetermined t.kind) refl o
+  where
+    go : (b : Bool) → same_kind Undetermined t.kind ≡ b → elim b as (λ _. Type 0) [ true ↦ (d : Diagnostic) × (faults ≡ d ∷ []) × GivesNone g source text s t d | false ↦ (faults ≡ going_on) × GivesLexeme g shown text s t ] → All Alone faults
+    go true e x = All-same Alone faults (x.0 ∷ []) x.1 (All-cons Alone x.0 [] (x.2.no_first, x.2.no_second) (All-nil Alone))
+    go false e x = All-same Alone faults going_on x.0 (a e)
 
 -- the faults that come with the next token
 pub next_faults : {source : Goal} {text : List ℕ} {s : ℕ} (t : Token) (faults : List Diagnostic) → Reached text s → 0 < s → Outcome division cut source text s t [] faults → All (IsFault source text) faults
 next_faults {source} {text} {s} t faults r p o = go (same_kind Undetermined t.kind) o
   where
     go : (b : Bool) → elim b as (λ _. Type 0) [ true ↦ (d : Diagnostic) × (faults ≡ d ∷ []) × GivesNone division source text s t d | false ↦ (faults ≡ []) × GivesLexeme division cut text s t ] → All (IsFault source text) faults
-    go true x = All-same (IsFault source text) faults (x.0 ∷ []) x.1 (All-cons (IsFault source text) x.0 [] (is_fault x.0 r p x.2.faulty) (All-nil (IsFault source text)))
+    go true x = All-same (IsFault source text) faults (x.0 ∷ []) x.1 (All-cons (IsFault source text) x.0 [] (is_fault x.0 r p x.2.faulty (x.2.no_first, x.2.no_second)) (All-nil (IsFault source text)))
     go false x = All-same (IsFault source text) faults [] x.0 (All-nil (IsFault source text))
 
 -- what is noted starts before each later place
@@ -157,7 +184,7 @@ module _ {p : Parser} {l : State} {t : Token} {b : Bool} {e : ℕ} where
       at_place P x = subst (λ v. P v p.text e) a.reads_for (subst (λ v. P p.lexer.goal v e) a.reads (subst (λ v. P p.lexer.goal p.lexer.text v) here x))
 
       passing : All (IsFault (goal p) p.text) (each_at (html_fault_at (in_a_module p.lexer.goal)) p.lexer.place g.pieces)
-      passing = are_faults (each_at (html_fault_at (in_a_module p.lexer.goal)) p.lexer.place g.pieces) reached some (at_place (λ v x s. All (λ d. FaultyBehind d.kind v x s d.span.start d.span.end) (each_at (html_fault_at (in_a_module p.lexer.goal)) p.lexer.place g.pieces)) g.marked)
+      passing = are_faults (each_at (html_fault_at (in_a_module p.lexer.goal)) p.lexer.place g.pieces) reached some (at_place (λ v x s. All (λ d. FaultyBehind d.kind v x s d.span.start d.span.end) (each_at (html_fault_at (in_a_module p.lexer.goal)) p.lexer.place g.pieces)) g.marked) (html_alone (in_a_module p.lexer.goal) p.lexer.place g.pieces)
 
       stopping : All (IsFault (goal p) p.text) g.faults
       stopping = next_faults t g.faults reached some (at_place (λ v x s. Outcome division cut v x s t [] g.faults) g.outcome)

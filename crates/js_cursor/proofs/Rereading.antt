@@ -1,9 +1,9 @@
 -- What holds when the current token was read again by another lexical goal.
 use Rattle.std.proofs.Common.{ℕ, ◌≡◌, ◌⊎◌, inl, inr, Bool, true, false, List, [], ◌∷◌, ◌++◌, refl, sym, ap, subst, arith, ◌∙◌, not, ◌&&◌, Some}
-use Rattle.std.specs.Prelude.{IsCharBoundary}
+use Rattle.std.specs.Prelude.{IsCharBoundary, ◌+◌, None, chars, slice_range, slice_index_or}
 use Rattle.std.specs.List.{All}
 use Rattle.std.proofs.lemmas.Bool.{false≢true, or_right}
-use Rattle.std.proofs.lemmas.List.Elements.{All-append, All-same, All-cons, All-nil, All-weaker}
+use Rattle.std.proofs.lemmas.List.Elements.{All-append, All-same, All-cons, All-nil}
 use Rattle.js_base.specs.declared.diagnostic.Diagnostic.{Diagnostic}
 use Rattle.js_base.specs.declared.diagnostic.DiagnosticKind.{DiagnosticKind}
 use Rattle.js_base.specs.declared.diagnostic.DiagnosticKind.TheVariants as fault
@@ -15,20 +15,23 @@ use Rattle.js_base.specs.Spans.{LiesIn}
 use Rattle.js_base.proofs.KindLemmas.{kind_of_same}
 use Rattle.js_grammar.specs.Grammar.{Lexeme}
 use Rattle.js_grammar.specs.Lexemes.{LexicalGoal, division, regular_expression, template_tail, hashbang, kind_in, lexemes_in}
+use Rattle.js_grammar.specs.Characters.{width}
 use Rattle.js_grammar.specs.Longest.{none_begins}
+use Rattle.js_grammar.specs.RegularExpressions.{flags}
 use Rattle.js_grammar.specs.LexicalFaults.{FaultyBehind, Condition, Due, InvalidCharacter, is_invalid_character, begins_nothing}
 use Rattle.js_grammar.specs.Settings.{Goal}
 use Rattle.js_grammar.proofs.Alike.{stands-same}
 use Rattle.js_grammar.proofs.LongestLemmas.{both-right}
-use Rattle.js_lex.specs.Reading.{cut, is_right_angle, Tells, LexemeBehind, GivesLexeme, GivesNone, Outcome, GivesAgain, GivesNext, FlagsStand, WasGiven}
+use Rattle.js_lex.specs.Reading.{cut, is_right_angle, Tells, LexemeBehind, GivesLexeme, GivesNone, Outcome, GivesAgain, GivesNext, FlagsStand, WasGiven, is_wrong_flag, flag_faults}
 use Rattle.js_lex.specs.States.{State}
 use Rattle.js_lex.proofs.Again.{cut_same}
+use Rattle.js_words.specs.Places.{Word}
 use Rattle.js_words.proofs.KindsOfLexemes.{plain_end, pattern_is, tail_is, hashbang_is, slash_word, slash_equals_word, brace_word}
 use Rattle.js_cursor.specs.Parsers.{Parser}
 use Rattle.js_cursor.specs.Tokens.{IsToken, whole, sign, nothing}
 use Rattle.js_cursor.specs.Places.{IsAt, IsFault, goal}
 use Rattle.js_cursor.specs.Moves.{ReadAgain, IsRegularExpression, IsTemplatePart, Peeks}
-use Rattle.js_cursor.proofs.Moving.{stays, still_before}
+use Rattle.js_cursor.proofs.Moving.{Alone, found_alone, stays, still_before}
 
 -- the signs in whose place a regular expression or a template part may be read
 abbrev pub may_be_more : Kind → Bool
@@ -121,11 +124,27 @@ not_invalid : (source : Goal) {text : List ℕ} {s : ℕ} {y : Lexeme} (k : Diag
 not_invalid source fault.InvalidCharacter from to h m c e = sign_valid c.0 from to h m c.1 c.2.1
 not_invalid source _ from to h m c e = false≢true e
 
-fault_again : {p : Parser} → IsAt p → SignStands p → (d : Diagnostic) → FaultyBehind d.kind (goal p) p.text p.prev_token_end d.span.start d.span.end → IsFault (goal p) p.text d
-fault_again {p} a s d f = record { place = p.prev_token_end; reached = a.reached; faulty = f; no_hashbang = λ e z q. not_invalid (goal p) d.kind d.span.start d.span.end s.stands s.kind f.condition e }
+fault_again : {p : Parser} → IsAt p → SignStands p → (d : Diagnostic) → FaultyBehind d.kind (goal p) p.text p.prev_token_end d.span.start d.span.end → Alone d → IsFault (goal p) p.text d
+fault_again {p} a s d f n = record { place = p.prev_token_end; reached = a.reached; faulty = f; no_hashbang = λ e z q. not_invalid (goal p) d.kind d.span.start d.span.end s.stands s.kind f.condition e; alone = n }
 
-faults_again : {p : Parser} → IsAt p → SignStands p → (ds : List Diagnostic) → All (λ d. FaultyBehind d.kind (goal p) p.text p.prev_token_end d.span.start d.span.end) ds → All (IsFault (goal p) p.text) ds
-faults_again {p} a s ds h = All-weaker (λ d. FaultyBehind d.kind (goal p) p.text p.prev_token_end d.span.start d.span.end) (IsFault (goal p) p.text) (λ d f. fault_again a s d f) ds h
+faults_again : {p : Parser} → IsAt p → SignStands p → (ds : List Diagnostic) → All (λ d. FaultyBehind d.kind (goal p) p.text p.prev_token_end d.span.start d.span.end) ds → All Alone ds → All (IsFault (goal p) p.text) ds
+faults_again {p} a s ds h n = λ k d l. fault_again a s (slice_index_or ds k d) (h k d l) (n k d l)
+
+-- the faults that flags are have no related places
+flags_alone : (i : ℕ) (before fs : List ℕ) → All Alone (flag_faults i before fs)
+flags_alone i before [] = All-nil Alone
+flags_alone i before (f ∷ fs) = one (is_wrong_flag before f) (flag_faults (i + width (f ∷ [])) (before ++ f ∷ []) fs) (flags_alone (i + width (f ∷ [])) (before ++ f ∷ []) fs)
+  where
+    one : (v : Bool) (others : List Diagnostic) → All Alone others → All Alone (elim v [ true ↦ record { kind = fault.RegExpFlag; span = record { start = i; end = i + width (f ∷ []) }; first = None; second = None } ∷ others | false ↦ others ])
+    one true others h = All-cons Alone (record { kind = fault.RegExpFlag; span = record { start = i; end = i + width (f ∷ []) }; first = None; second = None }) others (refl, refl) h
+    one false others h = h
+
+flags_found : (text : List ℕ) (end : ℕ) (t : Token) (going_on : List Diagnostic) → FlagsStand text end t going_on → same_kind Undetermined t.kind ≡ false → All Alone going_on
+flags_found text end t going_on h e = go (same_kind Undetermined t.kind) e h
+  where
+    go : (r : Bool) → r ≡ false → elim r as (λ _. Type 0) [ true ↦ end ≡ t.span.end | false ↦ (fs : List ℕ) × Word text end t.span.end fs × (flags (chars (slice_range text t.span.start t.span.end)) ≡ Some fs) × (going_on ≡ flag_faults end [] fs) ] → All Alone going_on
+    go true q x = absurd (false≢true (sym q))
+    go false q x = All-same Alone going_on (flag_faults end [] x.0) x.3 (flags_alone end [] x.0)
 
 token_again : (g : LexicalGoal) (t : Token) (going_on faults : List Diagnostic) (source : Goal) (text : List ℕ) (s : ℕ) (errors : List Diagnostic) (old : List Diagnostic) → errors ≡ old ++ faults → Outcome g (λ z. z) source text s t going_on faults → IsToken source text s errors t false
 token_again g t going_on faults source text s errors old e o = go (same_kind Undetermined t.kind) refl o
@@ -145,8 +164,8 @@ found_again g t going_on faults source text s o m = go (same_kind Undetermined t
     go false x = All-same (λ d. FaultyBehind d.kind source text s d.span.start d.span.end) faults going_on x.0 m
 
 module _ {p : Parser} {g : LexicalGoal} {l : State} {t : Token} {going_on faults : List Diagnostic} where
-  pub read_again : IsAt p → may_be_more p.token.kind ≡ true → GivesAgain g p.lexer l p.token t going_on faults → ReadAgain g p (record p { lexer = l; token = t })
-  read_again a m x = record {
+  pub read_again : IsAt p → may_be_more p.token.kind ≡ true → GivesAgain g p.lexer l p.token t going_on faults → (same_kind Undetermined t.kind ≡ false → All Alone going_on) → ReadAgain g p (record p { lexer = l; token = t })
+  read_again a m x n = record {
     going_on = going_on;
     faults = faults;
     again = x;
@@ -165,7 +184,7 @@ module _ {p : Parser} {g : LexicalGoal} {l : State} {t : Token} {going_on faults
       last = x.place;
       marked = a.marked;
       noted = still_before a.noted (let s = x.start in omega arith);
-      faulty = All-same (IsFault (goal p) p.text) l.kept.errors (p.lexer.kept.errors ++ faults) x.errors (All-append (IsFault (goal p) p.text) p.lexer.kept.errors faults a.faulty (faults_again a sg faults (found_again g t going_on faults (goal p) p.text p.prev_token_end outcome marked)));
+      faulty = All-same (IsFault (goal p) p.text) l.kept.errors (p.lexer.kept.errors ++ faults) x.errors (All-append (IsFault (goal p) p.text) p.lexer.kept.errors faults a.faulty (faults_again a sg faults (found_again g t going_on faults (goal p) p.text p.prev_token_end outcome marked) (found_alone g (λ z. z) (goal p) p.text p.prev_token_end t going_on faults outcome n)));
     };
   }
     where
@@ -194,20 +213,20 @@ slash_may k (inr e) = ap may_be_more e
 pub brace_may : (k : Kind) → k ≡ RCurly → may_be_more k ≡ true
 brace_may k e = ap may_be_more e
 
-pub read_again_seen : {p q : Parser} → p ≡ q → {g : LexicalGoal} {l : State} {t : Token} {going_on faults : List Diagnostic} → IsAt q → may_be_more q.token.kind ≡ true → GivesAgain g p.lexer l p.token t going_on faults → ReadAgain g q (record p { lexer = l; token = t })
-read_again_seen {p} {q} v {g} {l} {t} {going_on} {faults} a m x = subst (λ (r : Parser). ReadAgain g r (record p { lexer = l; token = t })) v (read_again (subst IsAt (sym v) a) (ap (λ (r : Parser). may_be_more r.token.kind) v ∙ m) x)
+pub read_again_seen : {p q : Parser} → p ≡ q → {g : LexicalGoal} {l : State} {t : Token} {going_on faults : List Diagnostic} → IsAt q → may_be_more q.token.kind ≡ true → GivesAgain g p.lexer l p.token t going_on faults → (same_kind Undetermined t.kind ≡ false → All Alone going_on) → ReadAgain g q (record p { lexer = l; token = t })
+read_again_seen {p} {q} v {g} {l} {t} {going_on} {faults} a m x n = subst (λ (r : Parser). ReadAgain g r (record p { lexer = l; token = t })) v (read_again (subst IsAt (sym v) a) (ap (λ (r : Parser). may_be_more r.token.kind) v ∙ m) x n)
 
 -- the same where the lexer told the faults too
 template_again : {p : Parser} {l : State} {t : Token} → IsAt p → may_be_more p.token.kind ≡ true → (faults : List Diagnostic) × GivesAgain template_tail p.lexer l p.token t [] faults → IsTemplatePart p (record p { lexer = l; token = t })
 unfolding read_again
-template_again a m x = record { read = read_again a m x.1; quiet = refl }
+template_again a m x = record { read = read_again a m x.1 (λ e. All-nil Alone); quiet = refl }
 
 pub template_seen : {p q : Parser} → p ≡ q → {l : State} {t : Token} → IsAt q → q.token.kind ≡ RCurly → (faults : List Diagnostic) × GivesAgain template_tail p.lexer l p.token t [] faults → IsTemplatePart q (record p { lexer = l; token = t })
 template_seen {p} {q} v {l} {t} a k x = subst (λ (r : Parser). IsTemplatePart r (record p { lexer = l; token = t })) v (template_again (subst IsAt (sym v) a) (ap (λ (r : Parser). may_be_more r.token.kind) v ∙ brace_may q.token.kind k) x)
 
 regular_expression_again : {p : Parser} {l : State} {t : Token} {end : ℕ} → IsAt p → may_be_more p.token.kind ≡ true → (going_on : List Diagnostic) × (faults : List Diagnostic) × GivesAgain regular_expression p.lexer l p.token t going_on faults × FlagsStand p.lexer.text end t going_on → IsRegularExpression end p (record p { lexer = l; token = t })
 unfolding read_again
-regular_expression_again {p} {l} {t} {end} a m x = record { read = read_again a m x.2; flags = subst (λ (w : List ℕ). FlagsStand w end t x.0) a.reads x.3 }
+regular_expression_again {p} {l} {t} {end} a m x = record { read = read_again a m x.2 (λ e. flags_found p.lexer.text end t x.0 x.3 e); flags = subst (λ (w : List ℕ). FlagsStand w end t x.0) a.reads x.3 }
 
 pub regular_expression_seen : {p q : Parser} → p ≡ q → {l : State} {t : Token} {end : ℕ} → IsAt q → (q.token.kind ≡ Slash) ⊎ (q.token.kind ≡ SlashEq) → (going_on : List Diagnostic) × (faults : List Diagnostic) × GivesAgain regular_expression p.lexer l p.token t going_on faults × FlagsStand p.lexer.text end t going_on → IsRegularExpression end q (record p { lexer = l; token = t })
 regular_expression_seen {p} {q} v {l} {t} {end} a k x = subst (λ (r : Parser). IsRegularExpression end r (record p { lexer = l; token = t })) v (regular_expression_again (subst IsAt (sym v) a) (ap (λ (r : Parser). may_be_more r.token.kind) v ∙ slash_may q.token.kind k) x)

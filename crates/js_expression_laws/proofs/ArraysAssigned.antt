@@ -16,13 +16,14 @@ use Rattle.js_grammar.specs.Trees.{Label, Slots, end, tree, of, assignment_expre
 use Rattle.js_grammar.specs.Grammar.{Lexeme, Lexemes, here, last, such, nothing, Takes, is_nothing}
 use Rattle.js_grammar.specs.Insertion.{assign_operators}
 use Rattle.js_grammar.specs.Lexemes.{is_escaped}
-use Rattle.js_grammar.specs.Marks.{Mark, StandsAt, Part}
+use Rattle.js_grammar.specs.Marks.{Mark, StandsAt, Part, loose}
 use Rattle.js_base.specs.declared.diagnostic.DiagnosticKind.TheVariants.{AssignmentIsNotSimple}
 use Rattle.js_grammar.specs.Settings.{Goal}
 use Rattle.js_grammar.specs.Parsing.{always}
 use Rattle.js_grammar.specs.Productions.{Flags, at, Assignment, Short, Primary}
 use Rattle.js_grammar.specs.Table.{rule}
 use Rattle.js_grammar.specs.Follow.{after}
+use Rattle.js_grammar.proofs.BuiltLines.{in_whole}
 use Rattle.js_grammar.proofs.Loose.{strict_is_loose}
 use Rattle.js_tree.specs.declared.id.NodeId.{NodeId}
 use Rattle.js_tree.specs.declared.kind.NodeKind.TheVariants as node
@@ -67,7 +68,7 @@ literal_stands source text s s' from f l cs ls y part b d false k u e = (
     flags = f;
     tree = record { label = l; slots = cs };
     rest = last y;
-    derived = strict_is_loose (at Primary f) (record { label = l; slots = cs }) d;
+    derived = in_whole (at Primary (loose f)) (record { label = l; slots = cs }) (strict_is_loose (at Primary f) (record { label = l; slots = cs }) d);
     passes = rw k (and_from _ _ u (ap not e));
   },
   (refl, refl),
@@ -81,7 +82,7 @@ literal_stands source text s s' from f l cs ls y part b d true k u e = (
     flags = f;
     tree = record { label = l; slots = cs };
     rest = last y;
-    derived = strict_is_loose (at Primary f) (record { label = l; slots = cs }) d;
+    derived = in_whole (at Primary (loose f)) (record { label = l; slots = cs }) (strict_is_loose (at Primary f) (record { label = l; slots = cs }) d);
     passes = rw k (and_from _ _ u (ap not e));
   },
   (refl, refl),

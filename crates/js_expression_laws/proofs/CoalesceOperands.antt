@@ -12,13 +12,14 @@ use Rattle.js_grammar.specs.Grammar.{Lexeme, Lexemes, last, next, here, seen, su
 use Rattle.js_grammar.specs.Lexed.{Lexes, all_faults}
 use Rattle.js_grammar.specs.Lexed.{Lex as StandsBehind}
 use Rattle.js_grammar.specs.LexicalFaults.{Reached}
-use Rattle.js_grammar.specs.Marks.{Mark}
+use Rattle.js_grammar.specs.Marks.{Mark, loose}
 use Rattle.js_grammar.specs.Parsing.{Test, Goes, Reaches, always, passing}
 use Rattle.js_grammar.specs.Productions.{Flags, at, Short, Or, BitOr}
 use Rattle.js_grammar.specs.Productions.{sym as symbol}
 use Rattle.js_grammar.specs.Table.{rule, rule_of}
 use Rattle.js_grammar.specs.Follow.{row_of, looser, after}
 use Rattle.js_grammar.proofs.Calculus.{here_at, reaches_less, ◌▹◌, ◌▹✗◌}
+use Rattle.js_grammar.proofs.BuiltLines.{in_whole}
 use Rattle.js_grammar.proofs.Loose.{strict_is_loose}
 use Rattle.js_grammar.proofs.Looks.{covers, apart}
 use Rattle.js_grammar.proofs.RightEdges.{of_operand}
@@ -273,9 +274,9 @@ module _ {text : List ℕ} {f : Flags} where
             operator = m.lexeme;
             behind = x.answer.pass (last y);
             rest = last y;
-            left_derived = strict_is_loose (at Short f) (record { label = s.label; slots = s.slots }) left_derived;
+            left_derived = in_whole (at Short (loose f)) (record { label = s.label; slots = s.slots }) (strict_is_loose (at Short f) (record { label = s.label; slots = s.slots }) left_derived);
             is_operator = sign_is;
-            right_derived = strict_is_loose (at Short f) (record { label = x.answer.label; slots = x.answer.slots }) right_derived;
+            right_derived = in_whole (at Short (loose f)) (record { label = x.answer.label; slots = x.answer.slots }) (strict_is_loose (at Short f) (record { label = x.answer.label; slots = x.answer.slots }) right_derived);
             mixed = mixed_nodes;
           },
           (refl, refl),

@@ -17,8 +17,9 @@ use Rattle.js_grammar.specs.Insertion.{Row, after_expression, after_postfix, aft
 use Rattle.js_grammar.specs.Lexed.{Lexes, all_faults}
 use Rattle.js_grammar.specs.Lexed.{Lex as StandsBehind}
 use Rattle.js_grammar.specs.LexicalFaults.{Reached}
-use Rattle.js_grammar.specs.Marks.{Mark, StandsAt, Part}
+use Rattle.js_grammar.specs.Marks.{Mark, StandsAt, Part, loose}
 use Rattle.js_grammar.specs.Settings.{Goal}
+use Rattle.js_grammar.proofs.BuiltLines.{in_whole}
 use Rattle.js_grammar.proofs.Loose.{strict_is_loose}
 use Rattle.js_grammar.specs.Parsing.{Test, plain, full, always, Admits, Goes, Fails, still}
 use Rattle.js_grammar.specs.Productions.{G, Flags, at, tok, op, Exponent, Unary, Update}
@@ -236,7 +237,7 @@ base_stands_there source text s s' from f l cs ls y part b d (inl k) e = (
     flags = f;
     tree = record { label = l; slots = cs };
     rest = last y;
-    derived = strict_is_loose (at Unary f) (record { label = l; slots = cs }) d;
+    derived = in_whole (at Unary (loose f)) (record { label = l; slots = cs }) (strict_is_loose (at Unary f) (record { label = l; slots = cs }) d);
     passes = rw (k, e) refl;
   },
   (refl, refl),
@@ -250,7 +251,7 @@ base_stands_there source text s s' from f l cs ls y part b d (inr k) e = (
     flags = f;
     tree = record { label = l; slots = cs };
     rest = last y;
-    derived = strict_is_loose (at Unary f) (record { label = l; slots = cs }) d;
+    derived = in_whole (at Unary (loose f)) (record { label = l; slots = cs }) (strict_is_loose (at Unary f) (record { label = l; slots = cs }) d);
     passes = rw (k, e) refl;
   },
   (refl, refl),

@@ -7,7 +7,7 @@ use Rattle.js_grammar.specs.Lexed.{Lex, Lexes, all_faults}
 use Rattle.js_grammar.specs.Productions.{G, Flags, Name, Symbol, at, with_pife, shorthand_flag, Property, LooseHead, Program}
 use Rattle.js_grammar.specs.Table.{rule, rule_of}
 use Rattle.js_grammar.specs.CoverInitialisers.{is_property, is_shorthand, has_third, is_initialised, initialised_in, initialised_of, with_cover}
-use Rattle.js_grammar.specs.Marks.{DerivedAt, has_initialiser}
+use Rattle.js_grammar.specs.Marks.{DerivedAt, has_initialiser, loose}
 use Rattle.std.specs.List.{All}
 use Rattle.std.proofs.lemmas.List.Elements.{All-nil, All-cons, All-append}
 use Rattle.js_base.specs.declared.kind.Kind.TheVariants.{Eq}
@@ -16,6 +16,7 @@ use Rattle.js_base.specs.Kinds.{same_kind}
 use Rattle.js_grammar.specs.LexicalFaults.{Reached}
 use Rattle.js_grammar.proofs.Behind.{lexed_behind}
 use Rattle.js_grammar.proofs.Renamed.{renamed, remarked, first_of, second_of, symbol_of, mark_of}
+use Rattle.js_grammar.proofs.BuiltLines.{in_whole}
 use Rattle.js_grammar.proofs.Loose.{strict_is_cover, strict_is_loose}
 
 -- The head of an arrow, as it may be before it is known to be one, drops what it keeps: no program has one.
@@ -510,7 +511,7 @@ marked_at w f c l cs i j ls rest m d e =
       flags = f;
       tree = record { label = l; slots = cs };
       rest = rest;
-      derived = strict_is_loose (at Property f) (record { label = l; slots = cs }) d;
+      derived = in_whole (at Property (loose f)) (record { label = l; slots = cs }) (strict_is_loose (at Property f) (record { label = l; slots = cs }) d);
       passes = x.0;
     })
 

@@ -1,19 +1,19 @@
 -- Marks: what stands at the span of a diagnostic, and at its related places. Lexical faults aside, this is said in lexemes of the text, from its start on; lexical faults that don't stop them pass.
-use Rattle.std.specs.Prelude.{ℕ, ◌+◌, ◌<◌, ◌≤◌, ◌≡◌, ◌⊎◌, Bool, true, false, not, ◌&&◌, ◌||◌, List, [], ◌∷◌, ◌++◌, ◌==◌, codes, bytes_eq, length, drop, take, Option, Some, None, IsTrue, IsCharBoundary}
+use Rattle.std.specs.Prelude.{ℕ, ◌+◌, ◌<◌, ◌≤◌, ◌≡◌, ◌⊎◌, Bool, true, false, not, ◌&&◌, ◌||◌, List, [], ◌∷◌, ◌++◌, ◌==◌, cond, codes, bytes_eq, length, drop, take, Option, Some, None, IsTrue, IsCharBoundary}
 use Rattle.std.specs.List.{list_all}
 use Rattle.js_base.specs.declared.diagnostic.Diagnostic.{Diagnostic}
 use Rattle.js_base.specs.declared.diagnostic.DiagnosticKind.{DiagnosticKind}
 use Rattle.js_base.specs.declared.diagnostic.DiagnosticKind.TheVariants as kind
 use Rattle.js_base.specs.declared.kind.Kind.{Kind}
-use Rattle.js_base.specs.declared.kind.Kind.TheVariants.{LParen, RParen, LCurly, RCurly, LBrack, RBrack, Comma, Colon, Dot, Dot3, Arrow, Question, QuestionDot, Question2, Plus2, Minus2, Star2, Eq, Pipe2, Amp2, LAngle, RAngle, GtEq, ShiftRight, ShiftRightEq, ShiftRight3, ShiftRight3Eq, Str, TemplateHead, TemplateMiddle, Undetermined}
+use Rattle.js_base.specs.declared.kind.Kind.TheVariants.{LParen, RParen, LCurly, RCurly, LBrack, RBrack, Comma, Colon, Dot, Dot3, Arrow, Question, QuestionDot, Question2, Plus2, Minus2, Star2, Eq, Pipe2, Amp2, LAngle, RAngle, GtEq, ShiftRight, ShiftRightEq, ShiftRight3, ShiftRight3Eq, Str, NoSubstitutionTemplate, TemplateHead, TemplateMiddle, TemplateTail, Undetermined}
 use Rattle.js_base.specs.declared.span.Span.{Span}
 use Rattle.js_base.specs.Kinds.{same_kind, one_of_kinds}
-use Rattle.js_grammar.specs.Words.{'new', 'default', 'as', 'satisfies', 'private', 'protected', 'public', 'target'}
+use Rattle.js_grammar.specs.Words.{'new', 'default', 'as', 'satisfies', 'private', 'protected', 'public', 'target', 'with', 'assert'}
 use Rattle.js_grammar.specs.Trees.{NodeKind, logical_expression, unary_expression, await_expression, array_expression, object_expression, Op, of, Tree}
 use Rattle.js_grammar.specs.Grammar.{Lexeme, Lexemes, last, next, here, Derives}
 use Rattle.js_grammar.specs.Insertion.{assign_operators, is_word, begins_name}
 use Rattle.js_grammar.specs.Productions.{Flags, Name, Property, Expression, Short, Unary, Primary, SimpleTarget, Target, at}
-use Rattle.js_grammar.specs.Table.{rule}
+use Rattle.js_grammar.specs.Table.{rule, whole}
 use Rattle.js_grammar.specs.Settings.{Goal}
 use Rattle.js_grammar.specs.Characters.{width}
 use Rattle.js_grammar.specs.Longest.{joined}
@@ -106,6 +106,10 @@ pub record Before (test : Lexeme → Lexeme → Bool) (text : List ℕ) (s : Spa
   pub is : Is first s
   pub passes : IsTrue (test first second)
 
+-- a word, though not `target`; written with an escape that one counts as another
+abbrev pub another_word : Lexeme → Bool
+another_word x = is_word x.kind && not (of_kinds ('target' ∷ []) x)
+
 -- `new`, a dot, and another word than `target`
 pub record NewDot (text : List ℕ) (s : Span) : Type 0 where
   pub place : ℕ
@@ -115,7 +119,7 @@ pub record NewDot (text : List ℕ) (s : Span) : Type 0 where
   pub part : Part text place (next word (next dot (last other)))
   pub is_new : IsTrue (of_kinds ('new' ∷ []) word)
   pub is_dot : IsTrue (of_kinds (Dot ∷ []) dot)
-  pub is_other : IsTrue (not (of_kinds ('target' ∷ []) other))
+  pub is_other : IsTrue (another_word other)
   pub begins : word.from ≡ s.start
   pub ends : other.to ≡ s.end
 
@@ -147,9 +151,9 @@ pub record Earlier (test : Lexeme → Bool) (goal : Goal) (text : List ℕ) (bef
 
 -- an opening bracket
 abbrev pub opens : Lexeme → Bool
-opens x = one_of_kinds (LParen ∷ LBrack ∷ LCurly ∷ TemplateHead ∷ TemplateMiddle ∷ []) x.kind
+opens x = one_of_kinds (LParen ∷ LBrack ∷ LCurly ∷ []) x.kind
 
--- two lexemes that stand for the same, the later one in `first`, or the earlier one
+-- two lexemes that stand for the same, the other one in `first`
 pub record Again (test : Lexeme → Bool) (goal : Goal) (text : List ℕ) (s : Span) (first second : Option Span) : Type 0 where
   pub place : Span
   pub is_first : first ≡ Some place
@@ -158,7 +162,48 @@ pub record Again (test : Lexeme → Bool) (goal : Goal) (text : List ℕ) (s : S
   pub other : LexemeAt test goal text place
   pub same : one.lexeme.units ≡ other.lexeme.units
 
--- Expressions and targets: by the productions of loose expressions, under some setting of the parameters.
+-- Keys of import attributes (16.2.2).
+
+-- an entry of a WithClause, and a comma behind it
+abbrev is_entry : Lexeme → Lexeme → Lexeme → Lexeme → Bool
+is_entry key colon value comma = is_name_or_string key && (of_kinds (Colon ∷ []) colon && (of_kinds (Str ∷ []) value && of_kinds (Comma ∷ []) comma))
+
+-- entries lead from one place of a clause to another, or none stands between
+pub data EntriesLead : Lexemes → Lexemes → Type 0 where
+  none : {ls : Lexemes} → EntriesLead ls ls
+  one_more : {key colon value comma : Lexeme} {ls rest : Lexemes} → IsTrue (is_entry key colon value comma) → EntriesLead ls rest → EntriesLead (next key (next colon (next value (next comma ls)))) rest
+
+-- `with`, or its older form `assert` on the line of what stands before
+abbrev begins_clause : Lexeme → Bool
+begins_clause x = of_kinds ('with' ∷ []) x || (of_kinds ('assert' ∷ []) x && not x.newline)
+
+-- A key of a clause that stands for the same as an earlier one of it, which is in `first`. The clause stands behind the string that names a module.
+pub record KeyAgain (text : List ℕ) (s : Span) (first second : Option Span) : Type 0 where
+  pub place : ℕ
+  pub specifier : Lexeme
+  pub word : Lexeme
+  pub brace : Lexeme
+  pub entries : Lexemes
+  pub part : Part text place (next specifier (next word (next brace entries)))
+  pub is_specifier : IsTrue (of_kinds (Str ∷ []) specifier)
+  pub is_clause : IsTrue (begins_clause word)
+  pub is_brace : IsTrue (of_kinds (LCurly ∷ []) brace)
+  pub earlier : Lexeme
+  pub colon : Lexeme
+  pub value : Lexeme
+  pub comma : Lexeme
+  pub between : Lexemes
+  pub before : EntriesLead entries (next earlier (next colon (next value (next comma between))))
+  pub is_entry : IsTrue (is_entry earlier colon value comma)
+  pub later : Lexemes
+  pub behind : EntriesLead between later
+  pub is : Is (here later) s
+  pub is_key : IsTrue (is_name_or_string (here later))
+  pub same : earlier.units ≡ (here later).units
+  pub is_first : first ≡ Some (record { start = earlier.from; end = earlier.to })
+  pub no_second : second ≡ None
+
+-- Expressions and targets: by the productions of loose expressions in the whole grammar, under some setting of the parameters.
 
 abbrev pub loose : Flags → Flags
 loose f = record f { cover = true; wide = true }
@@ -172,7 +217,7 @@ pub record DerivedAt (n : Name) (test : Tree → Lexemes → Lexeme → Bool) (t
   pub flags : Flags
   pub tree : Tree
   pub rest : Lexemes
-  pub derived : Derives rule (at n (loose flags)) tree place lexemes s.end rest
+  pub derived : Derives whole (at n (loose flags)) tree place lexemes s.end rest
   pub passes : IsTrue (test tree lexemes (here rest))
 
 abbrev is_unary : NodeKind → Bool
@@ -214,9 +259,9 @@ pub record Mixed (text : List ℕ) (s : Span) : Type 0 where
   pub operator : Lexeme
   pub behind : Lexemes
   pub rest : Lexemes
-  pub left_derived : Derives rule (at Short (loose flags)) left place lexemes middle (next operator behind)
+  pub left_derived : Derives whole (at Short (loose flags)) left place lexemes middle (next operator behind)
   pub is_operator : operator.kind ≡ Question2
-  pub right_derived : Derives rule (at Short (loose flags)) right operator.to behind s.end rest
+  pub right_derived : Derives whole (at Short (loose flags)) right operator.to behind s.end rest
   pub mixed : IsTrue (is_or_and left.label.kind left.label.op || is_or_and right.label.kind right.label.op)
 
 -- one or more of these lexemes, up to a place, and what is left
@@ -224,7 +269,7 @@ pub data Front (to : ℕ) : Lexemes → Lexemes → Type 0 where
   one : {x : Lexeme} {ls : Lexemes} → x.to ≡ to → Front to (next x ls) ls
   more : {x : Lexeme} {ls rest : Lexemes} → Front to ls rest → Front to (next x ls) rest
 
--- Under some setting of the parameters the lexemes at the span are no tree of this nonterminal.
+-- Under some setting of the parameters the lexemes at the span are no tree of this nonterminal, by the productions that are built.
 pub record UnderivedAt (n : Name) (text : List ℕ) (s : Span) : Type 0 where
   pub place : ℕ
   pub lexemes : Lexemes
@@ -263,7 +308,7 @@ pub record BehindExpression (k : Kind) (text : List ℕ) (s : Span) : Type 0 whe
   pub tree : Tree
   pub end : ℕ
   pub rest : Lexemes
-  pub derived : Derives rule (at Expression (loose flags)) tree place lexemes end rest
+  pub derived : Derives whole (at Expression (loose flags)) tree place lexemes end rest
   pub is : Is (here rest) s
   pub word : IsTrue (of_kinds (k ∷ []) (here rest) && not (here rest).newline)
 
@@ -351,17 +396,21 @@ pub record FlowComment (text : List ℕ) (s : Span) : Type 0 where
   pub begins : s.start ≡ place + width (joined before)
   pub ends : s.end ≡ s.start + width comment
 
--- All other kinds: each end of the span is a start or an end of a lexeme, or of what stands between the delimiters of a template part.
+-- All other kinds: each end of the span is a start or an end of a lexeme, or of what stands between the delimiters of a template part (12.9.6).
 
-abbrev is_part : Kind → Bool
-is_part k = one_of_kinds (TemplateHead ∷ TemplateMiddle ∷ []) k
+abbrev pub is_part : Kind → Bool
+is_part k = one_of_kinds (NoSubstitutionTemplate ∷ TemplateHead ∷ TemplateMiddle ∷ TemplateTail ∷ []) k
+
+-- how many bytes a part's delimiter takes at its end: `${` or a backquote
+abbrev pub closing_width : Kind → ℕ
+closing_width k = cond (one_of_kinds (TemplateHead ∷ TemplateMiddle ∷ []) k) 2 1
 
 pub data EdgeOf (goal : Goal) (text : List ℕ) (i : ℕ) : Type 0 where
   the_start : {x : Lexeme} → IsLexemeOf goal text x → x.from ≡ i → EdgeOf goal text i
   the_end : {x : Lexeme} → IsLexemeOf goal text x → x.to ≡ i → EdgeOf goal text i
-  -- behind a backquote or brace; before `${`, or a backquote
-  inside_start : {x : Lexeme} → IsLexemeOf goal text x → x.from + 1 ≡ i → EdgeOf goal text i
-  inside_end : {x : Lexeme} → IsLexemeOf goal text x → (x.to ≡ i + 2) ⊎ (x.to ≡ i + 1) → EdgeOf goal text i
+  -- of a part: behind its backquote or brace; before its `${` or backquote
+  inside_start : {x : Lexeme} → IsLexemeOf goal text x → IsTrue (is_part x.kind) → x.from + 1 ≡ i → EdgeOf goal text i
+  inside_end : {x : Lexeme} → IsLexemeOf goal text x → IsTrue (is_part x.kind) → x.to ≡ i + closing_width x.kind → EdgeOf goal text i
 
 abbrev BetweenEdges : Goal → List ℕ → Span → Type 0
 BetweenEdges goal text s = EdgeOf goal text s.start × EdgeOf goal text s.end
@@ -407,7 +456,7 @@ StandsAt kind.CoverInitializedName goal text s first second = DerivedAt Property
 StandsAt kind.AssignmentIsNotSimple goal text s first second = DerivedAt Primary literal_before_operator text s × Unrelated first second
 StandsAt kind.V8IntrinsicSpreadElem goal text s first second = LexemeAt (of_kinds (Dot3 ∷ [])) goal text s × Unrelated first second
 StandsAt kind.SwitchMultipleDefaultClause goal text s first second = BeginsWith (of_kinds ('default' ∷ [])) goal text s × (r : Span) × (first ≡ Some r) × (second ≡ None) × BeginsWith (of_kinds ('default' ∷ [])) goal text r × (r.end ≤ s.start)
-StandsAt kind.Redeclaration goal text s first second = (a : Again is_name_or_string goal text s first second) × (a.place.end ≤ s.start)
+StandsAt kind.Redeclaration goal text s first second = KeyAgain text s first second
 StandsAt kind.DuplicateExport goal text s first second = (a : Again is_name_or_string goal text s first second) × (s.end ≤ a.place.start)
 StandsAt kind.DuplicateDefaultExport goal text s first second = (a : Again is_default goal text s first second) × (a.place.start ≡ s.start → ⊥)
 StandsAt kind.Flow goal text s first second = FlowComment text s × Unrelated first second

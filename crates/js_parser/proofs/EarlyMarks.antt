@@ -1,7 +1,7 @@
 -- A regular expression in a tree stands where a lexeme does, and a template's part between the delimiters of one; so what is told of them has its mark.
-use Rattle.std.proofs.Common.{ℕ, ◌≡◌, Bool, true, false, not, cond, ◌||◌, List, [], ◌++◌, Some, None, nat_eq, ◌&&◌, ◌≤◌, ◌+◌, ◌-◌, ◌⊎◌, inl, inr, arith, refl, sym, ap, subst, ◌∙◌}
+use Rattle.std.proofs.Common.{ℕ, ◌≡◌, Bool, true, false, not, cond, ◌||◌, List, [], ◌++◌, Some, None, nat_eq, ◌&&◌, ◌≤◌, ◌+◌, ◌-◌, arith, refl, sym, ap, subst, ◌∙◌}
 use Rattle.std.specs.List.{All}
-use Rattle.std.specs.Prelude.{is_some}
+use Rattle.std.specs.Prelude.{is_some, IsTrue}
 use Rattle.std.proofs.lemmas.Bool.{false≢true, not-true, and_parts, eqb-true}
 use Rattle.std.proofs.lemmas.List.Elements.{All-nil, All-cons, All-append}
 use Rattle.js_text.specs.Decoding.{cooked}
@@ -9,14 +9,15 @@ use Rattle.js_base.specs.Spans.{LiesIn}
 use Rattle.js_base.specs.declared.diagnostic.DiagnosticKind.{DiagnosticKind}
 use Rattle.js_base.specs.declared.diagnostic.DiagnosticKind.TheVariants.{RegExpFlagUAndV, TemplateLiteral}
 use Rattle.js_grammar.specs.Trees.{NodeKind, reg_exp_literal, template_element, function_expression, arrow_function_expression, Label, Op, Span, Slots, end, hole, tree, Tree, append}
-use Rattle.js_grammar.specs.Grammar.{Extent, exact, inside, whole_text, Make, Lexeme, Lexemes, next, lexeme, ahead, seq, alt, when, many, commas, marked, node, ended, keep, span_of, label_of, commas_once, Takes, Derives, is_nothing, is_lexeme, is_look, is_text, is_ahead, is_empty_slot, is_seq, is_left, is_right, is_when, is_many, is_commas, is_such, is_marked, is_node, is_ended, is_keep, is_kept, nothing, never, look, text, empty_slot, such, kept}
+use Rattle.js_grammar.specs.Grammar.{Look, seen, Extent, exact, inside, whole_text, Make, Lexeme, Lexemes, next, lexeme, ahead, seq, alt, when, many, commas, marked, node, ended, keep, span_of, label_of, commas_once, Takes, Derives, is_nothing, is_lexeme, is_look, is_text, is_ahead, is_empty_slot, is_seq, is_left, is_right, is_when, is_many, is_commas, is_such, is_marked, is_node, is_ended, is_keep, is_kept, nothing, never, look, text, empty_slot, such, kept}
 use Rattle.js_grammar.specs.Lexed.{Lexes}
 use Rattle.js_grammar.specs.Productions.{G, Flags, Name, Symbol, at, with_pife, Program}
 use Rattle.js_grammar.specs.Table.{rule, rule_of}
 use Rattle.js_grammar.specs.NodeNames.{characters_at}
-use Rattle.js_grammar.specs.Marks.{EdgeOf, the_start, the_end, inside_start, inside_end, a_lexeme, Mark, StandsAt}
+use Rattle.js_grammar.specs.Marks.{EdgeOf, is_part, closing_width, the_start, the_end, inside_start, inside_end, a_lexeme, Mark, StandsAt}
 use Rattle.js_grammar.specs.Settings.{Goal}
 use Rattle.js_grammar.proofs.Behind.{lexed_behind}
+use Rattle.js_grammar.proofs.Looks.{covers, covered}
 use Rattle.js_grammar.proofs.CoverInitialisers.{Led, line_marked}
 use Rattle.js_grammar.proofs.Renamed.{remarked, first_of, second_of, mark_of}
 use Rattle.js_tree.specs.Covering.{placed}
@@ -32,15 +33,19 @@ is_lexical reg_exp_literal = true
 is_lexical template_element = true
 is_lexical _ = false
 
--- the whole lexeme, or without a backquote or brace before it, and a backquote or `${` behind it
-abbrev is_near : Extent → Bool
-is_near exact = true
-is_near (inside a b) = nat_eq a 1 && (nat_eq b 1 || nat_eq b 2)
-is_near _ = false
+-- a template part, with as much at its end as its delimiter takes
+abbrev is_part_less : ℕ → Look
+is_part_less b k w e = is_part k && nat_eq b (closing_width k)
+
+-- of a lexeme that passes a test: the whole of it, or of a template part what stands between its delimiters
+abbrev is_near : Extent → Look → Bool
+is_near exact p = true
+is_near (inside a b) p = nat_eq a 1 && covers p (is_part_less b)
+is_near _ p = false
 
 -- each such node is that of one lexeme, and no label of one is changed
 abbrev Fits : G → Type 0
-Fits (node m (lexeme p)) = (not (is_lexical m.kind) || is_near m.extent) ≡ true
+Fits (node m (lexeme p)) = (not (is_lexical m.kind) || is_near m.extent p) ≡ true
 Fits (node m a) = (is_lexical m.kind ≡ false) × Fits a
 Fits (ahead a) = Fits a
 Fits (seq a b) = Fits a × Fits b
@@ -54,7 +59,7 @@ Fits (keep a b) = Fits a × Fits b
 Fits g = Unit {0}
 
 abbrev fits : G → Bool
-fits (node m (lexeme p)) = not (is_lexical m.kind) || is_near m.extent
+fits (node m (lexeme p)) = not (is_lexical m.kind) || is_near m.extent p
 fits (node m a) = not (is_lexical m.kind) && fits a
 fits (ahead a) = fits a
 fits (seq a b) = fits a && fits b
@@ -88,7 +93,7 @@ is_fit (such n c) e h = tt
 is_fit kept e h = tt
 
 line_fits : (n : Name) (f : Flags) → fits (rule_of n f) ≡ true
-unfolding rule_of
+unfolding rule_of covers
 line_fits Program f = refl
 line_fits n f = refl
 
@@ -126,13 +131,13 @@ module _ (Q : Span → Type 0) where
   joined (tree l ds cs) us a b = (a.0, (a.1.0, joined cs us a.1.1 b))
 
 -- of which it is so near each lexeme
-module _ (Q : Span → Type 0) (L : ℕ → Lexeme → Type 0) (told : (i : ℕ) (x : Lexeme) → L i x → (e : Extent) → is_near e ≡ true → (ls : Lexemes) → Q (span_of e (next x ls) x.to ls)) where
+module _ (Q : Span → Type 0) (L : ℕ → Lexeme → Type 0) (told : (i : ℕ) (x : Lexeme) → L i x → (e : Extent) (p : Look) → is_near e p ≡ true → IsTrue (seen p x) → (ls : Lexemes) → Q (span_of e (next x ls) x.to ls)) where
   near_of : (k e : Bool) → (not k || e) ≡ true → k ≡ true → e ≡ true
   near_of true e h q = h
   near_of false e h q = absurd (false≢true q)
 
   at_node : (m : Make) (a : G) → Fits (node m a) → {ks cs us : Slots} {i j : ℕ} {ls rest : Lexemes} → Takes rule a ks cs i ls us j rest → Lexes L i ls → is_lexical m.kind ≡ true → Q (label_of m ls j rest).span
-  at_node m (lexeme p) w {i = i} (is_lexeme {x = x} {ls = ls} h) l q = told i x l.0 m.extent (near_of (is_lexical m.kind) (is_near m.extent) w q) ls
+  at_node m (lexeme p) w {i = i} (is_lexeme {x = x} {ls = ls} h) l q = told i x l.0 m.extent p (near_of (is_lexical m.kind) (is_near m.extent p) w q) h ls
   at_node m a w d l q = absurd (false≢true (sym w.0 ∙ q))
 
   each_in : {g : G} {ks ts us : Slots} {i j : ℕ} {ls rest : Lexemes} → Takes rule g ks ts i ls us j rest → Fits g → Lexes L i ls → Each Q ks → Each Q us → Each Q ts
@@ -160,24 +165,21 @@ module _ (Q : Span → Type 0) (L : ℕ → Lexeme → Type 0) (told : (i : ℕ)
 
 -- ---- marks
 
-before_end : (from to a b : ℕ) → a ≡ 1 → (nat_eq b 1 || nat_eq b 2) ≡ true → from + a ≤ to - b → (to ≡ to - b + 2) ⊎ (to ≡ to - b + 1)
-before_end from to a b e q o = go (nat_eq b 1) refl q
-  where
-    go : (v : Bool) → nat_eq b 1 ≡ v → (v || nat_eq b 2) ≡ true → (to ≡ to - b + 2) ⊎ (to ≡ to - b + 1)
-    go true z q = inr (let n = eqb-true b 1 z in omega arith)
-    go false z q = inl (let n = eqb-true b 2 q in omega arith)
+before_end : (from to a b c : ℕ) → a ≡ 1 → b ≡ c → from + a ≤ to - b → to ≡ to - b + c
+before_end from to a b c e q o = omega arith
 
 module _ (goal : Goal) (text : List ℕ) where
   -- a lexeme begins there, or what stands within one; and so it ends, as far as it does
   abbrev Edged : Span → Type 0
   Edged s = EdgeOf goal text s.from × (s.from ≤ s.to → EdgeOf goal text s.to)
 
-  edged : (i : ℕ) (x : Lexeme) → Led text i x → (e : Extent) → is_near e ≡ true → (ls : Lexemes) → Edged (span_of e (next x ls) x.to ls)
-  edged i x h exact q ls = (the_start (a_lexeme h.0 h.1) refl, λ o. the_end (a_lexeme h.0 h.1) refl)
-  edged i x h whole_text q ls = absurd (false≢true q)
-  edged i x h (inside a b) q ls =
-      let y = and_parts (nat_eq a 1) _ q in
-      (inside_start (a_lexeme h.0 h.1) (let z = eqb-true a 1 y.0 in omega arith), λ o. inside_end (a_lexeme h.0 h.1) (before_end x.from x.to a b (eqb-true a 1 y.0) y.1 o))
+  edged : (i : ℕ) (x : Lexeme) → Led text i x → (e : Extent) (p : Look) → is_near e p ≡ true → IsTrue (seen p x) → (ls : Lexemes) → Edged (span_of e (next x ls) x.to ls)
+  edged i x h exact p q s ls = (the_start (a_lexeme h.0 h.1) refl, λ o. the_end (a_lexeme h.0 h.1) refl)
+  edged i x h whole_text p q s ls = absurd (false≢true q)
+  edged i x h (inside a b) p q s ls =
+      let y = and_parts (nat_eq a 1) (covers p (is_part_less b)) q in
+      let z = and_parts (is_part x.kind) (nat_eq b (closing_width x.kind)) (covered p (is_part_less b) y.1 x.kind x.newline x.escaped s) in
+      (inside_start (a_lexeme h.0 h.1) z.0 (let n = eqb-true a 1 y.0 in omega arith), λ o. inside_end (a_lexeme h.0 h.1) z.0 (before_end x.from x.to a b (closing_width x.kind) (eqb-true a 1 y.0) (eqb-true b (closing_width x.kind) z.1) o))
 
   abbrev Lies : Span → Type 0
   Lies s = LiesIn (placed s) text
