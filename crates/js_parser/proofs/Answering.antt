@@ -174,6 +174,7 @@ taken_answer {text} {s} {o} {asks} {p} {ids} span nodes out kept early covers a 
           ended = λ z y. false≢true z;
           childless = λ z. absurd (false≢true z);
           no_tokens = λ z. absurd (false≢true z);
+          stopped_only = λ z. absurd (false≢true z);
           left = λ t r. absurd (by_cover.1 some t r);
         }
     go [] q =
@@ -207,6 +208,7 @@ taken_answer {text} {s} {o} {asks} {p} {ids} span nodes out kept early covers a 
           ended = λ z y. false≢true z;
           childless = λ z. absurd (false≢true z);
           no_tokens = λ z. absurd (false≢true z);
+          stopped_only = λ z. absurd (false≢true z);
           left = λ t r.
               let same : t ≡ program = (read.only t r).0 in
               (sym same, refl, found_is ∙ (left_is ∙ ap (λ (v : Tree). leftover (told_in text Anywhere v.slots) (map placed (initialised_in v.slots))) (sym same)));
@@ -264,6 +266,7 @@ refused_answer {text} {s} {o} {p} {ids} ns span nodes told out kept f a b k z t 
   ended = λ q y. some y;
   childless = λ q. refl;
   no_tokens = λ q. ap (λ (x : LexerOutput). x.tokens) e;
+  stopped_only = λ q. h.none_loosely;
   left = λ u r. absurd (h.none u r);
 }
   where

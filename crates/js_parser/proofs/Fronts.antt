@@ -21,12 +21,12 @@ use Rattle.js_lex.specs.Reading.{LexemeBehind}
 use Rattle.js_words.specs.Scans.{NoLexeme}
 use Rattle.js_words.proofs.KindsOfLexemes.{hashbang_is}
 use Rattle.js_lex.proofs.TriviaLemmas.{some_width}
-use Rattle.js_parsing_laws.specs.Lexemes.{Faultless, read_kinds}
+use Rattle.js_parsing_laws.specs.Lexemes.{Faultless, Lex, read_kinds}
 use Rattle.js_statement_laws.specs.StatementLists.{with_directives}
 use Rattle.js_statement_laws.specs.declared.forms.StatementList.TheVariants.{Text}
 use Rattle.js_parsing_laws.proofs.Kept.{faults_aside}
 use Rattle.js_parser.specs.Kept.{each_of, each_read, comments_before, blanks_before, TellsEach, TellsRead}
-use Rattle.js_parser.specs.Readings.{AreRead, from_text_start, behind_a_hashbang}
+use Rattle.js_parser.specs.Readings.{AreRead, AreReadAnyhow, from_text_start, behind_a_hashbang, anyhow_from_start, anyhow_behind_hashbang}
 use Rattle.js_parser.proofs.Hashbangs.{program_label, behind_comment, behind_hashbang, without_hashbang, from_hashbang, from_start, alone}
 
 -- a hashbang comment stands at the text's start
@@ -104,3 +104,34 @@ behind_a_comment {text} {source} {f} {y} h = record {
         let same : b.comment ≡ y = lex-same b.stands.lex h.lex (b.stands.of_goal ∙ sym h.of_goal) in
         let p = behind_hashbang (sym (kind_of_hashbang b.stands)) (subst (λ (ms : Lexemes). Derives rule (at Program f) t 0 ms place (last final)) b.is d) in
         subst (λ (c : Lexeme). Parts text source f c.to (behind_comment c) (λ ms. next c ms) t ls (behind_a_hashbang b) place final) same (record { slots = p.slots; others = b.others; lexed = b.lexed; derived = p.rest; lexemes = b.is; is = p.is; comments = refl; blanks = refl; tokens = λ ts k. k })
+
+-- ---- lexemes that may have faults
+
+unread_anyhow : {text : List ℕ} {s : ℕ} {y : Lexeme} → Lex text s y → HashbangComment ≡ y.kind → ⊥
+unread_anyhow {y = y} l k = false≢true (subst (λ (v : Kind). one_of_kinds read_kinds v ≡ true) (sym k) l.1)
+
+-- what a list derives from the place s
+pub record LooseParts (text : List ℕ) (f : Flags) (s : ℕ) (place : ℕ) (final : Lexeme) : Type 0 where
+  pub slots : Slots
+  pub others : Lexemes
+  pub lexed : Lexes (Lex text) s others
+  pub derived : Takes rule (with_directives Text f) end slots s others end place (last final)
+
+-- What Program derives over lexemes that are read is what a list derives from the place s, whichever faults pass.
+abbrev pub LooseFront : List ℕ → Flags → ℕ → Type 0
+LooseFront text f s = (t : Tree) (ls : Lexemes) (l : AreReadAnyhow text ls) (place : ℕ) (final : Lexeme) → Derives rule (at Program f) t 0 ls place (last final) → LooseParts text f s place final
+
+-- at the start
+pub loosely_at_start : {text : List ℕ} → (HasHashbang text → ⊥) → (f : Flags) → LooseFront text f 0
+loosely_at_start {text} n f t ls (anyhow_from_start l) place final d = let p = without_hashbang (unread_anyhow (here_at (Lex text) ls l)) d in record { slots = p.slots; others = ls; lexed = l; derived = p.rest }
+loosely_at_start n f t ls (anyhow_behind_hashbang y others b e l) place final d = absurd (n (y, b))
+
+-- behind a hashbang comment
+pub loosely_behind : {text : List ℕ} {y : Lexeme} → LexemeBehind hashbang text 0 y → (f : Flags) → LooseFront text f y.to
+loosely_behind {text} h f t ls (anyhow_from_start l) place final d =
+    let z = here_at (Lex text) ls l in
+    absurd (unread_anyhow z (sym (kind_of_hashbang h) ∙ ap (λ (v : Lexeme). v.kind) (alone h.lex h.of_goal z.0)))
+loosely_behind {text} {y} h f t ls (anyhow_behind_hashbang c others b e l) place final d =
+    let same : c ≡ y = lex-same b.lex h.lex (b.of_goal ∙ sym h.of_goal) in
+    let p = behind_hashbang (sym (kind_of_hashbang b)) (subst (λ (ms : Lexemes). Derives rule (at Program f) t 0 ms place (last final)) e d) in
+    subst (λ (v : Lexeme). LooseParts text f v.to place final) same (record { slots = p.slots; others = others; lexed = l; derived = p.rest })

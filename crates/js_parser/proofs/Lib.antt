@@ -15,3 +15,4 @@ pub mod EarlyMarks
 pub mod Leftovers
 pub mod BuiltTrees
 pub mod Validity
+pub mod SameSource

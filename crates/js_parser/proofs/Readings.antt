@@ -32,6 +32,7 @@ use Rattle.js_cursor.specs.declared.stop.Stop.{Stop}
 use Rattle.js_cursor.specs.declared.stop.Stop.TheVariants.{Fatal, NoMemory}
 use Rattle.js_parsing_laws.specs.Answers.{Stretch, Verdict, clean, unclean, wider}
 use Rattle.js_parsing_laws.specs.Lexemes.{IsRight, Lex, goal_for, is_read, other_goals, signs}
+use Rattle.js_parsing_laws.specs.Heads.{widened}
 use Rattle.js_parsing_laws.specs.NodeTexts.{NodeFits}
 use Rattle.js_parsing_laws.specs.States.{At, IsPlain, whole, sign, nothing as no_lexeme, flags_of, Standing, NodesLie, SpansLie}
 use Rattle.js_statement_laws.specs.StatementLists.{at_end, with_directives, statements, NoList, Taken, AllTaken, AllRefused}
@@ -59,11 +60,11 @@ use Rattle.js_lex.specs.Kept.{IsEmpty}
 use Rattle.js_words.specs.Scans.{NoLexeme}
 use Rattle.js_lex.specs.States.{State}
 use Rattle.js_parser.proofs.Hashbangs.{hashbang_label, program_label, behind_comment, alone}
-use Rattle.js_parser.proofs.Fronts.{Front, Parts, kind_of_hashbang, none_begins, at_the_start, behind_a_comment}
+use Rattle.js_parser.proofs.Fronts.{Front, LooseFront, Parts, kind_of_hashbang, none_begins, at_the_start, behind_a_comment, loosely_at_start, loosely_behind}
 use Rattle.js_parsing_laws.proofs.MadeNodes.{leaf_held, one_lies_in}
 use Rattle.js_parsing_laws.proofs.Moving.{standing, beside_nodes}
 use Rattle.js_parser.specs.Parsed.{options_of, IsAnswer}
-use Rattle.js_parser.specs.Readings.{parameters, ReadingBy, IsOnlyReadingBy, HasNoReadingBy}
+use Rattle.js_parser.specs.Readings.{parameters, LooseReading, ReadingBy, IsOnlyReadingBy, HasNoReadingBy, HasNoLooseReading}
 use Rattle.js_parser.specs.Taken.{FoundNothing, ReadOrNot, ProgramTaken, ProgramStops}
 use Rattle.js_parser.proofs.Lists.{first_empty, second_empty}
 use Rattle.js_base.specs.declared.source_type.Goal.TheVariants as source
@@ -396,11 +397,16 @@ module _ {old new : State} {t : Token} (g : GivesNext division old new t) (z : I
       (subst (λ (n : ℕ). TriviaKept text n comments blanks) place
       (subst (λ (v : List ℕ). TriviaKept v old.place comments blanks) reads (trivia_kept g))))
 
+-- where a production may be read, it may be read in wider forms
+in_wider_forms : {text : List ℕ} {f : Flags} {p : Parser} → At text f p → At text (widened true f) p
+in_wider_forms a = record { text_is = a.text_is; flags_are = ap (widened true) a.flags_are; at = a.at; plain = a.plain; behind = a.behind; heads = a.heads; kept_last = a.kept_last }
+
 -- A parser stands where the list of directives and items begins, behind the text's front; nothing was found but in what stands before the current token.
 record Begun (text : List ℕ) (f : Flags) (source : SourceType) (o : ParseOptions) (s : ℕ) (front : Slots → Slots) (put : Lexemes → Lexemes) (v : Parser) : Type 0 where
   stands : At text f v
   parameters_are : f ≡ covering (goal_of source) (options_of o)
   opens : Front text (goal_of source) f s front put
+  loosely : (g : Flags) → LooseFront text g s
   read_as : v.source_type ≡ source
   place : v.prev_token_end ≡ s
   faults : KeptFor (goal_of source) text s v.lexer.kept.errors
@@ -412,6 +418,14 @@ record Begun (text : List ℕ) (f : Flags) (source : SourceType) (o : ParseOptio
 module _ {text : List ℕ} {f : Flags} {source : SourceType} {o : ParseOptions} {s : ℕ} {front : Slots → Slots} {put : Lexemes → Lexemes} {v : Parser} (b : Begun text f source o s front put v) where
   none : NoList text Text (with_directives Text f) v.prev_token_end → HasNoReadingBy true text (goal_of source) (options_of o)
   none n = none_at_all b.parameters_are b.opens (subst (λ (i : ℕ). NoList text Text (with_directives Text f) i) b.place n)
+
+  -- nor in the widest form
+  no_loose_reading : NoList text Text (with_directives Text (widened true f)) v.prev_token_end → HasNoLooseReading text (goal_of source) (options_of o)
+  no_loose_reading n t r =
+      let same : widened true f ≡ widened true (covering (goal_of source) (options_of o)) = ap (widened true) b.parameters_are in
+      let p = b.loosely (widened true f) t r.lexemes r.lexed r.place r.final (subst (λ (g : Flags). Derives rule (at Program g) t 0 r.lexemes r.place (last r.final)) (sym same) r.derived) in
+      let body : Body (Lex text) (widened true f) s p.slots p.others = record { lexed = p.lexed; place = r.place; final = r.final; is_end = r.is_end; derived = p.derived } in
+      no_list (subst (λ (i : ℕ). NoList text Text (with_directives Text (widened true f)) i) b.place n) body
 
   -- a text isn't read in wider forms
   narrow : f.wide ≡ true → ⊥
@@ -467,6 +481,7 @@ module _ {text : List ℕ} {f : Flags} {source : SourceType} {o : ParseOptions} 
     lies = subst (λ (w : List ℕ). NodesLie w q.nodes) (r.follows.text ∙ b.stands.text_is) (r.lies b.lies);
     some = grown_some r.grown;
     none = none (r.none nothing_unbuilt);
+    none_loosely = no_loose_reading ((h text (widened true f) (in_wider_forms b.stands)).none nothing_unbuilt);
   }
   stops_so q NoMemory h = tt
 
@@ -494,6 +509,7 @@ module _ {b : Bool} {p : Parser} (s : Starts p.text p.source_type p.options b p)
       stands = begins s n;
       parameters_are = at_start s;
       opens = at_the_start (none_begins first_next.0);
+      loosely = loosely_at_start (none_begins first_next.0);
       read_as = refl;
       place = s.prev_token_end;
       faults = faults_first g s.kept_none s.reads s.reads_for s.at_start;
@@ -550,6 +566,7 @@ module _ {b : Bool} {p : Parser} (s : Starts p.text p.source_type p.options b p)
       stands = subst (λ (g : Flags). At p.text g v) flags_still (subst (λ (t : List ℕ). At t (flags_of v) v) text_still hashbang_stands);
       parameters_are = at_start s;
       opens = behind_a_comment comment_stands;
+      loosely = loosely_behind comment_stands;
       read_as = ap (λ (r : Parser). r.source_type) n.stays ∙ d.stays.source_type;
       place = ap (λ (r : Parser). r.prev_token_end) n.stays ∙ d.moved;
       faults = subst (λ (r : Parser). KeptFor (goal p) p.text d.lexeme.to r.lexer.kept.errors) (sym n.stays) (faults_first d.next kept_nothing s.at.reads s.at.reads_for ends_there);

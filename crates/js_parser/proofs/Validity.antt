@@ -75,7 +75,7 @@ at_goal p {y = y} b =
 -- ---- lexemes
 
 module _ (text : List ℕ) (goal : Goal) where
-  all_plain : (ls : Lexemes) → AreRead text goal ls → Lexes (Lex (passing_of goal) text) 0 ls
+  pub all_plain : (ls : Lexemes) → AreRead text goal ls → Lexes (Lex (passing_of goal) text) 0 ls
   all_plain ls (from_text_start l) = plainly text goal 0 ls l
   all_plain ls (behind_a_hashbang b) = subst (λ (ms : Lexemes). Lexes (Lex (passing_of goal) text) 0 ms) (sym b.is) (at_goal (passing_of goal) b.stands, plainly text goal b.comment.to b.others b.lexed)
 

@@ -10,3 +10,4 @@ pub mod CoreAnswers
 pub mod Leftover
 pub mod FaultsTold
 pub mod Language
+pub mod SameSource

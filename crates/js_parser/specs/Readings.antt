@@ -18,7 +18,8 @@ use Rattle.js_grammar.specs.Settings.{Goal, script, unambiguous}
 use Rattle.js_grammar.specs.Table.{rule}
 use Rattle.js_lex.specs.Reading.{LexemeBehind}
 use Rattle.js_cursor.specs.Places.{IsFault}
-use Rattle.js_parsing_laws.specs.Lexemes.{Faultless}
+use Rattle.js_parsing_laws.specs.Heads.{widened}
+use Rattle.js_parsing_laws.specs.Lexemes.{Faultless, Lex}
 use Rattle.js_parser.specs.EarlyErrors.{MeetsEarlyRules}
 
 -- The goal at which a text is read: an unambiguous one as a script, since what shows a module isn't read yet.
@@ -62,6 +63,23 @@ pub record ReadingBy (cover : Bool) (text : List ℕ) (goal : Goal) (o : Options
   pub final : Lexeme
   pub is_end : final.kind ≡ Eof
   pub derived : Derives rule (at Program (with_cover cover (parameters goal o))) t 0 lexemes place (last final)
+
+-- The same of lexemes that may have a fault which passes: a wrong flag of a regular expression (12.9.5) or, in a module, an HTML-like comment (B.1.1).
+pub data AreReadAnyhow (text : List ℕ) (ls : Lexemes) : Type 0 where
+  anyhow_from_start : Lexes (Lex text) 0 ls → AreReadAnyhow text ls
+  anyhow_behind_hashbang : (comment : Lexeme) (others : Lexemes) → LexemeBehind hashbang text 0 comment → ls ≡ next comment others → Lexes (Lex text) comment.to others → AreReadAnyhow text ls
+
+-- Program derives the tree from such lexemes in the widest form in which a text is read on: by the cover grammar, with `new.target` everywhere, and with what the grammar's `wide` lets in beside (a comma or an initialiser behind a rest, another operator than `=` before the initialiser of a target, a literal as the rest of an object's target).
+pub record LooseReading (text : List ℕ) (goal : Goal) (o : Options) (t : Tree) : Type 0 where
+  pub lexemes : Lexemes
+  pub lexed : AreReadAnyhow text lexemes
+  pub place : ℕ
+  pub final : Lexeme
+  pub is_end : final.kind ≡ Eof
+  pub derived : Derives rule (at Program (widened true (with_cover true (parameters goal o)))) t 0 lexemes place (last final)
+
+abbrev pub HasNoLooseReading : List ℕ → Goal → Options → Type 0
+HasNoLooseReading text goal o = (t : Tree) → LooseReading text goal o t → ⊥
 
 -- A tree that is derived strictly, and meets the early rules.
 pub record Reading (text : List ℕ) (goal : Goal) (o : Options) (t : Tree) : Type 0 where

@@ -11,7 +11,7 @@ use Rattle.js_cursor.specs.Places.{IsAt}
 use Rattle.js_cursor.specs.declared.stop.Stop.{Stop}
 use Rattle.js_cursor.specs.declared.stop.Stop.TheVariants.{Fatal, NoMemory}
 use Rattle.js_parser.specs.Kept.{IsKeptOf}
-use Rattle.js_parser.specs.Readings.{ReadingBy, HasNoReadingBy, IsOnlyReadingBy}
+use Rattle.js_parser.specs.Readings.{ReadingBy, HasNoReadingBy, HasNoLooseReading, IsOnlyReadingBy}
 use Rattle.js_parser.specs.Parsed.{options_of}
 use Rattle.std.specs.List.{All}
 use Rattle.js_parsing_laws.specs.Classes.{IsEarly, EndedByLast}
@@ -46,13 +46,14 @@ pub record ProgramTaken (text : List ℕ) (s : SourceType) (o : ParseOptions) (a
   pub early : All IsEarly p.errors
   pub lies : NodesLie text p.nodes
 
--- A fatal diagnostic ended the parse, the last one. The program has no reading.
+-- A fatal diagnostic ended the parse, the last one. The program has no reading, not even in the widest form.
 pub record ProgramRefused (text : List ℕ) (s : SourceType) (o : ParseOptions) (p : Parser) : Type 0 where
   pub is_of : IsOf text s p
   pub stopped : EndedByLast p.errors
   pub lies : NodesLie text p.nodes
   pub some : p.errors ≡ [] → ⊥
   pub none : HasNoReadingBy true text (goal_of s) (options_of o)
+  pub none_loosely : HasNoLooseReading text (goal_of s) (options_of o)
 
 abbrev pub ProgramStops : List ℕ → SourceType → ParseOptions → Parser → Stop → Type 0
 ProgramStops text s o p Fatal = ProgramRefused text s o p

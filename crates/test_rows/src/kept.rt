@@ -4,19 +4,38 @@ ghost use Rattle.std.specs.Prelude.{IsTrue, ◌<◌, length};
 ghost use Rattle.js_base.specs.Spans.{LiesIn};
 
 use crate::answer::Answer;
-use js_base::{SourceType, Span};
+use js_base::{ParseOptions, SourceType, Span};
 use js_lex::RuntimeParserConfig;
 use js_parser::{Parser, ParserReturn};
 use js_tree::{NodeId, NodeKind, Tree};
 use std::alloc::Global;
 
-/// Puts what is asked of a text that is read as a script. The tokens are kept for all but `parse`.
-pub(crate) fn put_parsed(alloc: Global, out: &mut Answer, asked: &str, text: &str) {
+/// Puts what is asked of a text. The words behind it say how the text is read: as a script, where they name no other goal. The
+/// tokens are kept for all but `parse`.
+pub(crate) fn put_parsed(alloc: Global, out: &mut Answer, asked: &str, words: &str, text: &str) {
     let config = RuntimeParserConfig::new(asked != "parse");
-    let parser = Parser::new(alloc, text, SourceType::script());
+    let parser = Parser::new(alloc, text, goal_of(words)).with_options(options_of(words));
     match parser.with_config(config).parse() {
         Ok(parsed) => put_part(alloc, out, asked, text, &parsed),
         Err(_) => out.fail(),
+    }
+}
+
+/// The goal that words name.
+fn goal_of(words: &str) -> SourceType {
+    match words {
+        "module" => SourceType::module(),
+        "commonjs" => SourceType::commonjs(),
+        _ => SourceType::script(),
+    }
+}
+
+/// The options that they name: calls of V8's runtime, by the word `v8` behind a goal.
+fn options_of(words: &str) -> ParseOptions {
+    ParseOptions {
+        allow_return_outside_function: false,
+        preserve_parens: true,
+        allow_v8_intrinsics: words.ends_with(" v8"),
     }
 }
 
@@ -26,7 +45,15 @@ fn put_part(alloc: Global, out: &mut Answer, asked: &str, text: &str, parsed: &P
         "tokens" => put_tokens(out, parsed),
         "trivia" => put_trivia(out, parsed),
         "names" => put_names(out, &mut Vec::new(alloc), &parsed.program.tree, text),
+        "fatal" => put_ending(out, parsed),
         _ => put_counts(out, parsed),
+    }
+}
+
+/// Puts whether a fatal diagnostic ended the parse.
+fn put_ending(out: &mut Answer, parsed: &ParserReturn) {
+    if parsed.fatal_error {
+        out.put("fatal\n");
     }
 }
 

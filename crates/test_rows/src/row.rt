@@ -60,9 +60,12 @@ pub(crate) fn put_answer(alloc: Global, out: &mut Answer, asked: &str, text: &st
     if let Some((reader, words)) = asked.split_once(" ¦ ") {
         return put_lexed(alloc, out, reader, words, text);
     }
-    match asked {
+    let (word, words) = asked.split_once(' ').unwrap_or((asked, ""));
+    match word {
         "lex" => put_pass(alloc, out, text),
-        "parse" | "tokens" | "trivia" | "names" | "counts" => put_parsed(alloc, out, asked, text),
+        "parse" | "tokens" | "trivia" | "names" | "counts" | "fatal" => {
+            put_parsed(alloc, out, word, words, text)
+        }
         _ => put_called(alloc, out, asked, text),
     }
 }
