@@ -289,6 +289,7 @@ fn parse_head_at_parenthesis<C: ParserConfig, N: Patterns<C>>(
 }
 
 /// FormalParameters in parentheses and `=>` behind them, where nothing else can stand: what stops them is final.
+/// Reads: LooseHead.
 #[inline(never)]
 fn parse_certain_head<C: ParserConfig, N: Patterns<C>>(
     p: &mut ParserImpl<'_, C>,
@@ -310,6 +311,7 @@ fn parse_certain_head<C: ParserConfig, N: Patterns<C>>(
 
 /// FormalParameters in parentheses, behind `async` or not, where `=>` stands behind them and no operand stands: an attempt.
 /// Where something was told of them that no operand stands is noted, so that it isn't looked up again when they are.
+/// Reads: LooseHead.
 #[inline(never)]
 fn attempt_head<C: ParserConfig, N: Patterns<C>>(
     p: &mut ParserImpl<'_, C>,
@@ -525,6 +527,7 @@ fn parse_parenthesized_head<C: ParserConfig, N: Patterns<C>>(
 
 /// An arrow function, whose head was read from a place on (ECMA-262, sections 15.3 and 15.9), or parentheses in its place,
 /// of which something was told.
+/// Reads: Arrow'.
 #[inline(never)]
 pub fn parse_arrow_function_expression<C: ParserConfig, N: Nested<C>>(
     p: &mut ParserImpl<'_, C>,

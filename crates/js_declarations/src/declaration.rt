@@ -58,6 +58,7 @@ fn parse_declarator_and_comma<C: ParserConfig, N: Patterns<C>>(
 }
 
 /// A VariableDeclaration (ECMA-262, section 14.3.2) or a LexicalBinding (14.3.1): what is bound, and an initialiser or none.
+/// Reads: Init.
 fn parse_variable_declarator<C: ParserConfig, N: Patterns<C>>(
     p: &mut ParserImpl<'_, C>,
     nested: &N,

@@ -37,6 +37,7 @@ use js_targets::cover::{cover, is_array_or_object, refuse_target, tell_not_simpl
 use js_tree::{NodeId, NodeKind, Op};
 
 /// An AssignmentExpression (ECMA-262, section 13.15).
+/// Reads: Assignment.
 pub fn parse_assignment_expression<C: ParserConfig, N: Patterns<C>>(
     p: &mut ParserImpl<'_, C>,
     nested: &N,
@@ -188,6 +189,7 @@ fn parse_destructuring_assignment<C: ParserConfig, N: Nested<C>>(
 
 /// The branches of a conditional expression behind its test, which begins at a place, or the test alone (ECMA-262,
 /// section 13.14).
+/// Reads: Conditional.
 #[inline(never)]
 fn parse_conditional_expression_rest<C: ParserConfig, N: Nested<C>>(
     p: &mut ParserImpl<'_, C>,

@@ -38,6 +38,7 @@ use js_tree::{NodeId, NodeKind, Op, ParserAstBuilder};
 
 /// A ShortCircuitExpression (ECMA-262, section 13.13): operands, and `??` between them, grouped to the left. An operand
 /// beside `??` that is an `||` or `&&` expression without parentheses is told, and reading goes on.
+/// Reads: Short, Coalesce.
 pub fn parse_binary_expression_or_higher<C: ParserConfig, N: Nested<C>>(
     p: &mut ParserImpl<'_, C>,
     nested: &N,
@@ -144,6 +145,7 @@ fn make_coalesce<C: ParserConfig>(
 
 /// Operands, and operators between them that bind at least as tight as `least`, grouped to the left (ECMA-262, sections
 /// 13.6 to 13.13).
+/// Reads: Or, And, BitOr, BitXor, BitAnd, Equality, Relational, Shift, Additive, Multiply.
 pub fn parse_operators<C: ParserConfig, N: Nested<C>>(
     p: &mut ParserImpl<'_, C>,
     nested: &N,
@@ -172,6 +174,7 @@ pub fn parse_operators<C: ParserConfig, N: Nested<C>>(
 
 /// An ExponentiationExpression (ECMA-262, section 13.6), which groups to the right. Its left operand is an
 /// UpdateExpression: an operator before it is told, and reading goes on.
+/// Reads: Exponent.
 #[inline(always)]
 pub fn parse_exponentiation_expression<C: ParserConfig, N: Nested<C>>(
     p: &mut ParserImpl<'_, C>,

@@ -18,6 +18,7 @@ use js_pattern_laws::patterns::Patterns;
 use js_tree::{NodeId, NodeKind, Op};
 
 /// An Expression (ECMA-262, section 13.16).
+/// Reads: Expression.
 pub fn parse_sequence_expression<C: ParserConfig, N: Patterns<C>>(
     p: &mut ParserImpl<'_, C>,
     nested: &N,

@@ -19,6 +19,7 @@ use js_parsing_laws::nested::Nested;
 use js_tree::{NodeId, NodeKind, Op};
 
 /// A UnaryExpression (ECMA-262, section 13.5): an operator or `await` and what it stands before, or an UpdateExpression.
+/// Reads: Unary.
 #[inline(always)]
 pub fn parse_unary_expression_or_higher<C: ParserConfig, N: Nested<C>>(
     p: &mut ParserImpl<'_, C>,

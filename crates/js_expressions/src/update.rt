@@ -24,6 +24,7 @@ use js_targets::cover::{cover, refuse_target};
 use js_tree::{NodeFlags, NodeId, NodeKind, Op};
 
 /// An UpdateExpression (ECMA-262, section 13.4).
+/// Reads: Update.
 pub fn parse_update_expression<C: ParserConfig, N: Nested<C>>(
     p: &mut ParserImpl<'_, C>,
     nested: &N,

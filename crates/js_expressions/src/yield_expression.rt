@@ -31,6 +31,7 @@ pub(crate) fn begins_yield<C: ParserConfig>(p: &ParserImpl<'_, C>) -> bool
 }
 
 /// A YieldExpression: `yield` alone, or with an AssignmentExpression on its line, before which a `*` may stand.
+/// Reads: Yield.
 #[inline(never)]
 pub(crate) fn parse_yield_expression<C: ParserConfig, N: Nested<C>>(
     p: &mut ParserImpl<'_, C>,

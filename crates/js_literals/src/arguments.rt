@@ -65,6 +65,7 @@ fn argument_due<C: ParserConfig>(
 }
 
 /// An argument, or an element of an array literal: an AssignmentExpression under In, spread or not.
+/// Reads: Argument.
 pub fn parse_argument<C: ParserConfig, N: Nested<C>>(
     p: &mut ParserImpl<'_, C>,
     nested: &N,

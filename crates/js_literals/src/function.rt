@@ -54,6 +54,7 @@ fn is_function_behind<C: ParserConfig>(p: &mut ParserImpl<'_, C>) -> Result<bool
 }
 
 /// A FunctionExpression or its kin (ECMA-262, sections 15.2, 15.5, 15.6 and 15.8).
+/// Reads: FuncExpr.
 #[inline(never)]
 pub fn parse_function_expression<C: ParserConfig, N: Nested<C>>(
     p: &mut ParserImpl<'_, C>,

@@ -21,6 +21,7 @@ use js_parsing::nodes::{make_leaf, make_name, make_string};
 use js_tree::{BigintBase, NodeId, NodeKind, NumberBase, Op};
 
 /// An IdentifierName: a name or a word, with escapes or without (ECMA-262, section 12.7).
+/// Reads: IdentifierName.
 pub fn parse_identifier_name<C: ParserConfig>(p: &mut ParserImpl<'_, C>) -> Result<NodeId, Stop>
     requires { Standing p.old }
     ensures { Answers (at IdentifierName) p.old p.new result }

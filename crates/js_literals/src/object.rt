@@ -34,6 +34,7 @@ use js_parsing_laws::nested::{MethodForm, Nested};
 use js_tree::{NodeFlags, NodeId, NodeKind, Op, PropertyKind};
 
 /// An ObjectLiteral (ECMA-262, section 13.2.5).
+/// Reads: Object.
 #[inline(never)]
 pub fn parse_object_expression<C: ParserConfig, N: Nested<C>>(
     p: &mut ParserImpl<'_, C>,
@@ -90,6 +91,7 @@ fn parse_listed_property<C: ParserConfig, N: Nested<C>>(
 }
 
 /// A PropertyDefinition (ECMA-262, section 13.2.5).
+/// Reads: Property.
 fn parse_property<C: ParserConfig, N: Nested<C>>(
     p: &mut ParserImpl<'_, C>,
     nested: &N,

@@ -91,6 +91,7 @@ pub fn parse_chained_template<C: ParserConfig, N: Nested<C>>(
 }
 
 /// A TemplateLiteral (ECMA-262, section 13.2.8): its parts, and an Expression behind each but the last.
+/// Reads: Template.
 fn parse_template_literal<C: ParserConfig, N: Nested<C>>(
     p: &mut ParserImpl<'_, C>,
     nested: &N,

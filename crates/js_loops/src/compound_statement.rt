@@ -37,6 +37,7 @@ pub fn parse_paren_expression<C: ParserConfig, N: Nested<C>>(
 }
 
 /// An IfStatement (ECMA-262, section 14.6). An `else` belongs to the nearest `if` that may have one.
+/// Reads: If.
 #[inline(never)]
 pub fn parse_if_statement<C: ParserConfig, N: Nested<C>>(
     p: &mut ParserImpl<'_, C>,
@@ -79,6 +80,7 @@ fn parse_alternate<C: ParserConfig, N: Nested<C>>(
 }
 
 /// A WhileStatement (ECMA-262, section 14.7.3).
+/// Reads: While.
 pub fn parse_while_statement<C: ParserConfig, N: Nested<C>>(
     p: &mut ParserImpl<'_, C>,
     nested: &N,
@@ -93,6 +95,7 @@ pub fn parse_while_statement<C: ParserConfig, N: Nested<C>>(
 }
 
 /// A WithStatement (ECMA-262, section 14.11).
+/// Reads: With.
 pub fn parse_with_statement<C: ParserConfig, N: Nested<C>>(
     p: &mut ParserImpl<'_, C>,
     nested: &N,
@@ -130,6 +133,7 @@ fn parse_headed_statement<C: ParserConfig, N: Nested<C>>(
 }
 
 /// A DoWhileStatement (ECMA-262, section 14.7.2). Its semicolon may be left out before any lexeme (12.10).
+/// Reads: Do.
 #[inline(never)]
 pub fn parse_do_while_statement<C: ParserConfig, N: Nested<C>>(
     p: &mut ParserImpl<'_, C>,

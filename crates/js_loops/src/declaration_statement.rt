@@ -25,6 +25,7 @@ use js_pattern_laws::patterns::Patterns;
 use js_tree::{DeclarationKind, NodeId, NodeKind, Op};
 
 /// A VariableStatement (ECMA-262, section 14.3.2).
+/// Reads: Var.
 pub fn parse_variable_statement<C: ParserConfig, N: Patterns<C>>(
     p: &mut ParserImpl<'_, C>,
     nested: &N,
@@ -39,6 +40,7 @@ pub fn parse_variable_statement<C: ParserConfig, N: Patterns<C>>(
 }
 
 /// A LexicalDeclaration in a list of statements (ECMA-262, section 14.3.1).
+/// Reads: Lexical.
 pub fn parse_lexical_declaration<C: ParserConfig, N: Patterns<C>>(
     p: &mut ParserImpl<'_, C>,
     nested: &N,

@@ -33,6 +33,7 @@ use js_targets::cover::{cover, is_array_or_object, refuse_target};
 use js_tree::{DeclarationKind, NodeId, NodeKind, Op};
 
 /// The first part of the head of a `for`, with `await` before it or without: a declaration or an expression.
+/// Reads: ForInit.
 pub fn parse_part_without_in<C: ParserConfig, N: Sequences<C>>(
     p: &mut ParserImpl<'_, C>,
     nested: &N,

@@ -34,6 +34,7 @@ use js_tree::{NodeFlags, NodeId, NodeKind, Op};
 /// A ForStatement, or a ForInOfStatement with `in` or `of` (ECMA-262, sections 14.7.4 and 14.7.5). Which of them it is, is known
 /// behind the first part of its head. `await` behind the word stands in one with `of` alone: another head is told, and
 /// reading goes on.
+/// Reads: For, ForIn, ForOf.
 #[inline(never)]
 pub fn parse_for_statement<C: ParserConfig, N: Sequences<C>>(
     p: &mut ParserImpl<'_, C>,

@@ -38,6 +38,7 @@ use js_parsing_laws::nested::Nested;
 use js_tree::{NodeFlags, NodeId, NodeKind, Op};
 
 /// A LeftHandSideExpression (ECMA-262, section 13.3).
+/// Reads: LeftHandSide.
 pub fn parse_lhs_expression_or_higher<C: ParserConfig, N: Nested<C>>(
     p: &mut ParserImpl<'_, C>,
     nested: &N,
@@ -53,6 +54,7 @@ pub fn parse_lhs_expression_or_higher<C: ParserConfig, N: Nested<C>>(
 }
 
 /// A MemberExpression, or a NewExpression that is none.
+/// Reads: Member, New.
 fn parse_member_expression_or_higher<C: ParserConfig, N: Nested<C>>(
     p: &mut ParserImpl<'_, C>,
     nested: &N,
@@ -130,6 +132,7 @@ pub(crate) fn parse_member_expression_rest<C: ParserConfig, N: Nested<C>>(
 }
 
 /// The calls behind a member, where one stands, and the names, expressions in brackets and templates behind them.
+/// Reads: Call.
 fn parse_call_expression_rest<C: ParserConfig, N: Nested<C>>(
     p: &mut ParserImpl<'_, C>,
     nested: &N,
@@ -156,6 +159,7 @@ fn parse_call_expression_rest<C: ParserConfig, N: Nested<C>>(
 }
 
 /// The optional chain behind a callee, where one stands.
+/// Reads: Chain.
 fn parse_optional_chain<C: ParserConfig, N: Nested<C>>(
     p: &mut ParserImpl<'_, C>,
     nested: &N,
@@ -213,6 +217,7 @@ fn goes_on<C: ParserConfig>(p: &ParserImpl<'_, C>, base: LinkBase) -> bool
 
 /// The link of an optional chain that stands here, behind what was read; or a template, of which is told that it stands
 /// there (ECMA-262, section 13.3.1.1).
+/// Reads: Links.
 #[inline(never)]
 fn parse_chain_link<C: ParserConfig, N: Nested<C>>(
     p: &mut ParserImpl<'_, C>,

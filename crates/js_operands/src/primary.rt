@@ -35,6 +35,7 @@ use js_tree::{NodeFlags, NodeId, NodeKind, Op, ParserAstBuilder};
 
 /// A PrimaryExpression (ECMA-262, section 13.2): a name, a literal, a regular expression, an array, an object literal, a function, parentheses or a
 /// call of V8.
+/// Reads: Primary.
 pub fn parse_primary_expression<C: ParserConfig, N: Nested<C>>(
     p: &mut ParserImpl<'_, C>,
     nested: &N,
@@ -70,6 +71,7 @@ pub fn parse_primary_expression<C: ParserConfig, N: Nested<C>>(
 
 /// A name; where it is `async` with `function` behind it on its line, an asynchronous function (ECMA-262, sections 15.6
 /// and 15.8).
+/// Reads: IdentifierReference.
 fn parse_name_or_function<C: ParserConfig, N: Nested<C>>(
     p: &mut ParserImpl<'_, C>,
     nested: &N,

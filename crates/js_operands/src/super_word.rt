@@ -45,6 +45,7 @@ pub(crate) fn parse_super_member<C: ParserConfig, N: Nested<C>>(
 }
 
 /// The word `super`. Where neither `.`, `[` nor `(` stands behind it, that is told, and reading goes on.
+/// Reads: Super.
 fn parse_super<C: ParserConfig>(p: &mut ParserImpl<'_, C>) -> Result<NodeId, Stop>
     requires at { Standing p.old }
     requires word { StandsHere p.old Super true }

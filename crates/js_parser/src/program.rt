@@ -16,6 +16,7 @@ use js_memory::NoMemory;
 use js_tree::{NodeFlags, NodeId, NodeKind, Op};
 
 /// The children of Program.
+/// Reads: Program.
 pub fn parse_program(p: &mut Parser<'_>) -> Result<Vec<Option<NodeId>>, Stop>
     requires { (b : Bool) × Starts p.old.text p.old.source_type p.old.options b p.old }
     ensures { MatchResult result (λ v. ProgramTaken p.old.text p.old.source_type p.old.options p.old.lexer.keeps_tokens p.new v.items) (λ e. ProgramStops p.old.text p.old.source_type p.old.options p.new e) }

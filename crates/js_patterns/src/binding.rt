@@ -38,6 +38,7 @@ fn rest_initialiser_kind(place: RestPlace) -> DiagnosticKind
 }
 
 /// A BindingIdentifier or a BindingPattern (ECMA-262, section 14.3.3).
+/// Reads: Binding.
 pub fn parse_binding_pattern<C: ParserConfig, N: Nested<C>>(
     p: &mut ParserImpl<'_, C>,
     nested: &N,
@@ -75,6 +76,7 @@ pub fn parse_nested_binding<C: ParserConfig, N: Nested<C>>(
 }
 
 /// A BindingIdentifier (ECMA-262, section 13.1), where no pattern begins.
+/// Reads: BindingIdentifier.
 fn parse_binding_identifier<C: ParserConfig>(p: &mut ParserImpl<'_, C>) -> Result<NodeId, Stop>
     requires at { Standing p.old }
     requires no_array { StandsHere p.old LBrack false }
@@ -89,6 +91,7 @@ fn parse_binding_identifier<C: ParserConfig>(p: &mut ParserImpl<'_, C>) -> Resul
 }
 
 /// An ArrayBindingPattern (ECMA-262, section 14.3.3).
+/// Reads: Pattern.
 fn parse_array_pattern<C: ParserConfig, N: Nested<C>>(
     p: &mut ParserImpl<'_, C>,
     nested: &N,
@@ -179,6 +182,7 @@ fn parse_element_and_comma<C: ParserConfig, N: Nested<C>>(
 }
 
 /// A BindingElement (ECMA-262, section 14.3.3): what is bound, and an initialiser or none.
+/// Reads: BElement.
 pub fn parse_binding_element<C: ParserConfig, N: Nested<C>>(
     p: &mut ParserImpl<'_, C>,
     nested: &N,
@@ -221,6 +225,7 @@ fn parse_last_element<C: ParserConfig, N: Nested<C>>(
 }
 
 /// A BindingRestElement (ECMA-262, section 14.3.3).
+/// Reads: BindingRest.
 pub fn parse_binding_rest<C: ParserConfig, N: Nested<C>>(
     p: &mut ParserImpl<'_, C>,
     nested: &N,

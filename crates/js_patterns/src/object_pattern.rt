@@ -35,6 +35,7 @@ use js_pattern_laws::forms::RestPlace;
 use js_tree::{NodeFlags, NodeId, NodeKind, Op};
 
 /// An ObjectBindingPattern (ECMA-262, section 14.3.3).
+/// Reads: Pattern.
 pub fn parse_object_pattern<C: ParserConfig, N: Nested<C>>(
     p: &mut ParserImpl<'_, C>,
     nested: &N,
@@ -110,6 +111,7 @@ fn parse_property_and_comma<C: ParserConfig, N: Nested<C>>(
 }
 
 /// A BindingProperty (ECMA-262, section 14.3.3): a name that is bound, or a name and what is bound by it.
+/// Reads: PatternProperty.
 fn parse_binding_property<C: ParserConfig, N: Nested<C>>(
     p: &mut ParserImpl<'_, C>,
     nested: &N,

@@ -25,6 +25,7 @@ use js_pattern_laws::forms::RestPlace;
 use js_tree::{NodeId, NodeKind, Op};
 
 /// FormalParameters in their parentheses (ECMA-262, section 15.1).
+/// Reads: Params.
 pub fn parse_formal_parameters<C: ParserConfig, N: Nested<C>>(
     p: &mut ParserImpl<'_, C>,
     nested: &N,
@@ -102,6 +103,7 @@ fn parse_parameter_and_comma<C: ParserConfig, N: Nested<C>>(
 }
 
 /// A FormalParameter: what it binds, and an initialiser or none.
+/// Reads: Param.
 pub fn parse_formal_parameter<C: ParserConfig, N: Nested<C>>(
     p: &mut ParserImpl<'_, C>,
     nested: &N,
@@ -146,6 +148,7 @@ fn parse_last_parameter<C: ParserConfig, N: Nested<C>>(
 }
 
 /// A FunctionRestParameter (ECMA-262, section 15.1).
+/// Reads: Rest.
 fn parse_rest_parameter<C: ParserConfig, N: Nested<C>>(
     p: &mut ParserImpl<'_, C>,
     nested: &N,

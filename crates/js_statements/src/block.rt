@@ -40,6 +40,7 @@ pub fn parse_block_statement<C: ParserConfig, N: Sequences<C>>(
 }
 
 /// A Block (ECMA-262, section 14.2). It takes no frame of its own, since statements nest in it.
+/// Reads: Block.
 #[inline(always)]
 pub fn parse_block<C: ParserConfig, N: Sequences<C>>(
     p: &mut ParserImpl<'_, C>,
@@ -58,6 +59,7 @@ pub fn parse_block<C: ParserConfig, N: Sequences<C>>(
 }
 
 /// A FunctionBody in its braces (ECMA-262, section 15.2).
+/// Reads: Body.
 pub fn parse_function_body<C: ParserConfig, N: Sequences<C>>(
     p: &mut ParserImpl<'_, C>,
     nested: &N,

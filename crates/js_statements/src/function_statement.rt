@@ -22,6 +22,7 @@ use js_parsing_laws::nested::Nested;
 use js_tree::{NodeId, NodeKind};
 
 /// A FunctionDeclaration or its kin in a list of statements (ECMA-262, sections 15.2, 15.5, 15.6 and 15.8).
+/// Reads: Function.
 #[inline(never)]
 pub fn parse_function_declaration<C: ParserConfig, N: Nested<C>>(
     p: &mut ParserImpl<'_, C>,

@@ -42,6 +42,7 @@ use js_statement_laws::sequences::Sequences;
 use js_tree::{NodeId, NodeKind, Op};
 
 /// A StatementListItem (ECMA-262, section 14.2): a Statement, a declaration of a function, or a LexicalDeclaration.
+/// Reads: ListItem.
 pub fn parse_statement_list_item<C: ParserConfig, N: Sequences<C>>(
     p: &mut ParserImpl<'_, C>,
     nested: &N,
@@ -61,6 +62,7 @@ pub fn parse_statement_list_item<C: ParserConfig, N: Sequences<C>>(
 }
 
 /// A Statement that is the body of another one (ECMA-262, chapter 14).
+/// Reads: Sub.
 pub fn parse_statement<C: ParserConfig, N: Sequences<C>>(
     p: &mut ParserImpl<'_, C>,
     nested: &N,
@@ -81,6 +83,7 @@ pub fn parse_statement<C: ParserConfig, N: Sequences<C>>(
 
 /// A Statement, wherever it stands, where no LexicalDeclaration and no function does: by the lexeme that it begins with; a
 /// LabelledStatement or an ExpressionStatement where that is none of a statement's own.
+/// Reads: Statement.
 fn parse_any_statement<C: ParserConfig, N: Sequences<C>>(
     p: &mut ParserImpl<'_, C>,
     nested: &N,
@@ -116,6 +119,7 @@ fn parse_any_statement<C: ParserConfig, N: Sequences<C>>(
 }
 
 /// An EmptyStatement (ECMA-262, section 14.4).
+/// Reads: Empty.
 fn parse_empty_statement<C: ParserConfig>(p: &mut ParserImpl<'_, C>) -> Result<NodeId, Stop>
     requires at { Standing p.old }
     requires here { p.old.token.kind ≡ Semicolon }
@@ -126,6 +130,7 @@ fn parse_empty_statement<C: ParserConfig>(p: &mut ParserImpl<'_, C>) -> Result<N
 
 /// An ExpressionStatement (ECMA-262, section 14.5): an expression and its semicolon, which may be left out where the
 /// grammar permits that (12.10). Where the expression is a name and a colon stands behind it, it is a label (14.13).
+/// Reads: ExprStmt.
 fn parse_expression_or_labeled_statement<C: ParserConfig, N: Sequences<C>>(
     p: &mut ParserImpl<'_, C>,
     nested: &N,
@@ -150,6 +155,7 @@ fn parse_expression_or_labeled_statement<C: ParserConfig, N: Sequences<C>>(
 }
 
 /// The rest of a LabelledStatement (ECMA-262, section 14.13), behind the name that is its label.
+/// Reads: Labeled.
 fn parse_labeled_statement_rest<C: ParserConfig, N: Nested<C>>(
     p: &mut ParserImpl<'_, C>,
     nested: &N,

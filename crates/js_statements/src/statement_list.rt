@@ -22,6 +22,7 @@ use js_tree::{NodeId, NodeKind, Op};
 
 /// The directives and the statements of a list, up to what ends it; or as far as the text's end, or to where a statement may
 /// begin and no lexeme stands.
+/// Reads: Item.
 pub fn parse_directives_and_statements<C: ParserConfig, N: Sequences<C>>(
     p: &mut ParserImpl<'_, C>,
     nested: &N,
@@ -75,6 +76,7 @@ fn parse_directives<C: ParserConfig, N: Sequences<C>>(
 }
 
 /// A statement that begins with a string: a Directive if that is all of it, and whether it is one.
+/// Reads: Directive.
 fn parse_opening<C: ParserConfig, N: Sequences<C>>(
     p: &mut ParserImpl<'_, C>,
     nested: &N,

@@ -27,6 +27,7 @@ use js_statement_laws::sequences::Sequences;
 use js_tree::{NodeId, NodeKind, Op};
 
 /// A SwitchStatement (ECMA-262, section 14.12).
+/// Reads: Switch.
 #[inline(never)]
 pub fn parse_switch_statement<C: ParserConfig, N: Sequences<C>>(
     p: &mut ParserImpl<'_, C>,
@@ -170,6 +171,7 @@ fn is_clause_due<C: ParserConfig>(p: &ParserImpl<'_, C>) -> bool
 }
 
 /// A CaseClause or a DefaultClause (ECMA-262, section 14.12).
+/// Reads: Case.
 #[inline(always)]
 fn parse_clause<C: ParserConfig, N: Sequences<C>>(
     p: &mut ParserImpl<'_, C>,

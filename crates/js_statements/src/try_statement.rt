@@ -29,6 +29,7 @@ use js_statement_laws::sequences::Sequences;
 use js_tree::{NodeId, NodeKind, Op};
 
 /// A TryStatement (ECMA-262, section 14.15).
+/// Reads: Try.
 #[inline(never)]
 pub fn parse_try_statement<C: ParserConfig, N: Sequences<C>>(
     p: &mut ParserImpl<'_, C>,
@@ -95,6 +96,7 @@ fn make_try<C: ParserConfig>(
 }
 
 /// A Catch (ECMA-262, section 14.15), where one stands here.
+/// Reads: Catch.
 fn parse_catch<C: ParserConfig, N: Sequences<C>>(
     p: &mut ParserImpl<'_, C>,
     nested: &N,

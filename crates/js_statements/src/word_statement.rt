@@ -26,6 +26,7 @@ use js_statement_laws::sequences::Sequences;
 use js_tree::{NodeId, NodeKind, Op};
 
 /// A DebuggerStatement (ECMA-262, section 14.16).
+/// Reads: Debugger.
 #[inline(never)]
 pub fn parse_debugger_statement<C: ParserConfig>(p: &mut ParserImpl<'_, C>) -> Result<NodeId, Stop>
     requires at { Standing p.old }
@@ -41,6 +42,7 @@ pub fn parse_debugger_statement<C: ParserConfig>(p: &mut ParserImpl<'_, C>) -> R
 }
 
 /// A BreakStatement (ECMA-262, section 14.9).
+/// Reads: Break.
 pub fn parse_break_statement<C: ParserConfig>(p: &mut ParserImpl<'_, C>) -> Result<NodeId, Stop>
     requires at { Standing p.old }
     requires word { StandsHere p.old Break true }
@@ -50,6 +52,7 @@ pub fn parse_break_statement<C: ParserConfig>(p: &mut ParserImpl<'_, C>) -> Resu
 }
 
 /// A ContinueStatement (ECMA-262, section 14.8).
+/// Reads: Continue.
 pub fn parse_continue_statement<C: ParserConfig>(p: &mut ParserImpl<'_, C>) -> Result<NodeId, Stop>
     requires at { Standing p.old }
     requires word { StandsHere p.old Continue true }
@@ -76,6 +79,7 @@ fn parse_jump<C: ParserConfig>(p: &mut ParserImpl<'_, C>, kind: NodeKind) -> Res
 }
 
 /// A LabelIdentifier (ECMA-262, section 13.1), or none where the statement may end.
+/// Reads: LabelIdentifier.
 fn parse_optional_label<C: ParserConfig>(p: &mut ParserImpl<'_, C>) -> Result<Option<NodeId>, Stop>
     requires { Standing p.old }
     ensures { TakesLabel p.old p.new result }
@@ -91,6 +95,7 @@ fn parse_optional_label<C: ParserConfig>(p: &mut ParserImpl<'_, C>) -> Result<Op
 }
 
 /// A ThrowStatement (ECMA-262, section 14.14). A new line behind `throw` is told, and reading goes on.
+/// Reads: Throw.
 #[inline(never)]
 pub fn parse_throw_statement<C: ParserConfig, N: Sequences<C>>(
     p: &mut ParserImpl<'_, C>,
@@ -125,6 +130,7 @@ fn check_operand<C: ParserConfig>(p: &mut ParserImpl<'_, C>, word: Span) -> Resu
 }
 
 /// A ReturnStatement (ECMA-262, section 14.10). One that stands in no function's body is told, and reading goes on.
+/// Reads: Return.
 #[inline(never)]
 pub fn parse_return_statement<C: ParserConfig, N: Sequences<C>>(
     p: &mut ParserImpl<'_, C>,

@@ -152,6 +152,7 @@ fn convert_elements(
 }
 
 /// An element or property of a literal, the last one or another, as one of a target; a gap is an empty slot.
+/// Reads: TargetElement.
 #[cycle(targets)]
 fn convert_element(
     alloc: Global,
@@ -291,6 +292,7 @@ fn convert_shorthand(ast: &mut ParserAstBuilder, id: NodeId) -> Result<Option<No
 }
 
 /// A property of an object literal, as one of a target.
+/// Reads: TargetProperty.
 #[cycle(targets)]
 pub fn convert_property(
     alloc: Global,
@@ -317,6 +319,7 @@ pub fn convert_property(
 }
 
 /// The node of the target that an expression stands for; none where it stands for none (ECMA-262, section 13.15.1).
+/// Reads: Target.
 #[cycle(targets)]
 pub fn convert_target(
     alloc: Global,
@@ -370,6 +373,7 @@ fn refuse_literal<C: ParserConfig>(
 
 /// The target that an array or object literal is, which was read from a place on. Where a diagnostic was kept since, when there were
 /// so many, that is enough, whatever is wrong with it.
+/// Reads: ArrayTarget, ObjectTarget.
 pub fn literal_target<C: ParserConfig>(
     p: &mut ParserImpl<'_, C>,
     start: u32,

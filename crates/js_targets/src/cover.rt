@@ -125,6 +125,7 @@ pub fn child_at(ast: &ParserAstBuilder, id: NodeId, slot: usize) -> Option<NodeI
 }
 
 /// The node of the simple target that an expression stands for; none where it is no target (ECMA-262, section 8.6.4).
+/// Reads: SimpleTarget.
 pub fn simple_target(ast: &ParserAstBuilder, id: NodeId) -> Option<NodeId>
     requires { Stood ast.now id }
     ensures node { OfNode ast.now id (λ l cs rs. Converted ast.now ast.now rs unnoted unnoted [] (one_node result) (slot_of (target_of l cs))) }
