@@ -3,10 +3,12 @@
 
 mod by;
 mod parse;
+mod program;
 
 pub use parse::{
     Parser, parse_assignment_expression_or_higher, parse_binary_expression_or_higher,
-    parse_binding_pattern, parse_expr, parse_formal_parameters, parse_function_body,
-    parse_lhs_expression_or_higher, parse_property_name, parse_statement_list_item,
-    parse_statements, try_parse_parenthesized_arrow_function_expression,
+    parse_binding_pattern, parse_directives_and_statements, parse_expr, parse_formal_parameters,
+    parse_function_body, parse_lhs_expression_or_higher, parse_property_name,
+    parse_statement_list_item, try_parse_parenthesized_arrow_function_expression,
 };
+pub use program::parse_program;

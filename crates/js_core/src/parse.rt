@@ -32,8 +32,7 @@ use js_patterns::method_parameters::parse_method_parameters;
 use js_patterns::{binding, parameters};
 use js_statement_laws::forms::StatementList;
 use js_statement_laws::sequences::Sequences;
-use js_statements::statement_list::parse_directives_and_statements;
-use js_statements::{block, statement};
+use js_statements::{block, statement, statement_list};
 use js_tree::NodeId;
 
 /// A parser that is told when the program runs whether it keeps the tokens.
@@ -185,12 +184,12 @@ pub fn parse_formal_parameters(p: &mut Parser<'_>) -> Result<NodeId, Stop>
 }
 
 /// The directives and the statements of a text, up to its end (ECMA-262, sections 16.1 and 16.2).
-pub fn parse_statements(p: &mut Parser<'_>) -> Result<Vec<Option<NodeId>>, Stop>
+pub fn parse_directives_and_statements(p: &mut Parser<'_>) -> Result<Vec<Option<NodeId>>, Stop>
     requires at { Standing p.old }
     requires allows_in { has_flag in_flag p.old.ctx ≡ true }
     ensures { MatchResult result (λ v. AllTaken Text p.old p.new v.items) (λ e. AllRefused Text p.old p.new e) }
 {
-    parse_directives_and_statements(p, &By(parse), StatementList::Text)
+    statement_list::parse_directives_and_statements(p, &By(parse), StatementList::Text)
 }
 
 /// Operands, and operators between them that bind tighter than those of `least`; for `Comma` a ShortCircuitExpression

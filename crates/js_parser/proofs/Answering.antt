@@ -26,8 +26,8 @@ use Rattle.js_base.specs.declared.token.Token.{Token}
 use Rattle.js_lex.specs.Kept.{LieIn}
 use Rattle.js_lex.specs.declared.comment.Comment.{Comment}
 use Rattle.js_lex.specs.declared.output.LexerOutput.{LexerOutput}
-use Rattle.js_parser.proofs.Lists.{first_empty, second_empty}
-use Rattle.js_parser.specs.Readings.{HasNoReading, HasNoReadingBy, IsOnlyReadingBy, AreOf}
+use Rattle.js_core.proofs.Lists.{first_empty, second_empty}
+use Rattle.js_core.specs.Readings.{HasNoReading, HasNoReadingBy, IsOnlyReadingBy, AreOf}
 use Rattle.js_parser.specs.Broken.{told_in}
 use Rattle.js_parser.specs.declared.early.Position.TheVariants.{Anywhere}
 use Rattle.js_parser.specs.FaultsTold.{without_last}
@@ -40,10 +40,10 @@ use Rattle.js_tree.specs.Covering.{placed}
 use Rattle.js_parsing_laws.specs.States.{NodesLie}
 use Rattle.js_grammar.specs.Options.{Options}
 use Rattle.js_grammar.specs.Settings.{Goal}
-use Rattle.js_parser.specs.Kept.{TellsRead, KeepsRight}
+use Rattle.js_core.specs.Kept.{TellsRead, KeepsRight}
 use Rattle.js_parser.specs.Parsed.{options_of, IsAnswer, IsOverlong}
 use Rattle.js_parser.proofs.NodeSpans.{slots_lie, program_lie}
-use Rattle.js_parser.specs.Taken.{IsOf, ReadOrNot, ProgramTaken, ProgramRefused, ProgramStops}
+use Rattle.js_core.specs.Taken.{IsOf, ReadOrNot, ProgramTaken, ProgramRefused, ProgramStops}
 use Rattle.js_cursor.specs.declared.stop.Stop.{Stop}
 use Rattle.js_cursor.specs.declared.stop.Stop.TheVariants.{Fatal}
 use Rattle.js_parsing_laws.specs.Classes.{IsEarly}

@@ -45,8 +45,8 @@ use Rattle.js_grammar.specs.Marks.{Mark, StandsAt}
 use Rattle.js_cursor.specs.Places.{IsFault}
 use Rattle.js_parsing_laws.specs.Classes.{IsEarly, EndsParse, EndedByLast, ends_parse}
 use Rattle.js_parser.proofs.CoreFaults.{none_faulty}
-use Rattle.js_parser.specs.Readings.{parameters, read_at, AreOf, Reading, ReadingBy, IsOnlyReading, HasNoReading, AreRead, from_text_start, behind_a_hashbang}
-use Rattle.js_parser.specs.EarlyErrors.{MeetsEarlyRules}
+use Rattle.js_core.specs.Readings.{parameters, read_at, AreOf, Reading, ReadingBy, IsOnlyReading, HasNoReading, AreRead, from_text_start, behind_a_hashbang}
+use Rattle.js_core.specs.EarlyErrors.{MeetsEarlyRules}
 use Rattle.js_parser.specs.CoreAnswers.{told_of_core, IsOnlyCoreReading, HasNoCoreReading, IsCoreAnswer}
 
 plainly_so : (b : Bool) → not b ≡ true → b ≡ false

@@ -11,9 +11,9 @@ use Rattle.js_grammar.specs.EarlyRules.{everywhere, not_u_and_v, cooked_at, Plac
 use Rattle.js_grammar.specs.NodeNames.{characters_at}
 use Rattle.js_grammar.specs.Trees.{NodeKind, reg_exp_literal, tagged_template_expression, template_literal, template_element, Label, Op, Span, Slots, end, hole, tree, Tree}
 use Rattle.js_tree.specs.Covering.{placed}
-use Rattle.js_parser.proofs.Lists.{first_empty, second_empty}
+use Rattle.js_core.proofs.Lists.{first_empty, second_empty}
 use Rattle.js_parser.specs.Broken.{past, within, broken_rule, told_rule, told_in}
-use Rattle.js_parser.specs.EarlyErrors.{MeetsEarlyRules}
+use Rattle.js_core.specs.EarlyErrors.{MeetsEarlyRules}
 use Rattle.js_parser.specs.FlagScans.{has_both}
 use Rattle.js_parser.specs.declared.early.Position.{Position}
 use Rattle.js_parser.specs.declared.early.Position.TheVariants.{Anywhere, Tag, Tagged, InTemplate}

@@ -30,16 +30,16 @@ use Rattle.js_parsing_laws.specs.Classes.{IsEarly}
 use Rattle.js_parsing_laws.specs.Lexemes.{Faultless}
 use Rattle.js_parsing_laws.specs.Told.{unrelated_at}
 use Rattle.js_parsing_laws.proofs.Kept.{faults_aside}
-use Rattle.js_parser.specs.Kept.{IsKeptOf}
+use Rattle.js_core.specs.Kept.{IsKeptOf}
 use Rattle.js_parser.specs.Broken.{past, within, broken_rule, told_rule, told_in}
 use Rattle.js_parser.specs.FlagScans.{has_both}
 use Rattle.js_parser.specs.declared.early.Position.{Position}
 use Rattle.js_parser.specs.declared.early.Position.TheVariants.{Anywhere, InTemplate}
 use Rattle.js_parser.specs.Leftover.{told_at, leftover, with_leftover}
 use Rattle.js_parser.specs.NodeSpans.{SlotsLie}
-use Rattle.js_parser.specs.Readings.{parameters, AreRead, from_text_start, behind_a_hashbang, ReadingBy, IsOnlyReadingBy, HasNoReadingBy, IsOnlyReading, HasNoReading}
+use Rattle.js_core.specs.Readings.{parameters, AreRead, from_text_start, behind_a_hashbang, ReadingBy, IsOnlyReadingBy, HasNoReadingBy, IsOnlyReading, HasNoReading}
 use Rattle.js_parser.proofs.EarlyErrors.{none_broken, nothing_told}
-use Rattle.js_parser.proofs.Lists.{first_empty, second_empty}
+use Rattle.js_core.proofs.Lists.{first_empty, second_empty}
 use Rattle.js_parser.proofs.EarlyMarks.{told_marked}
 
 module _ {text : List ℕ} {goal : Goal} {o : Options} where

@@ -1,8 +1,3 @@
-pub mod Lists
-pub mod Walks
-pub mod Hashbangs
-pub mod Fronts
-pub mod Readings
 pub mod NodeSpans
 pub mod Answering
 pub mod CoreFaults
@@ -16,3 +11,4 @@ pub mod Leftovers
 pub mod BuiltTrees
 pub mod Validity
 pub mod SameSource
+pub mod Starting

@@ -26,7 +26,7 @@ use Rattle.js_words.specs.Places.{Word}
 use Rattle.js_words.proofs.Flags.{spelled}
 use Rattle.js_lex.proofs.Again.{cancel}
 use Rattle.js_scan.proofs.StringPlaces.{front_word}
-use Rattle.js_parser.specs.Readings.{parameters}
+use Rattle.js_core.specs.Readings.{parameters}
 use Rattle.js_parser.proofs.Validity.{all_plain}
 use Rattle.js_parser.specs.SameSource.{Source, one_lexeme, inside_part, any_source, source_of, IsOneLexeme, is_part, closing, IsInsidePart, HasSource, HaveSources, ReadingsHaveSources}
 

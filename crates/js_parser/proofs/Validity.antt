@@ -27,10 +27,10 @@ use Rattle.js_lex.proofs.TriviaLemmas.{some_width}
 use Rattle.js_parsing_laws.specs.Lexemes.{Faultless, is_read}
 use Rattle.js_parser.specs.Language.{is_built, AllBuilt, AreBuilt, ReadingsAreValid}
 use Rattle.js_parser.specs.Language as language
-use Rattle.js_parser.specs.Readings.{parameters, AreRead, Reading, from_text_start, behind_a_hashbang}
+use Rattle.js_core.specs.Readings.{parameters, AreRead, Reading, from_text_start, behind_a_hashbang}
 use Rattle.js_parser.proofs.BuiltTrees.{derived_fine, early_fine, record_fine, pure_fine, flags_without, cooked_without}
 use Rattle.js_parser.proofs.CoreTexts.{plainly}
-use Rattle.js_parser.proofs.Fronts.{kind_of_hashbang}
+use Rattle.js_core.proofs.Fronts.{kind_of_hashbang}
 
 -- ---- a hashbang comment is a lexeme of its text at each goal
 

@@ -12,7 +12,7 @@ use Rattle.js_grammar.specs.TableLaws.{begins_unbuilt}
 use Rattle.js_grammar.specs.TreeForms.{without_pure}
 use Rattle.js_lex.specs.Reading.{LexemeBehind}
 use Rattle.js_parsing_laws.specs.Lexemes.{is_read}
-use Rattle.js_parser.specs.Readings.{Reading}
+use Rattle.js_core.specs.Readings.{Reading}
 
 -- a lexeme that is read, and begins no production that isn't built
 abbrev pub is_built : Lexeme → Bool

@@ -1,10 +1,6 @@
-pub mod EarlyErrors
 pub mod FlagScans
 pub mod Broken
-pub mod Readings
-pub mod Kept
 pub mod Parsed
-pub mod Taken
 pub mod NodeSpans
 pub mod CoreAnswers
 pub mod Leftover

@@ -16,10 +16,11 @@ use Rattle.js_tree.specs.Covering.{placed}
 use Rattle.js_tree.specs.Nodes.{Node, empty_program}
 use Rattle.js_tree.specs.Holding.{IsTree, program_tree}
 use Rattle.js_parser.specs.Broken.{told_in}
+pub use Rattle.js_core.specs.Readings.{options_of}
 use Rattle.js_parser.specs.declared.early.Position.TheVariants.{Anywhere}
 use Rattle.js_parser.specs.Leftover.{leftover}
 use Rattle.js_parser.specs.NodeSpans.{NodeLies, SlotsLie}
-use Rattle.js_parser.specs.Readings.{read_at, HasNoReading, HasNoLooseReading, IsOnlyReading, AreOf, ReadingBy}
+use Rattle.js_core.specs.Readings.{read_at, HasNoReading, HasNoLooseReading, IsOnlyReading, AreOf, ReadingBy}
 use Rattle.std.specs.List.{All}
 use Rattle.js_parsing_laws.specs.Classes.{IsEarly, EndedByLast}
 use Rattle.js_parsing_laws.specs.States.{NodesLie}
@@ -27,10 +28,6 @@ use Rattle.js_parsing_laws.specs.States.{NodesLie}
 -- where none are asked for: parentheses have nodes, and nothing else is on
 abbrev pub default_options : ParseOptions
 default_options = record { allow_return_outside_function = false; preserve_parens = true; allow_v8_intrinsics = false }
-
--- options as the grammar speaks of them
-abbrev pub options_of : ParseOptions → Options
-options_of o = record { allow_return = o.allow_return_outside_function; preserve_parens = o.preserve_parens; allow_v8 = o.allow_v8_intrinsics }
 
 -- Where the cover grammar derives a tree of the text, in which a shorthand may have an initialiser, nothing else is wrong with it: the tree is told, and it is told, in the tree's order, of each node that breaks an early rule, and then of each shorthand with an initialiser that no target took (CoverInitializedName, 13.2.5.1); and of nothing else.
 abbrev pub TellsLeftover : List ℕ → Goal → Options → Tree → List Diagnostic → Bool → Type 0

@@ -8,7 +8,7 @@ use Rattle.js_grammar.specs.Lexemes.{LexicalGoal, is_word}
 use Rattle.js_grammar.specs.Trees.{NodeKind, identifier_reference, binding_identifier, label_identifier, identifier_name, private_identifier, string_literal, big_int_literal, template_element, Span, Slots, end, hole, tree, Tree}
 use Rattle.js_grammar.specs.Options.{Options}
 use Rattle.js_grammar.specs.Settings.{Goal}
-use Rattle.js_parser.specs.Readings.{ReadingBy}
+use Rattle.js_core.specs.Readings.{ReadingBy}
 
 -- What stands at a node: one lexeme, of a kind that passes a test; the inside of a part of a template; or whatever is derived there.
 pub data Source : Type 0 where

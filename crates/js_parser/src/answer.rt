@@ -8,16 +8,16 @@ ghost use Rattle.js_grammar.specs.ModuleRecords.{record_of_parts};
 ghost use Rattle.js_lex.specs.States.{goal_of};
 ghost use Rattle.js_parsing_laws.specs.States.{NodesLie};
 ghost use Rattle.js_parser.specs.FaultsTold.{ends_in_fault, is_stopped_by_fault, told_at_stop, without_last};
-ghost use Rattle.js_parser.specs.Kept.{KeepsRight};
+ghost use Rattle.js_core.specs.Kept.{KeepsRight};
 ghost use Rattle.js_parser.specs.Leftover.{told_at, with_leftover};
 ghost use Rattle.js_parser.specs.Parsed.{options_of, IsAnswer, IsOverlong};
-ghost use Rattle.js_parser.specs.Taken.{ProgramTaken, ProgramRefused};
+ghost use Rattle.js_core.specs.Taken.{ProgramTaken, ProgramRefused};
 
 use crate::early::early_errors;
 use js_base::{
     Diagnostic, DiagnosticClass, DiagnosticKind, Diagnostics, Kind, SourceType, Span, Spans, Tokens,
 };
-use js_core::Parser;
+use js_core::{Parser, parse_program};
 use js_lex::Comments;
 use js_memory::NoMemory;
 use js_record::{ModuleRecord, ModuleVisits};

@@ -6,7 +6,6 @@ mod early;
 mod flags;
 pub mod laws;
 mod parser;
-mod program;
 
 pub use answer::{ParserReturn, Program};
 pub use parser::Parser;

@@ -8,12 +8,11 @@ ghost use Rattle.js_grammar.specs.CoreTexts.{CoreSource};
 ghost use Rattle.js_grammar.specs.ModuleRecords.{record_of_parts};
 ghost use Rattle.js_lex.specs.States.{goal_of};
 ghost use Rattle.js_parser.specs.CoreAnswers.{IsCoreAnswer};
-ghost use Rattle.js_parser.specs.Kept.{KeepsRight};
-ghost use Rattle.js_parser.specs.Readings.{read_at};
+ghost use Rattle.js_core.specs.Kept.{KeepsRight};
+ghost use Rattle.js_core.specs.Readings.{read_at};
 ghost use Rattle.js_parser.specs.Parsed.{default_options, options_of, Answers, IsAnswer};
 
 use crate::answer::{ParserReturn, overlong, refused, taken};
-use crate::program::parse_program;
 use js_base::{MAX_LEN, ParseOptions, SourceType};
 use js_cursor::{ParserImpl, Stop};
 use js_lex::{LexerConfig, NoTokensParserConfig, ParserConfig, RuntimeParserConfig};

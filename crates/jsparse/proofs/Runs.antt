@@ -14,7 +14,7 @@ use Rattle.js_grammar.specs.Settings.{Settings}
 use Rattle.js_grammar.specs.CommandLine.{Admitted}
 use Rattle.js_grammar.specs.CoreTexts.{CoreSource}
 use Rattle.js_grammar.specs.Options.{options_of}
-use Rattle.js_parser.specs.Readings.{read_at}
+use Rattle.js_core.specs.Readings.{read_at}
 use Rattle.js_parser.proofs.CoreTexts.{only_core, none_core}
 use Rattle.jsparse.specs.Words.{Sets}
 use Rattle.jsparse.specs.Runs.{limit, Gave, IsText, IsLong, ReadsUpTo, Told, Answers, HasCause, FitsWords, LeavesSink, LeavesSource, ComesBefore, IsAnswerBy, IsAnswerTo, IsCoreAnswerTo}

@@ -4,7 +4,7 @@ use Rattle.js_lex.specs.Kept.{LieIn}
 use Rattle.js_lex.specs.States.{State}
 use Rattle.js_parser.specs.FaultsTold.{without_last}
 use Rattle.js_parser.proofs.Answering.{refused_answer, found_kept}
-use Rattle.js_parser.proofs.Lists.{second_empty}
+use Rattle.js_core.proofs.Lists.{second_empty}
 use Rattle.js_parser.proofs.answer.refused.Goals as goal
 
 pub returns-clause-answer : goal.returns-clause-answer

@@ -1,5 +1,6 @@
 use Rattle.js_parser.proofs.Answering.{if_ok, fatal_stop}
-use Rattle.js_parser.proofs.Readings.{answer_for, kept_for_start}
+use Rattle.js_core.proofs.Readings.{kept_for_start}
+use Rattle.js_parser.proofs.Starting.{answer_for}
 use Rattle.js_parser.proofs.parser.parse_as.Goals as goal
 
 pub returns-in-Ok-clause-answer : goal.returns-in-Ok-clause-answer

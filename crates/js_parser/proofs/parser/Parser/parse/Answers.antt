@@ -1,6 +1,6 @@
 use Rattle.std.proofs.Common.{arith, sym, ◌∙◌}
 use Rattle.js_parser.proofs.Answering.{if_ok, both_ok, found_kept, kept_for}
-use Rattle.js_parser.proofs.Readings.{cons_some}
+use Rattle.js_core.proofs.Readings.{cons_some}
 use Rattle.js_parser.proofs.CoreTexts.{core_answer}
 use Rattle.js_parser.proofs.parser.Parser.parse.Goals as goal
 

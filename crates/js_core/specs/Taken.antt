@@ -10,9 +10,8 @@ use Rattle.js_cursor.specs.Parsers.{Parser}
 use Rattle.js_cursor.specs.Places.{IsAt}
 use Rattle.js_cursor.specs.declared.stop.Stop.{Stop}
 use Rattle.js_cursor.specs.declared.stop.Stop.TheVariants.{Fatal, NoMemory}
-use Rattle.js_parser.specs.Kept.{IsKeptOf}
-use Rattle.js_parser.specs.Readings.{ReadingBy, HasNoReadingBy, HasNoLooseReading, IsOnlyReadingBy}
-use Rattle.js_parser.specs.Parsed.{options_of}
+use Rattle.js_core.specs.Kept.{IsKeptOf}
+use Rattle.js_core.specs.Readings.{options_of, ReadingBy, HasNoReadingBy, HasNoLooseReading, IsOnlyReadingBy}
 use Rattle.std.specs.List.{All}
 use Rattle.js_parsing_laws.specs.Classes.{IsEarly, EndedByLast}
 use Rattle.js_parsing_laws.specs.States.{NodesLie}

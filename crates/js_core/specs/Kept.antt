@@ -12,7 +12,7 @@ use Rattle.js_lex.specs.Reading.{Tells}
 use Rattle.js_lex.specs.declared.comment.Comment.{Comment}
 use Rattle.js_lex.specs.declared.output.LexerOutput.{LexerOutput}
 use Rattle.js_parsing_laws.specs.Lexemes.{Faultless}
-use Rattle.js_parser.specs.Readings.{AreRead, from_text_start, behind_a_hashbang, ReadingBy, Reading}
+use Rattle.js_core.specs.Readings.{AreRead, from_text_start, behind_a_hashbang, ReadingBy, Reading}
 
 -- what the trivia before each lexeme gives, one behind the other
 abbrev pub each_of : {A : Type 0} → (Lexeme → ℕ → List (List ℕ) → List A) → (text : List ℕ) (goal : Goal) (s : ℕ) (ls : Lexemes) → Lexes (Faultless goal text) s ls → List A

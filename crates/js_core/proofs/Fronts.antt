@@ -25,9 +25,9 @@ use Rattle.js_parsing_laws.specs.Lexemes.{Faultless, Lex, read_kinds}
 use Rattle.js_statement_laws.specs.StatementLists.{with_directives}
 use Rattle.js_statement_laws.specs.declared.forms.StatementList.TheVariants.{Text}
 use Rattle.js_parsing_laws.proofs.Kept.{faults_aside}
-use Rattle.js_parser.specs.Kept.{each_of, each_read, comments_before, blanks_before, TellsEach, TellsRead}
-use Rattle.js_parser.specs.Readings.{AreRead, AreReadAnyhow, from_text_start, behind_a_hashbang, anyhow_from_start, anyhow_behind_hashbang}
-use Rattle.js_parser.proofs.Hashbangs.{program_label, behind_comment, behind_hashbang, without_hashbang, from_hashbang, from_start, alone}
+use Rattle.js_core.specs.Kept.{each_of, each_read, comments_before, blanks_before, TellsEach, TellsRead}
+use Rattle.js_core.specs.Readings.{AreRead, AreReadAnyhow, from_text_start, behind_a_hashbang, anyhow_from_start, anyhow_behind_hashbang}
+use Rattle.js_core.proofs.Hashbangs.{program_label, behind_comment, behind_hashbang, without_hashbang, from_hashbang, from_start, alone}
 
 -- a hashbang comment stands at the text's start
 abbrev pub HasHashbang : List ℕ → Type 0

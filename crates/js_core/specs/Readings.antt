@@ -20,7 +20,12 @@ use Rattle.js_lex.specs.Reading.{LexemeBehind}
 use Rattle.js_cursor.specs.Places.{IsFault}
 use Rattle.js_parsing_laws.specs.Heads.{widened}
 use Rattle.js_parsing_laws.specs.Lexemes.{Faultless, Lex}
-use Rattle.js_parser.specs.EarlyErrors.{MeetsEarlyRules}
+use Rattle.js_core.specs.EarlyErrors.{MeetsEarlyRules}
+use Rattle.js_base.specs.declared.options.ParseOptions.{ParseOptions}
+
+-- options as the grammar speaks of them
+abbrev pub options_of : ParseOptions → Options
+options_of o = record { allow_return = o.allow_return_outside_function; preserve_parens = o.preserve_parens; allow_v8 = o.allow_v8_intrinsics }
 
 -- The goal at which a text is read: an unambiguous one as a script, since what shows a module isn't read yet.
 abbrev pub read_at : Goal → Goal

@@ -7,10 +7,10 @@ ghost use Rattle.js_tree.specs.declared.kind.NodeKind.TheVariants.{Hashbang};
 ghost use Rattle.js_tree.specs.declared.op.Op.TheVariants as op;
 ghost use Rattle.js_cursor.specs.Starts.{Starts};
 ghost use Rattle.js_parsing_laws.specs.Moves.{MadeHere, plain_label};
-ghost use Rattle.js_parser.specs.Taken.{ProgramTaken, ProgramStops};
+ghost use Rattle.js_core.specs.Taken.{ProgramTaken, ProgramStops};
 
+use crate::parse::{Parser, parse_directives_and_statements};
 use js_base::{Kind, Span};
-use js_core::{Parser, parse_statements};
 use js_cursor::Stop;
 use js_memory::NoMemory;
 use js_tree::{NodeFlags, NodeId, NodeKind, Op};
@@ -24,7 +24,7 @@ pub fn parse_program(p: &mut Parser<'_>) -> Result<Vec<Option<NodeId>>, Stop>
     if p.at(Kind::HashbangComment) {
         return parse_behind_hashbang(p);
     }
-    parse_statements(p)
+    parse_directives_and_statements(p)
 }
 
 /// A hashbang comment (ECMA-262, section 12.5), and the children behind it.
@@ -36,7 +36,7 @@ fn parse_behind_hashbang(p: &mut Parser<'_>) -> Result<Vec<Option<NodeId>>, Stop
     let span = p.cur_token().span();
     p.bump_any()?;
     let comment = make_hashbang(p, span)?;
-    let mut items = parse_statements(p)?;
+    let mut items = parse_directives_and_statements(p)?;
     items.insert(0, Some(comment))?;
     Ok(items)
 }

@@ -2,11 +2,11 @@ use Rattle.std.proofs.Common.{ap, ◌∙◌}
 use Rattle.std.proofs.lemmas.Result.{err_from_is_err_and}
 use Rattle.js_base.specs.declared.token.Token.{Token}
 use Rattle.js_parsing_laws.proofs.Beginning.{hashbang_passed}
-use Rattle.js_parser.proofs.Readings.{hashbang_stands, hashbang_refused, hashbang_taken}
-use Rattle.js_parser.proofs.program.parse_behind_hashbang.Goals as goal
+use Rattle.js_core.proofs.Readings.{hashbang_stands, hashbang_refused, hashbang_taken}
+use Rattle.js_core.proofs.program.parse_behind_hashbang.Goals as goal
 
-pub parse_statements-requires-clause-at : goal.parse_statements-requires-clause-at
-parse_statements-requires-clause-at c = let s = c.requires.starts.1 in hashbang_stands s c.requires.here (hashbang_passed s.at c.requires.here c.in_ok-bump_any.ensures) (c.span-span.ensures ∙ ap (λ (t : Token). t.span) c.cur_token.ensures) c.in_ok-comment.ensures
+pub parse_directives_and_statements-requires-clause-at : goal.parse_directives_and_statements-requires-clause-at
+parse_directives_and_statements-requires-clause-at c = let s = c.requires.starts.1 in hashbang_stands s c.requires.here (hashbang_passed s.at c.requires.here c.in_ok-bump_any.ensures) (c.span-span.ensures ∙ ap (λ (t : Token). t.span) c.cur_token.ensures) c.in_ok-comment.ensures
 
 pub returns-in_err-items : goal.returns-in_err-items
 returns-in_err-items c =

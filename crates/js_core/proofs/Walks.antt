@@ -10,7 +10,7 @@ use Rattle.js_lex.specs.declared.comment.Comment.{Comment}
 use Rattle.js_base.specs.declared.diagnostic.Diagnostic.{Diagnostic}
 use Rattle.js_parsing_laws.specs.Lexemes.{Faultless, TriviaKept, Spot, News, onward, with_faults, IsNew, Walked, nowhere, one_more, read_again, more_faults}
 use Rattle.js_parsing_laws.proofs.Paths.{behind_walk}
-use Rattle.js_parser.specs.Kept.{each_of, comments_before, blanks_before, TellsEach}
+use Rattle.js_core.specs.Kept.{each_of, comments_before, blanks_before, TellsEach}
 
 -- a lexeme that stands without faults stands whichever pass
 lenient : {passing : Passing} {text : List ℕ} {s : ℕ} {y : Lexeme} (h : StandsBehind passing text s y) → (l : StandsBehind all_faults text s y) × (l.trivia ≡ h.trivia)

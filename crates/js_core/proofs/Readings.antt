@@ -59,14 +59,14 @@ use Rattle.js_base.specs.declared.span.Span.{Span}
 use Rattle.js_lex.specs.Kept.{IsEmpty}
 use Rattle.js_words.specs.Scans.{NoLexeme}
 use Rattle.js_lex.specs.States.{State}
-use Rattle.js_parser.proofs.Hashbangs.{hashbang_label, program_label, behind_comment, alone}
-use Rattle.js_parser.proofs.Fronts.{Front, LooseFront, Parts, kind_of_hashbang, none_begins, at_the_start, behind_a_comment, loosely_at_start, loosely_behind}
+use Rattle.js_core.proofs.Hashbangs.{hashbang_label, program_label, behind_comment, alone}
+use Rattle.js_core.proofs.Fronts.{Front, LooseFront, Parts, kind_of_hashbang, none_begins, at_the_start, behind_a_comment, loosely_at_start, loosely_behind}
 use Rattle.js_parsing_laws.proofs.MadeNodes.{leaf_held, one_lies_in}
 use Rattle.js_parsing_laws.proofs.Moving.{standing, beside_nodes}
-use Rattle.js_parser.specs.Parsed.{options_of, IsAnswer}
-use Rattle.js_parser.specs.Readings.{parameters, LooseReading, ReadingBy, IsOnlyReadingBy, HasNoReadingBy, HasNoLooseReading}
-use Rattle.js_parser.specs.Taken.{FoundNothing, ReadOrNot, ProgramTaken, ProgramStops}
-use Rattle.js_parser.proofs.Lists.{first_empty, second_empty}
+use Rattle.js_core.specs.Readings.{options_of}
+use Rattle.js_core.specs.Readings.{parameters, LooseReading, ReadingBy, IsOnlyReadingBy, HasNoReadingBy, HasNoLooseReading}
+use Rattle.js_core.specs.Taken.{FoundNothing, ReadOrNot, ProgramTaken, ProgramStops}
+use Rattle.js_core.proofs.Lists.{first_empty, second_empty}
 use Rattle.js_base.specs.declared.source_type.Goal.TheVariants as source
 use Rattle.js_grammar.specs.Grammar.{Derives}
 use Rattle.js_grammar.specs.CoverInitialisers.{with_cover}
@@ -77,9 +77,9 @@ use Rattle.js_lex.specs.Comments.{each_at, comment_at, irregular_at, html_fault_
 use Rattle.js_lex.specs.Reading.{in_a_module, is_kept, kept_token, LexemeBehind, GivesFirst, GivesNext}
 use Rattle.js_parsing_laws.specs.Lexemes.{Faultless, KeptFor, TriviaKept, kept_before, Spot, spot, Walked, nowhere, one_more, read_again, more_faults}
 use Rattle.js_parsing_laws.proofs.KeptTokens.{before_next, trivia_kept}
-use Rattle.js_parser.specs.Kept.{KeepsRight, each_of, comments_before, blanks_before, TellsEach, IsKeptOf}
+use Rattle.js_core.specs.Kept.{KeepsRight, each_of, comments_before, blanks_before, TellsEach, IsKeptOf}
 use Rattle.js_parsing_laws.proofs.Paths.{behind_walk}
-use Rattle.js_parser.proofs.Walks.{first_comments, first_blanks, all_kept, walk_tells, walk_unasked, keeps_still, kept_none}
+use Rattle.js_core.proofs.Walks.{first_comments, first_blanks, all_kept, walk_tells, walk_unasked, keeps_still, kept_none}
 use Rattle.js_base.specs.declared.token.Token.{Token}
 use Rattle.js_parsing_laws.proofs.Kept.{kept_for, faults_aside}
 use Rattle.js_parsing_laws.proofs.Paths.{walked_from}
@@ -596,9 +596,6 @@ module _ {b : Bool} {p : Parser} (s : Starts p.text p.source_type p.options b p)
 -- a start, of what the parser itself says of its text
 pub starts_itself : {source : List ℕ} {st : SourceType} {o : ParseOptions} {b : Bool} {p : Parser} → Starts source st o b p → (b : Bool) × Starts p.text p.source_type p.options b p
 starts_itself {source} {st} {o} {b} {p} s = (b, subst (λ (t : List ℕ). Starts t p.source_type p.options b p) (sym s.text) (subst (λ (x : SourceType). Starts source x p.options b p) (sym s.source_type) (subst (λ (y : ParseOptions). Starts source st y b p) (sym s.options) s)))
-
-pub answer_for : {source : List ℕ} {st : SourceType} {o : ParseOptions} {b : Bool} {p : Parser} {nodes : List Node} {out : LexerOutput} {fatal : Bool} → Starts source st o b p → IsAnswer p.text (goal_of p.source_type) (options_of p.options) nodes out fatal → IsAnswer source (goal_of st) (options_of o) nodes out fatal
-answer_for {source} {st} {o} {p = p} {nodes} {out} {fatal} s h = subst (λ (t : List ℕ). IsAnswer t (goal_of st) (options_of o) nodes out fatal) s.text (subst (λ (x : SourceType). IsAnswer p.text (goal_of x) (options_of o) nodes out fatal) s.source_type (subst (λ (y : ParseOptions). IsAnswer p.text (goal_of p.source_type) (options_of y) nodes out fatal) s.options h))
 
 pub kept_for_start : {source : List ℕ} {st : SourceType} {o : ParseOptions} {b asked : Bool} {p : Parser} {out : LexerOutput} → b ≡ asked → Starts source st o b p → KeepsRight p.text (goal_of p.source_type) (options_of p.options) p.lexer.keeps_tokens out → KeepsRight source (goal_of st) (options_of o) asked out
 kept_for_start {source} {st} {o} {b} {asked} {p} {out} e s h = subst (λ (t : List ℕ). KeepsRight t (goal_of st) (options_of o) asked out) s.text (subst (λ (x : SourceType). KeepsRight p.text (goal_of x) (options_of o) asked out) s.source_type (subst (λ (y : ParseOptions). KeepsRight p.text (goal_of p.source_type) (options_of y) asked out) s.options (subst (λ (a : Bool). KeepsRight p.text (goal_of p.source_type) (options_of p.options) a out) (asks s.first ∙ e) h)))
