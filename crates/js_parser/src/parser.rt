@@ -14,6 +14,7 @@ ghost use Rattle.js_parser.specs.Parsed.{default_options, options_of, Answers, I
 
 use crate::answer::{ParserReturn, overlong, refused, taken};
 use js_base::{MAX_LEN, ParseOptions, SourceType};
+use js_core::parse_program;
 use js_cursor::{ParserImpl, Stop};
 use js_lex::{LexerConfig, NoTokensParserConfig, ParserConfig, RuntimeParserConfig};
 use js_memory::NoMemory;
