@@ -5,18 +5,18 @@ use Rattle.std.specs.Prelude.{codes, IsTrue}
 use Rattle.std.specs.Str.{chars}
 use Rattle.js_base.specs.declared.diagnostic.DiagnosticKind.{DiagnosticKind}
 use Rattle.js_base.specs.declared.diagnostic.DiagnosticKind.TheVariants.{EscapedKeyword, NewTarget, ExpectClosing, Redeclaration}
-use Rattle.js_base.specs.declared.kind.Kind.TheVariants.{Ident, Dot, Semicolon, Str, TemplateHead, Eof}
+use Rattle.js_base.specs.declared.kind.Kind.TheVariants.{LCurly, Comma, Colon, Ident, Dot, Semicolon, Str, TemplateHead, Eof}
 use Rattle.js_base.specs.declared.span.Span.{Span}
 use Rattle.js_base.specs.Keywords.{keyword_of}
 use Rattle.js_base.specs.Texts.{words, punctuators}
 use Rattle.js_text.specs.Characters.{one_of}
 use Rattle.js_grammar.specs.Grammar.{Lexeme, Lexemes, last, next}
-use Rattle.js_grammar.specs.Words.{'new'}
+use Rattle.js_grammar.specs.Words.{'new', 'with'}
 use Rattle.js_grammar.specs.Settings.{Goal, script}
 use Rattle.js_grammar.specs.Lexemes.{division}
 use Rattle.js_grammar.specs.Lexed.{Lex, Lexes, Stands, all_faults, end_of}
 use Rattle.js_grammar.specs.LexicalFaults.{Reached, Faulty}
-use Rattle.js_grammar.specs.Marks.{IsLexemeOf, a_lexeme, a_sign, a_fault, goes_on, begins_with_greater, of_kinds, another_word, opens, is_part, closing_width, EdgeOf, the_start, the_end, inside_start, inside_end, StandsAt}
+use Rattle.js_grammar.specs.Marks.{IsLexemeOf, a_lexeme, a_sign, a_fault, goes_on, begins_with_greater, of_kinds, another_word, opens, is_part, closing_width, EdgeOf, the_start, the_end, inside_start, inside_end, none, StandsAt}
 use Rattle.js_grammar.proofs.Alike.{stands-same}
 use Rattle.js_grammar.proofs.Choices.{choice}
 use Rattle.js_grammar.proofs.Standing.{stand, lexeme_of}
@@ -189,3 +189,56 @@ no_clause : StandsAt Redeclaration script equal_names (span 2 3) (Some (span 0 1
 no_clause h =
     let p = place_holds AtEqual (λ s p y l. (equal_at s p y l).0) (inl refl) h.place h.part.reached in
     false≢true (sym (equal_at h.place p h.specifier h.part.lexed.0).1 ∙ h.is_specifier)
+
+-- `"m"with{a:"",'a'`: the second key
+abbrev keys : List ℕ
+keys = codes "\"m\"with{a:\"\",'a'"
+
+second_key : StandsAt Redeclaration script keys (span 13 16) (Some (span 8 9)) None
+unfolding words punctuators chars keyword_of
+second_key = record {
+  place = 0;
+  specifier = lexeme_of 0 [] (codes "\"m\"") Str;
+  word = lexeme_of 3 [] (codes "with") 'with';
+  brace = lexeme_of 7 [] (codes "{") LCurly;
+  entries = next (lexeme_of 8 [] (codes "a") Ident) (next (lexeme_of 9 [] (codes ":") Colon) (next (lexeme_of 10 [] (codes "\"\"") Str) (next (lexeme_of 12 [] (codes ",") Comma) (last (lexeme_of 13 [] (codes "'a'") Str)))));
+  part = record {
+    reached = inl refl;
+    lexed = (
+      stand all_faults keys 0 [] division (codes "\"m\"") (codes "with{a:\"\",'a'") Str (omega arith) refl refl refl,
+      (
+        stand all_faults keys 3 [] division (codes "with") (codes "{a:\"\",'a'") 'with' (omega arith) refl refl refl,
+        (
+          stand all_faults keys 7 [] division (codes "{") (codes "a:\"\",'a'") LCurly (omega arith) refl refl refl,
+          (
+            stand all_faults keys 8 [] division (codes "a") (codes ":\"\",'a'") Ident (omega arith) refl refl refl,
+            (
+              stand all_faults keys 9 [] division (codes ":") (codes "\"\",'a'") Colon (omega arith) refl refl refl,
+              (
+                stand all_faults keys 10 [] division (codes "\"\"") (codes ",'a'") Str (omega arith) refl refl refl,
+                (stand all_faults keys 12 [] division (codes ",") (codes "'a'") Comma (omega arith) refl refl refl, stand all_faults keys 13 [] division (codes "'a'") [] Str (omega arith) refl refl refl),
+              ),
+            ),
+          ),
+        ),
+      ),
+    );
+  };
+  is_specifier = refl;
+  is_clause = refl;
+  is_brace = refl;
+  earlier = lexeme_of 8 [] (codes "a") Ident;
+  colon = lexeme_of 9 [] (codes ":") Colon;
+  value = lexeme_of 10 [] (codes "\"\"") Str;
+  comma = lexeme_of 12 [] (codes ",") Comma;
+  between = last (lexeme_of 13 [] (codes "'a'") Str);
+  before = none;
+  is_entry = refl;
+  later = last (lexeme_of 13 [] (codes "'a'") Str);
+  behind = none;
+  is = (refl, refl);
+  is_key = refl;
+  same = refl;
+  is_first = refl;
+  no_second = refl;
+}
