@@ -64,7 +64,7 @@ use Rattle.js_parser.proofs.Fronts.{Front, LooseFront, Parts, kind_of_hashbang, 
 use Rattle.js_parsing_laws.proofs.MadeNodes.{leaf_held, one_lies_in}
 use Rattle.js_parsing_laws.proofs.Moving.{standing, beside_nodes}
 use Rattle.js_parser.specs.Parsed.{options_of, IsAnswer}
-use Rattle.js_parser.specs.Readings.{parameters, LooseReading, ReadingBy, IsOnlyReadingBy, HasNoReadingBy, HasNoLooseReading}
+use Rattle.js_parser.specs.Readings.{parameters, ReadingBy, IsOnlyReadingBy, HasNoReadingBy, HasNoLooseReading}
 use Rattle.js_parser.specs.Taken.{FoundNothing, ReadOrNot, ProgramTaken, ProgramStops}
 use Rattle.js_parser.proofs.Lists.{first_empty, second_empty}
 use Rattle.js_base.specs.declared.source_type.Goal.TheVariants as source
