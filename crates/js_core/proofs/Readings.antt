@@ -64,7 +64,7 @@ use Rattle.js_core.proofs.Fronts.{Front, LooseFront, Parts, kind_of_hashbang, no
 use Rattle.js_parsing_laws.proofs.MadeNodes.{leaf_held, one_lies_in}
 use Rattle.js_parsing_laws.proofs.Moving.{standing, beside_nodes}
 use Rattle.js_core.specs.Readings.{options_of}
-use Rattle.js_core.specs.Readings.{parameters, LooseReading, ReadingBy, IsOnlyReadingBy, HasNoReadingBy, HasNoLooseReading}
+use Rattle.js_core.specs.Readings.{parameters, ReadingBy, IsOnlyReadingBy, HasNoReadingBy, HasNoLooseReading}
 use Rattle.js_core.specs.Taken.{FoundNothing, ReadOrNot, ProgramTaken, ProgramStops}
 use Rattle.js_core.proofs.Lists.{first_empty, second_empty}
 use Rattle.js_base.specs.declared.source_type.Goal.TheVariants as source

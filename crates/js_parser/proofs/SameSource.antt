@@ -1,5 +1,5 @@
 -- The nodes of a tree that is derived from lexemes of a text have there what their kinds ask for.
-use Rattle.std.proofs.Common.{ℕ, ◌≡◌, ◌≤◌, ◌+◌, ◌-◌, ◌++◌, Bool, true, false, ◌&&◌, List, [], ◌∷◌, nat_eq, length, drop, refl, sym, subst, ap, ◌∙◌, eqb-true, arith, IsTrue}
+use Rattle.std.proofs.Common.{ℕ, ◌≡◌, ◌+◌, ◌-◌, ◌++◌, Bool, true, false, ◌&&◌, List, [], ◌∷◌, nat_eq, refl, sym, subst, ap, ◌∙◌, eqb-true, arith}
 use Rattle.std.specs.Prelude.{codes, slice_range, IsUtf8, IsCharBoundary}
 use Rattle.std.specs.Str.{chars}
 use Rattle.std.proofs.lemmas.Bool.{false≢true, and_parts}
@@ -9,8 +9,7 @@ use Rattle.js_base.specs.Keywords.{keyword_of}
 use Rattle.js_base.specs.declared.kind.Kind.{Kind}
 use Rattle.js_base.specs.declared.kind.Kind.TheVariants.{Ident}
 use Rattle.js_grammar.specs.Trees.{NodeKind, function_expression, arrow_function_expression, Op, Label, Span, Slots, end, hole, tree, Tree, append}
-use Rattle.js_grammar.specs.Grammar.{Look, Extent, exact, inside, Make, Lexeme, Lexemes, last, next, here, lexeme, seq, alt, ahead, when, many, commas, such, marked, node, ended, keep, span_of, label_of, Takes, Derives, is_nothing, is_lexeme, is_look, is_text, is_ahead, is_empty_slot, is_seq, is_left, is_right, is_when, is_many, is_commas, is_such, is_marked, is_node, is_ended, is_keep, is_kept}
-use Rattle.js_grammar.specs.Characters.{width}
+use Rattle.js_grammar.specs.Grammar.{Look, Extent, exact, inside, Lexeme, Lexemes, last, next, lexeme, seq, alt, ahead, when, many, commas, marked, node, ended, keep, span_of, Takes, Derives, is_nothing, is_lexeme, is_look, is_text, is_ahead, is_empty_slot, is_seq, is_left, is_right, is_when, is_many, is_commas, is_such, is_marked, is_node, is_ended, is_keep, is_kept}
 use Rattle.js_grammar.specs.Longest.{joined}
 use Rattle.js_grammar.specs.Lexed.{Passing, passing_of, IsLexeme, Lex, Lexes}
 use Rattle.js_grammar.specs.Lexemes.{LexicalGoal, is_word, division, regular_expression, template_tail, hashbang}
@@ -28,7 +27,7 @@ use Rattle.js_lex.proofs.Again.{cancel}
 use Rattle.js_scan.proofs.StringPlaces.{front_word}
 use Rattle.js_core.specs.Readings.{parameters}
 use Rattle.js_parser.proofs.Validity.{all_plain}
-use Rattle.js_parser.specs.SameSource.{Source, one_lexeme, inside_part, any_source, source_of, IsOneLexeme, is_part, closing, IsInsidePart, HasSource, HaveSources, ReadingsHaveSources}
+use Rattle.js_parser.specs.SameSource.{Source, one_lexeme, inside_part, any_source, source_of, IsOneLexeme, is_part, closing, HasSource, HaveSources, ReadingsHaveSources}
 
 -- ---- lexemes of a text stand there
 

@@ -1,15 +1,15 @@
 -- Readings are valid trees, and valid trees over lexemes that are built are readings.
-use Rattle.std.proofs.Common.{ℕ, ◌≡◌, ◌≤◌, ◌<◌, ◌+◌, ◌==◌, Bool, true, false, not, ◌&&◌, ◌||◌, List, [], ◌∷◌, ◌++◌, length, IsTrue, refl, sym, subst, ap, ◌∙◌, eqb-true, arith}
+use Rattle.std.proofs.Common.{ℕ, ◌≡◌, ◌≤◌, true, not, List, [], ◌∷◌, ◌++◌, length, refl, sym, subst, ap, eqb-true, arith}
 use Rattle.std.proofs.lemmas.Bool.{false≢true, and_parts}
 use Rattle.js_base.specs.declared.kind.Kind.{Kind}
-use Rattle.js_base.specs.declared.kind.Kind.TheVariants.{Eof, RegExp, HashbangComment}
+use Rattle.js_base.specs.declared.kind.Kind.TheVariants.{Eof, HashbangComment}
 use Rattle.js_base.specs.Kinds.{same_kind}
 use Rattle.js_base.proofs.KindLemmas.{kind_of_same}
 use Rattle.js_grammar.specs.Trees.{Tree}
 use Rattle.js_grammar.specs.Grammar.{Lexeme, Lexemes, last, next, Derives}
 use Rattle.js_grammar.specs.Characters.{width}
 use Rattle.js_grammar.specs.CoreTexts.{max_len}
-use Rattle.js_grammar.specs.Lexed.{Passing, in_script, in_module, all_faults, comments_pass, flags_right, Lex, Lexes, Lexed, passing_of}
+use Rattle.js_grammar.specs.Lexed.{Passing, in_script, in_module, all_faults, comments_pass, flags_right, Lex, Lexes, passing_of}
 use Rattle.js_grammar.specs.Lexemes.{LexicalGoal, may_begin, hashbang}
 use Rattle.js_grammar.specs.Longest.{joined}
 use Rattle.js_grammar.specs.Options.{Options}
