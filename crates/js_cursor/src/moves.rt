@@ -49,11 +49,11 @@ impl<'a, C: ParserConfig> ParserImpl<'a, C> {
         Ok(true)
     }
 
-    /// Keeps a diagnostic, which has its mark; the parser goes on where it is.
+    /// Keeps a diagnostic, which has its mark; the parser goes on where it is. After want of memory it is as it was.
     pub fn error(&mut self, found: Diagnostic) -> Result<(), NoMemory>
         requires at { IsAt self.old }
         requires mark { Mark (goal self.old) self.old.text found }
-        ensures { IfOk result (λ _. Keeps found self.old self.new) }
+        ensures { MatchResult result (λ _. Keeps found self.old self.new) (λ _. self.new ≡ self.old) }
     {
         self.errors.push(found)?;
         Ok(())

@@ -1,6 +1,6 @@
 -- One declarator (ECMA-262, 14.3.1, 14.3.2): what is bound, and an initialiser or none.
 use Rattle.std.proofs.Common.{ℕ, ◌≡◌, ◌<◌, ◌⊎◌, inl, inr, max, List, [], ◌∷◌, length, Some, None, Bool, true, false, not, ◌&&◌, ◌||◌, IsTrue, cond, refl, sym, ap, subst, arith, ◌∙◌}
-use Rattle.std.specs.Prelude.{IfOk, IsCharBoundary, Result, Ok, Err}
+use Rattle.std.specs.Prelude.{IfOk, IsCharBoundary, MatchResult, Result, Ok, Err}
 use Rattle.std.proofs.lemmas.Bool.{false≢true, and_from, and_parts, or_left, or_right}
 use Rattle.js_base.specs.declared.diagnostic.Diagnostic.{Diagnostic}
 use Rattle.js_base.specs.declared.kind.Kind.{Kind}
@@ -400,6 +400,6 @@ lacks false c h = inl refl
 lacks true true h = inr refl
 lacks true false h = absurd (false≢true (sym h))
 
-pub told_missing : {E : Type 0} (p q : Parser) (c is_name : Bool) {b : Bool} {s : Span} {k : DiagnosticKind} {d : Diagnostic} (r : Result (Unit {0}) E) → d ≡ unrelated_at k s → k ≡ missing is_name → b ≡ (is_name && not c) → b ≡ false → IfOk r (λ x. KeepsOne d p q) → IfOk r (λ x. ChecksInitialiser c is_name s p q)
+pub told_missing : {E : Type 0} (p q : Parser) (c is_name : Bool) {b : Bool} {s : Span} {k : DiagnosticKind} {d : Diagnostic} (r : Result (Unit {0}) E) → d ≡ unrelated_at k s → k ≡ missing is_name → b ≡ (is_name && not c) → b ≡ false → MatchResult r (λ x. KeepsOne d p q) (λ e. q ≡ p) → IfOk r (λ x. ChecksInitialiser c is_name s p q)
 told_missing p q c is_name {s = s} (Ok x) g h i j t = inr (lacks is_name c (sym i ∙ j), subst (λ (v : Diagnostic). KeepsOne v p q) (g ∙ ap (λ (v : DiagnosticKind). unrelated_at v s) h) t)
 told_missing p q c is_name (Err e) g h i j t = tt
