@@ -4,7 +4,7 @@ use Rattle.std.specs.Prelude.{Result, Ok}
 use Rattle.std.proofs.lemmas.Bool.{and_parts, and_from, or_left}
 use Rattle.js_base.specs.declared.diagnostic.Diagnostic.{Diagnostic}
 use Rattle.js_base.specs.declared.kind.Kind.{Kind}
-use Rattle.js_base.specs.declared.kind.Kind.TheVariants.{RCurly, RAngle, LParen, RParen, LBrack, RBrack, LCurly, TemplateHead, TemplateMiddle, Comma, PrivateIdentifier}
+use Rattle.js_base.specs.declared.kind.Kind.TheVariants.{RCurly, RAngle, LParen, RParen, LBrack, RBrack, LCurly, Comma, PrivateIdentifier}
 use Rattle.js_base.specs.declared.span.Span.{Span}
 use Rattle.js_base.specs.Kinds.{same_kind, one_of_kinds}
 use Rattle.js_base.proofs.KindLemmas.{kind_of_same}
@@ -279,7 +279,7 @@ paren_opened {p} {q} {s} e a k m = subst (Opened q) (sym e) (record {
     lexeme = m.lexeme;
     of_text = a_lexeme a.at.reached m.stood;
     is = (sym m.tells.start, sym m.tells.end);
-    passes = subst (λ (v : Kind). one_of_kinds (LParen ∷ LBrack ∷ LCurly ∷ TemplateHead ∷ TemplateMiddle ∷ []) v ≡ true) (sym (sym m.tells.kind ∙ k)) refl;
+    passes = subst (λ (v : Kind). one_of_kinds (LParen ∷ LBrack ∷ LCurly ∷ []) v ≡ true) (sym (sym m.tells.kind ∙ k)) refl;
   }));
   before = let a = m.tells.end in let b = m.ends in omega arith;
 })

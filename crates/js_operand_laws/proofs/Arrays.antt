@@ -3,7 +3,7 @@ use Rattle.std.proofs.Common.{ℕ, ◌≡◌, ◌≤◌, ◌<◌, inl, inr, List
 use Rattle.std.specs.Prelude.{Result, Ok, Err, MatchResult}
 use Rattle.std.proofs.lemmas.Bool.{false≢true, and_parts}
 use Rattle.js_base.specs.declared.diagnostic.Diagnostic.{Diagnostic}
-use Rattle.js_base.specs.declared.kind.Kind.TheVariants.{RCurly, RAngle, LParen, LBrack, RBrack, RParen, LCurly, Comma, TemplateHead, TemplateMiddle, PrivateIdentifier}
+use Rattle.js_base.specs.declared.kind.Kind.TheVariants.{RCurly, RAngle, LParen, LBrack, RBrack, RParen, LCurly, Comma, PrivateIdentifier}
 use Rattle.js_base.specs.declared.span.Span.{Span}
 use Rattle.js_base.specs.Kinds.{same_kind, one_of_kinds}
 use Rattle.js_base.specs.Texts.{words}
@@ -256,7 +256,7 @@ array_opened a k m = part_sign LBrack a k (plain_sign LBrack a k refl refl brack
 pub loop_start : {s : Span} {p q : Parser} {ids : List (Option NodeId)} → ids ≡ [] → s ≡ p.token.span → Standing p → p.token.kind ≡ LBrack → Moves p q → ElementLoop s ids p q
 loop_start {s} {p} {q} {ids} i e a k m = record {
   at = standing (m _ _ a).at;
-  opened = subst (λ (v : Span). Opened q v) (sym e) (opened_here a (ap (one_of_kinds (LParen ∷ LBrack ∷ LCurly ∷ TemplateHead ∷ TemplateMiddle ∷ [])) k) (m _ _ a));
+  opened = subst (λ (v : Span). Opened q v) (sym e) (opened_here a (ap (one_of_kinds (LParen ∷ LBrack ∷ LCurly ∷ [])) k) (m _ _ a));
   less = nested_room a (m _ _ a);
   goes = λ text f b. subst (λ (v : List (Option NodeId)). Partway text f (array_of f) (elements f) p q [] v) (sym i) (array_opened b k (m text f b));
 }

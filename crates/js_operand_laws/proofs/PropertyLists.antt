@@ -4,7 +4,7 @@ use Rattle.std.specs.Prelude.{Ok, Err}
 use Rattle.std.proofs.lemmas.Bool.{false≢true, and_parts}
 use Rattle.js_base.specs.declared.diagnostic.Diagnostic.{Diagnostic}
 use Rattle.js_base.specs.declared.kind.Kind.{Kind}
-use Rattle.js_base.specs.declared.kind.Kind.TheVariants.{RCurly, RAngle, LParen, LBrack, RBrack, RParen, LCurly, Comma, TemplateHead, TemplateMiddle, PrivateIdentifier}
+use Rattle.js_base.specs.declared.kind.Kind.TheVariants.{RCurly, RAngle, LParen, LBrack, RBrack, RParen, LCurly, Comma, PrivateIdentifier}
 use Rattle.js_base.specs.declared.span.Span.{Span}
 use Rattle.js_base.specs.Kinds.{same_kind, one_of_kinds}
 use Rattle.js_base.specs.Texts.{words}
@@ -208,7 +208,7 @@ object_opened a k m = part_sign LCurly a k (plain_sign LCurly a k refl refl brac
 pub loop_start : {s : Span} {p q : Parser} {ids : List (Option NodeId)} → ids ≡ [] → s ≡ p.token.span → Standing p → p.token.kind ≡ LCurly → Moves p q → PropertyLoop s ids p q
 loop_start {s} {p} {q} {ids} i e a k m = record {
   at = standing (m _ _ a).at;
-  opened = subst (λ (v : Span). Opened q v) (sym e) (opened_here a (ap (one_of_kinds (LParen ∷ LBrack ∷ LCurly ∷ TemplateHead ∷ TemplateMiddle ∷ [])) k) (m _ _ a));
+  opened = subst (λ (v : Span). Opened q v) (sym e) (opened_here a (ap (one_of_kinds (LParen ∷ LBrack ∷ LCurly ∷ [])) k) (m _ _ a));
   less = nested_room a (m _ _ a);
   goes = λ text f b. subst (λ (v : List (Option NodeId)). Partway text f (object_of f) (properties f) p q [] v) (sym i) (object_opened b k (m text f b));
 }

@@ -13,18 +13,18 @@ use Rattle.js_cursor.specs.Places.{goal}
 use Rattle.js_parsing_laws.specs.Moves.{Moved}
 use Rattle.js_parsing_laws.specs.States.{At, Same}
 use Rattle.js_base.specs.declared.kind.Kind.{Kind}
-use Rattle.js_base.specs.declared.kind.Kind.TheVariants.{LParen, LBrack, LCurly, TemplateHead, TemplateMiddle}
+use Rattle.js_base.specs.declared.kind.Kind.TheVariants.{LParen, LBrack, LCurly}
 use Rattle.js_base.specs.Kinds.{one_of_kinds}
 use Rattle.std.specs.Prelude.{true, ◌∷◌, []}
 
 -- a bracket that was passed was opened
-pub opened_here : {text : List ℕ} {f : Flags} {p q : Parser} → At text f p → one_of_kinds (LParen ∷ LBrack ∷ LCurly ∷ TemplateHead ∷ TemplateMiddle ∷ []) p.token.kind ≡ true → Moved text f p q → Opened q p.token.span
+pub opened_here : {text : List ℕ} {f : Flags} {p q : Parser} → At text f p → one_of_kinds (LParen ∷ LBrack ∷ LCurly ∷ []) p.token.kind ≡ true → Moved text f p q → Opened q p.token.span
 opened_here {text} {f} {p} {q} a k m = record {
   bracket = record {
     lexeme = m.lexeme;
     of_text = a_lexeme (subst (λ (v : List ℕ). Reached v p.prev_token_end) (a.text_is ∙ sym m.at.text_is) a.at.reached) (subst (λ (v : List ℕ). StandsBehind all_faults v p.prev_token_end m.lexeme) (sym m.at.text_is) m.stood);
     is = (sym m.tells.start, sym m.tells.end);
-    passes = subst (λ (v : Kind). one_of_kinds (LParen ∷ LBrack ∷ LCurly ∷ TemplateHead ∷ TemplateMiddle ∷ []) v ≡ true) m.tells.kind k;
+    passes = subst (λ (v : Kind). one_of_kinds (LParen ∷ LBrack ∷ LCurly ∷ []) v ≡ true) m.tells.kind k;
   };
   before = let t = m.tells.end in let u = m.ends in omega arith;
 }

@@ -1,6 +1,6 @@
 use Rattle.std.proofs.Common.{◌∷◌, [], ap, arith, refl, subst, sym, ◌∙◌}
 use Rattle.std.proofs.lemmas.Result.{err_from_is_err_and}
-use Rattle.js_base.specs.declared.kind.Kind.TheVariants.{LBrack, LCurly, LParen, TemplateHead, TemplateMiddle}
+use Rattle.js_base.specs.declared.kind.Kind.TheVariants.{LBrack, LCurly, LParen}
 use Rattle.js_base.specs.declared.span.Span.{Span}
 use Rattle.js_base.specs.declared.token.Token.{Token}
 use Rattle.js_base.specs.Kinds.{one_of_kinds}
@@ -39,7 +39,7 @@ close_parentheses-requires-clause-opened g c =
     let i = c.in_ok-expect.ensures in
     let m = expected c.requires.at LParen i.0 i.1 refl refl in
     let x = c.in_ok-ending.ensures _ _ m.at in
-    subst (λ (s : Span). Opened c.parse_for_head.new.p s) (sym (c.span-opening.ensures ∙ ap (λ (t : Token). t.span) c.cur_token.ensures)) (opened_later x.same (let a = x.path.further in let b = m.at.behind in omega arith) (opened_here c.requires.at (ap (one_of_kinds (LParen ∷ LBrack ∷ LCurly ∷ TemplateHead ∷ TemplateMiddle ∷ [])) i.0.0) m))
+    subst (λ (s : Span). Opened c.parse_for_head.new.p s) (sym (c.span-opening.ensures ∙ ap (λ (t : Token). t.span) c.cur_token.ensures)) (opened_later x.same (let a = x.path.further in let b = m.at.behind in omega arith) (opened_here c.requires.at (ap (one_of_kinds (LParen ∷ LBrack ∷ LCurly ∷ [])) i.0.0) m))
 
 pub returns-in_err-close_parentheses : goal.returns-in_err-close_parentheses
 returns-in_err-close_parentheses g c =

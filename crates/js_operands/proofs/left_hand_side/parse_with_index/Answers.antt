@@ -3,7 +3,7 @@ use Rattle.js_parsing_laws.specs.Moves.{unpassable}
 use Rattle.std.proofs.lemmas.Result.{err_from_is_err_and}
 use Rattle.js_base.specs.declared.span.Span.{Span}
 use Rattle.js_base.specs.declared.token.Token.{Token}
-use Rattle.js_base.specs.declared.kind.Kind.TheVariants.{RAngle, LParen, LBrack, LCurly, TemplateHead, TemplateMiddle}
+use Rattle.js_base.specs.declared.kind.Kind.TheVariants.{RAngle, LParen, LBrack, LCurly}
 use Rattle.js_base.specs.Kinds.{same_kind, one_of_kinds}
 use Rattle.js_cursor.specs.Moves.{Opened}
 use Rattle.js_parsing_laws.proofs.Bracketed.{opened_here, opened_later}
@@ -35,7 +35,7 @@ pub expect_closing-requires-clause-opened : goal.expect_closing-requires-clause-
 expect_closing-requires-clause-opened t c =
     let m = c.in_ok-advance.ensures _ _ c.requires.at in
     let x = (c.in_ok-index.ensures _ _ m.at).answer in
-    subst (λ (s : Span). Opened c.expression_with_in.new.p s) (sym (c.span-opening.ensures ∙ ap (λ (t : Token). t.span) c.cur_token.ensures)) (opened_later x.same (let i = x.further in let j = m.at.behind in omega arith) (opened_here c.requires.at (ap (one_of_kinds (LParen ∷ LBrack ∷ LCurly ∷ TemplateHead ∷ TemplateMiddle ∷ [])) c.requires.open) m))
+    subst (λ (s : Span). Opened c.expression_with_in.new.p s) (sym (c.span-opening.ensures ∙ ap (λ (t : Token). t.span) c.cur_token.ensures)) (opened_later x.same (let i = x.further in let j = m.at.behind in omega arith) (opened_here c.requires.at (ap (one_of_kinds (LParen ∷ LBrack ∷ LCurly ∷ [])) c.requires.open) m))
 
 pub returns-in_err-expect_closing : goal.returns-in_err-expect_closing
 returns-in_err-expect_closing t c =

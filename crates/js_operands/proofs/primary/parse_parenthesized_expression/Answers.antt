@@ -2,7 +2,7 @@ use Rattle.std.proofs.Common.{◌∙◌, sym, ap, subst, arith}
 use Rattle.std.proofs.lemmas.Result.{err_from_is_err_and}
 use Rattle.js_base.specs.declared.span.Span.{Span}
 use Rattle.js_base.specs.declared.token.Token.{Token}
-use Rattle.js_base.specs.declared.kind.Kind.TheVariants.{LParen, LBrack, LCurly, TemplateHead, TemplateMiddle}
+use Rattle.js_base.specs.declared.kind.Kind.TheVariants.{LParen, LBrack, LCurly}
 use Rattle.js_base.specs.Kinds.{one_of_kinds}
 use Rattle.std.specs.Prelude.{◌∷◌, []}
 use Rattle.js_cursor.specs.Moves.{Opened}
@@ -39,7 +39,7 @@ pub close_parentheses-requires-clause-opened : goal.close_parentheses-requires-c
 close_parentheses-requires-clause-opened t c =
     let m = c.in_ok-advance.ensures _ _ c.requires.at in
     let x = (c.in_ok-expression.ensures _ _ m.at).answer in
-    subst (λ (s : Span). Opened c.expression_with_in.new.p s) (sym (c.span-opening.ensures ∙ ap (λ (t : Token). t.span) c.cur_token.ensures)) (opened_later x.same (let a = x.further in let b = m.at.behind in omega arith) (opened_here c.requires.at (ap (one_of_kinds (LParen ∷ LBrack ∷ LCurly ∷ TemplateHead ∷ TemplateMiddle ∷ [])) c.requires.kind) m))
+    subst (λ (s : Span). Opened c.expression_with_in.new.p s) (sym (c.span-opening.ensures ∙ ap (λ (t : Token). t.span) c.cur_token.ensures)) (opened_later x.same (let a = x.further in let b = m.at.behind in omega arith) (opened_here c.requires.at (ap (one_of_kinds (LParen ∷ LBrack ∷ LCurly ∷ [])) c.requires.kind) m))
 
 pub returns-in_err-close_parentheses : goal.returns-in_err-close_parentheses
 returns-in_err-close_parentheses t c = λ text f a.

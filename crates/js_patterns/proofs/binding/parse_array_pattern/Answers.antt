@@ -3,7 +3,7 @@ use Rattle.std.specs.Prelude.{◌∷◌, []}
 use Rattle.std.proofs.lemmas.Result.{err_from_is_err_and}
 use Rattle.js_base.specs.declared.span.Span.{Span}
 use Rattle.js_base.specs.declared.token.Token.{Token}
-use Rattle.js_base.specs.declared.kind.Kind.TheVariants.{LParen, LBrack, RBrack, LCurly, TemplateHead, TemplateMiddle}
+use Rattle.js_base.specs.declared.kind.Kind.TheVariants.{LParen, LBrack, RBrack, LCurly}
 use Rattle.js_base.specs.Kinds.{one_of_kinds}
 use Rattle.js_cursor.specs.Moves.{Opened}
 use Rattle.js_pattern_laws.proofs.Bindings.{no_pattern, pattern_answers, pattern_moved, pattern_opened, pattern_unclosed, unclosed_pattern}
@@ -37,7 +37,7 @@ pub expect_closing-requires-clause-opened : goal.expect_closing-requires-clause-
 expect_closing-requires-clause-opened g c =
     let m = c.in_ok-advance.ensures _ _ c.requires.at in
     let x = c.in_ok-elements.ensures _ _ m.at in
-    subst (λ (s : Span). Opened c.parse_pattern_elements.new.p s) (sym (c.span-opening.ensures ∙ ap (λ (t : Token). t.span) c.cur_token.ensures)) (opened_later x.same x.forward (opened_here c.requires.at (ap (one_of_kinds (LParen ∷ LBrack ∷ LCurly ∷ TemplateHead ∷ TemplateMiddle ∷ [])) c.requires.open.0) m))
+    subst (λ (s : Span). Opened c.parse_pattern_elements.new.p s) (sym (c.span-opening.ensures ∙ ap (λ (t : Token). t.span) c.cur_token.ensures)) (opened_later x.same x.forward (opened_here c.requires.at (ap (one_of_kinds (LParen ∷ LBrack ∷ LCurly ∷ [])) c.requires.open.0) m))
 
 pub returns-in_err-expect_closing : goal.returns-in_err-expect_closing
 returns-in_err-expect_closing g c = λ text f a.

@@ -2,7 +2,7 @@ use Rattle.std.proofs.Common.{[], ◌∷◌, ◌∙◌, sym, ap, subst, arith}
 use Rattle.std.proofs.lemmas.Result.{err_from_is_err_and}
 use Rattle.js_base.specs.declared.span.Span.{Span}
 use Rattle.js_base.specs.declared.token.Token.{Token}
-use Rattle.js_base.specs.declared.kind.Kind.TheVariants.{LParen, LBrack, LCurly, TemplateHead, TemplateMiddle}
+use Rattle.js_base.specs.declared.kind.Kind.TheVariants.{LParen, LBrack, LCurly}
 use Rattle.js_base.specs.Kinds.{one_of_kinds}
 use Rattle.js_cursor.specs.Moves.{Opened}
 use Rattle.js_operand_laws.proofs.Parentheses.{paren_whole, unclosed}
@@ -20,7 +20,7 @@ close_parentheses-requires-clause-at g c = standing (c.in_ok-advance.ensures _ _
 pub close_parentheses-requires-clause-opened : goal.close_parentheses-requires-clause-opened
 close_parentheses-requires-clause-opened g c =
     let m = c.in_ok-advance.ensures _ _ c.requires.at in
-    subst (λ (s : Span). Opened c.advance.new.p s) (sym (c.span-opening.ensures ∙ ap (λ (t : Token). t.span) c.cur_token.ensures)) (opened_here c.requires.at (ap (one_of_kinds (LParen ∷ LBrack ∷ LCurly ∷ TemplateHead ∷ TemplateMiddle ∷ [])) c.requires.open) m)
+    subst (λ (s : Span). Opened c.advance.new.p s) (sym (c.span-opening.ensures ∙ ap (λ (t : Token). t.span) c.cur_token.ensures)) (opened_here c.requires.at (ap (one_of_kinds (LParen ∷ LBrack ∷ LCurly ∷ [])) c.requires.open) m)
 
 pub returns-in_err-close_parentheses : goal.returns-in_err-close_parentheses
 returns-in_err-close_parentheses g c = λ text f a.

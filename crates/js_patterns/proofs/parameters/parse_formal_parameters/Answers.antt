@@ -2,7 +2,7 @@ use Rattle.std.proofs.Common.{◌≡◌, ◌∙◌, sym, ap, subst, arith}
 use Rattle.std.proofs.lemmas.Result.{err_from_is_err_and}
 use Rattle.js_base.specs.declared.span.Span.{Span}
 use Rattle.js_base.specs.declared.token.Token.{Token}
-use Rattle.js_base.specs.declared.kind.Kind.TheVariants.{LParen, LBrack, LCurly, TemplateHead, TemplateMiddle}
+use Rattle.js_base.specs.declared.kind.Kind.TheVariants.{LParen, LBrack, LCurly}
 use Rattle.js_base.specs.Kinds.{one_of_kinds}
 use Rattle.std.specs.Prelude.{◌∷◌, []}
 use Rattle.js_cursor.specs.Moves.{Opened}
@@ -38,7 +38,7 @@ pub close_parentheses-requires-clause-opened : goal.close_parentheses-requires-c
 close_parentheses-requires-clause-opened g c =
     let m = c.in_ok-advance.ensures _ _ c.requires.at in
     let x = c.in_ok-parse_parameter_list.ensures _ _ m.at in
-    subst (λ (s : Span). Opened c.parse_parameter_list.new.p s) (sym (c.span-opening.ensures ∙ ap (λ (t : Token). t.span) c.cur_token.ensures)) (opened_later x.same x.forward (opened_here c.requires.at (ap (one_of_kinds (LParen ∷ LBrack ∷ LCurly ∷ TemplateHead ∷ TemplateMiddle ∷ [])) c.requires.open) m))
+    subst (λ (s : Span). Opened c.parse_parameter_list.new.p s) (sym (c.span-opening.ensures ∙ ap (λ (t : Token). t.span) c.cur_token.ensures)) (opened_later x.same x.forward (opened_here c.requires.at (ap (one_of_kinds (LParen ∷ LBrack ∷ LCurly ∷ [])) c.requires.open) m))
 
 pub returns-in_err-close_parentheses : goal.returns-in_err-close_parentheses
 returns-in_err-close_parentheses g c = λ text f a.
