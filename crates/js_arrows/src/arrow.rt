@@ -9,9 +9,9 @@ ghost use Rattle.js_expression_laws.specs.Arrows.{ArgumentsTold, ArrowBehind, As
 ghost use Rattle.js_expression_laws.specs.HeadOperands.{IsNoTarget};
 ghost use Rattle.js_expression_laws.specs.Lists.{AsyncListBegins, SearchesList, TriesArrow};
 ghost use Rattle.js_base.specs.Kinds.{one_of_kinds};
+ghost use Rattle.js_base.specs.KindSets.{binding_identifier_kinds};
 ghost use Rattle.js_tree.specs.Labels.{kind_of};
 ghost use Rattle.js_tree.specs.Nodes.{node_at};
-ghost use Rattle.js_parsing_laws.specs.Lexemes.{name_kinds};
 ghost use Rattle.js_parsing_laws.specs.Moves.{MadeHere};
 ghost use Rattle.js_parsing_laws.specs.Nesting.{CanNest, room};
 ghost use Rattle.js_parsing_laws.specs.Stands.{NameHere, StandsHere};
@@ -31,7 +31,7 @@ use js_parsing::context::{
     assignment_in_arrow, body_in_arrow, context, in_async_head, set_context,
 };
 use js_parsing::diagnostics::{diagnostic_at, kept_so_far};
-use js_parsing::lexemes::{advance, is_name, name_stands, stands};
+use js_parsing::lexemes::{advance, name_stands, stands};
 use js_parsing::nodes::{make_one, make_with_optional};
 use js_parsing_laws::nested::Nested;
 use js_pattern_laws::patterns::Patterns;
@@ -182,11 +182,11 @@ fn begins_async_head<C: ParserConfig>(p: &mut ParserImpl<'_, C>) -> Result<bool,
 
 /// Whether it is a name or `(`.
 fn begins_parameters(kind: Kind) -> bool
-    ensures { result ≡ one_of_kinds (LParen ∷ name_kinds) kind }
+    ensures { result ≡ one_of_kinds (LParen ∷ binding_identifier_kinds) kind }
 {
     match kind {
         Kind::LParen => true,
-        _ => is_name(kind),
+        _ => kind.is_binding_identifier(),
     }
 }
 

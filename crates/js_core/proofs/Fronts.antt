@@ -3,7 +3,6 @@ use Rattle.std.proofs.Common.{ℕ, ◌==◌, ◌≡◌, true, false, List, [], �
 use Rattle.std.proofs.lemmas.Bool.{false≢true}
 use Rattle.js_base.specs.declared.kind.Kind.{Kind}
 use Rattle.js_base.specs.declared.kind.Kind.TheVariants.{HashbangComment}
-use Rattle.js_base.specs.Kinds.{one_of_kinds}
 use Rattle.js_base.specs.Texts.{words}
 use Rattle.js_base.specs.declared.token.Token.{Token}
 use Rattle.js_grammar.specs.Trees.{Slots, end, tree, Tree}
@@ -21,7 +20,7 @@ use Rattle.js_lex.specs.Reading.{LexemeBehind}
 use Rattle.js_words.specs.Scans.{NoLexeme}
 use Rattle.js_words.proofs.KindsOfLexemes.{hashbang_is}
 use Rattle.js_lex.proofs.TriviaLemmas.{some_width}
-use Rattle.js_parsing_laws.specs.Lexemes.{Faultless, Lex, read_kinds}
+use Rattle.js_parsing_laws.specs.Lexemes.{Faultless, Lex, is_read_kind}
 use Rattle.js_statement_laws.specs.StatementLists.{with_directives}
 use Rattle.js_statement_laws.specs.declared.forms.StatementList.TheVariants.{Text}
 use Rattle.js_parsing_laws.proofs.Kept.{faults_aside}
@@ -54,7 +53,7 @@ none_begins {text} n (y, h) =
 
 -- no hashbang comment is read
 unread : {text : List ℕ} (goal : Goal) {s : ℕ} {y : Lexeme} → Faultless goal text s y → HashbangComment ≡ y.kind → ⊥
-unread goal {y = y} l k = false≢true (subst (λ (v : Kind). one_of_kinds read_kinds v ≡ true) (sym k) l.1)
+unread goal {y = y} l k = false≢true (subst (λ (v : Kind). is_read_kind v ≡ true) (sym k) l.1)
 
 -- What Program derives over lexemes that are read is what a list derives from the place s, with its front; what was kept for them is of the list's lexemes.
 pub record Parts (text : List ℕ) (source : Goal) (f : Flags) (s : ℕ) (front : Slots → Slots) (put : Lexemes → Lexemes) (t : Tree) (ls : Lexemes) (l : AreRead text source ls) (place : ℕ) (final : Lexeme) : Type 0 where
@@ -108,7 +107,7 @@ behind_a_comment {text} {source} {f} {y} h = record {
 -- ---- lexemes that may have faults
 
 unread_anyhow : {text : List ℕ} {s : ℕ} {y : Lexeme} → Lex text s y → HashbangComment ≡ y.kind → ⊥
-unread_anyhow {y = y} l k = false≢true (subst (λ (v : Kind). one_of_kinds read_kinds v ≡ true) (sym k) l.1)
+unread_anyhow {y = y} l k = false≢true (subst (λ (v : Kind). is_read_kind v ≡ true) (sym k) l.1)
 
 -- what a list derives from the place s
 pub record LooseParts (text : List ℕ) (f : Flags) (s : ℕ) (place : ℕ) (final : Lexeme) : Type 0 where

@@ -42,7 +42,6 @@ use Rattle.js_parsing_laws.proofs.Escapes.{read_plain}
 use Rattle.js_parsing_laws.proofs.Giving.{fails_none}
 use Rattle.js_parsing_laws.proofs.Here.{alike, told, plain_there, kind_here}
 use Rattle.js_parsing_laws.proofs.Paths.{at_kind, read_of}
-use Rattle.js_parsing_laws.proofs.Unbuilt.{nothing_unbuilt}
 use Rattle.js_statement_laws.proofs.StatementLists.{none_left, text_ends}
 use Rattle.js_parsing_laws.proofs.Verdicts.{grown_some}
 use Rattle.js_cursor.specs.Starts.{is_module, is_commonjs}
@@ -480,8 +479,8 @@ module _ {text : List ℕ} {f : Flags} {source : SourceType} {o : ParseOptions} 
     stopped = r.stopped (All-same IsEarly v.errors [] b.errors (All-nil IsEarly));
     lies = subst (λ (w : List ℕ). NodesLie w q.nodes) (r.follows.text ∙ b.stands.text_is) (r.lies b.lies);
     some = grown_some r.grown;
-    none = none (r.none nothing_unbuilt);
-    none_loosely = no_loose_reading ((h text (widened true f) (in_wider_forms b.stands)).none nothing_unbuilt);
+    none = none r.none;
+    none_loosely = no_loose_reading (h text (widened true f) (in_wider_forms b.stands)).none;
   }
   stops_so q NoMemory h = tt
 

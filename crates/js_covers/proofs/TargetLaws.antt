@@ -19,7 +19,8 @@ use Rattle.js_targets.specs.Targets.{Each, Fits, Spotted, in_literal, within, is
 use Rattle.js_targets.proofs.LiteralsAsTargets.{Targeted, literal_target}
 use Rattle.js_targets.proofs.Spots.{literal_spots}
 use Rattle.js_targets.proofs.Targets.{by_primary, is_literal_kind, kind_of_literal, left_hand_side_target, may_be, may_literal, may_target, of_assignment, target_left_hand_side}
-use Rattle.js_targets.proofs.TargetsAsLiterals.{literal_back, target_no_literal}
+use Rattle.js_targets.proofs.TargetsAsLiterals.{literal_back}
+use Rattle.js_targets.proofs.ArraysBeforeSigns.{target_no_literal}
 use Rattle.js_covers.specs.Covered.{Read, NoneCovered, AnyLabel, an_expression, no_places, in_a_target, simple_answer, target_answer}
 use Rattle.js_covers.proofs.Laws.{Lawful, Law, slot_parts, within as inside, elements_are, no_elements, literal_slots}
 

@@ -1,13 +1,11 @@
 -- The declarators of a declaration (ECMA-262, 14.3.1, 14.3.2), with commas between. What may stand behind the list is told by its last one, so each reading is of all of them up to that.
-use Rattle.std.proofs.Common.{ℕ, ◌≡◌, ◌<◌, ◌≤◌, ◌⊎◌, inl, inr, max, List, [], ◌∷◌, ◌++◌, length, Option, Some, Bool, true, false, not, ◌||◌, IsTrue, refl, sym, ap, subst, arith, ◌∙◌}
+use Rattle.std.proofs.Common.{ℕ, ◌≡◌, ◌<◌, ◌≤◌, ◌⊎◌, inl, inr, max, List, [], ◌∷◌, ◌++◌, length, Option, Some, Bool, true, false, not, IsTrue, refl, sym, ap, subst, arith, ◌∙◌}
 use Rattle.std.specs.Prelude.{Ok}
 use Rattle.std.proofs.lemmas.Bool.{false≢true, and_from, and_parts, or_left, or_right}
 use Rattle.js_base.specs.declared.diagnostic.Diagnostic.{Diagnostic}
 use Rattle.js_base.specs.declared.kind.Kind.{Kind}
-use Rattle.js_base.specs.declared.kind.Kind.TheVariants.{Comma, PrivateIdentifier}
+use Rattle.js_base.specs.declared.kind.Kind.TheVariants.{Comma}
 use Rattle.js_base.specs.Kinds.{same_kind}
-use Rattle.js_base.specs.Texts.{words}
-use Rattle.js_grammar.specs.Lexemes.{is_word}
 use Rattle.js_grammar.specs.Trees.{Label, Slots, end, tree, append}
 use Rattle.js_grammar.specs.Grammar.{Lexeme, Lexemes, next, here, seen, is, Takes, is_nothing, is_lexeme, is_seq, is_left, is_right, is_commas, is_node, ◌▸◌}
 use Rattle.js_grammar.specs.Insertion.{Row, after_word, edge}
@@ -40,10 +38,7 @@ use Rattle.js_parsing_laws.proofs.Signs.{other_kind, plain_sign}
 use Rattle.js_parsing_laws.proofs.Escapes.{read_plain}
 use Rattle.js_parsing_laws.proofs.Verdicts.{and_then, either_way}
 use Rattle.js_parsing_laws.proofs.Verdicts.{after as grown_behind}
-
-comma_word : (is_word Comma || same_kind PrivateIdentifier Comma) ≡ false
-unfolding words
-comma_word = refl
+use Rattle.js_parsing_laws.proofs.PlainSigns.{comma_plain}
 
 -- behind a declarator
 abbrev others : Bool → Flags → G
@@ -59,7 +54,7 @@ module _ {text : List ℕ} {f : Flags} (c : Bool) where
       go ts k ls rest lx (is_commas (is_seq (is_node d) (is_right is_nothing))) e = y.only ts end k ls rest lx (is_node d) (or_right (seen (is Comma) (here rest)) _ e)
 
   -- a declarator, and a comma behind it
-  next_one : {s s' e : ℕ} {l : Label} {cs us : Slots} {pass through : Lexemes → Lexemes} → One text (declarator c f) s s' l cs pass → apart (is Comma) (ends_row (row_of l cs)) ≡ true → ((y : Lexeme) → Lex text s' y → IsTrue (seen (is Comma) y)) → AllOf text (others c f) s' e us through → s' ≤ e → AllOf text (list_of c f) s e (tree l cs us) (λ ls. pass (through ls))
+  next_one : {s s' e : ℕ} {l : Label} {cs us : Slots} {pass through : Lexemes → Lexemes} → One text (declarator c f) s s' l cs pass → ((y : Lexeme) → IsTrue (seen (is Comma) y) → IsTrue (seen (ends_row (row_of l cs)) y) → ⊥) → ((y : Lexeme) → Lex text s' y → IsTrue (seen (is Comma) y)) → AllOf text (others c f) s' e us through → s' ≤ e → AllOf text (list_of c f) s e (tree l cs us) (λ ls. pass (through ls))
   next_one {s} {s'} {e} {l} {cs} {us} {pass} {through} y o t w i = record {
     reach = max y.reach w.reach;
     near = let a = y.near in let b = w.near in omega arith;
@@ -75,7 +70,7 @@ module _ {text : List ℕ} {f : Flags} (c : Bool) where
           (x.0 ∙ ap (λ (v : Slots). tree l cs v) z.0, z.1, z.2, x.3 ∙ ap pass z.3)
       go ts k ls rest lx (is_commas (is_seq (is_node d) (is_right is_nothing))) h =
           let x = y.only ts end k ls rest lx (is_node d) (or_right (seen (is Comma) (here rest)) _ h) in
-          absurd (not_both (is Comma) (ends_row (row_of l cs)) o (here rest).kind (here rest).newline (here rest).escaped (t (here rest) (here_at (Lex text) rest x.2)) (subst (λ (v : Slots). IsTrue (seen (ends_row (edge after_word after_word v)) (here rest))) x.0 h))
+          absurd (o (here rest) (t (here rest) (here_at (Lex text) rest x.2)) (subst (λ (v : Slots). IsTrue (seen (ends_row (edge after_word after_word v)) (here rest))) x.0 h))
 
   -- where no declarator is derived
   none_first : {s : ℕ} → NoOne text (declarator c f) s → NoneOf text (list_of c f) s
@@ -85,7 +80,7 @@ module _ {text : List ℕ} {f : Flags} (c : Bool) where
       go ts k ls rest lx (is_commas (is_seq {us = us} {j = j} {mid = mid} (is_node d) (is_left (is_seq (is_lexeme q) g)))) e = n.no ts us j ls mid lx (is_node d) (or_left (seen (is Comma) (here mid)) _ q)
       go ts k ls rest lx (is_commas (is_seq (is_node d) (is_right is_nothing))) e = n.no ts end k ls rest lx (is_node d) (or_right (seen (is Comma) (here rest)) _ e)
 
-  none_next : {s s' : ℕ} {l : Label} {cs : Slots} {pass : Lexemes → Lexemes} → One text (declarator c f) s s' l cs pass → apart (is Comma) (ends_row (row_of l cs)) ≡ true → ((y : Lexeme) → Lex text s' y → IsTrue (seen (is Comma) y)) → NoneOf text (others c f) s' → NoneOf text (list_of c f) s
+  none_next : {s s' : ℕ} {l : Label} {cs : Slots} {pass : Lexemes → Lexemes} → One text (declarator c f) s s' l cs pass → ((y : Lexeme) → IsTrue (seen (is Comma) y) → IsTrue (seen (ends_row (row_of l cs)) y) → ⊥) → ((y : Lexeme) → Lex text s' y → IsTrue (seen (is Comma) y)) → NoneOf text (others c f) s' → NoneOf text (list_of c f) s
   none_next {s} {l = l} {cs = cs} y o t w = record { no = λ ts k ls rest lx d e. go ts k ls rest lx d e }
     where
       go : (ts : Slots) (k : ℕ) (ls rest : Lexemes) → Lexes (Lex text) s ls → Takes rule (list_of c f) end ts s ls end k rest → IsTrue (seen (ends_row (edge after_word after_word ts)) (here rest)) → ⊥
@@ -94,7 +89,7 @@ module _ {text : List ℕ} {f : Flags} (c : Bool) where
           w.no ws k mid rest x.2 (subst (λ (v : ℕ). Takes rule (others c f) end ws v mid end k rest) x.1 (is_seq (is_lexeme q) (is_commas (is_seq (is_node d') r)))) h
       go ts k ls rest lx (is_commas (is_seq (is_node d) (is_right is_nothing))) h =
           let x = y.only ts end k ls rest lx (is_node d) (or_right (seen (is Comma) (here rest)) _ h) in
-          not_both (is Comma) (ends_row (row_of l cs)) o (here rest).kind (here rest).newline (here rest).escaped (t (here rest) (here_at (Lex text) rest x.2)) (subst (λ (v : Slots). IsTrue (seen (ends_row (edge after_word after_word v)) (here rest))) x.0 h)
+          o (here rest) (t (here rest) (here_at (Lex text) rest x.2)) (subst (λ (v : Slots). IsTrue (seen (ends_row (edge after_word after_word v)) (here rest))) x.0 h)
 
 -- a lexeme was passed before the list
 module _ {text : List ℕ} {g g' : G} {s s' : ℕ} {x : Lexeme} (y : Goes rule (Lex text) (plain full) end g s g' s' (λ us. us) (passing x)) where
@@ -112,7 +107,7 @@ module _ {text : List ℕ} {g g' : G} {s s' : ℕ} {x : Lexeme} (y : Goes rule (
 
 -- a comma
 comma_goes : {text : List ℕ} {f : Flags} (c : Bool) {p q : Parser} → At text f p → p.token.kind ≡ Comma → (m : Moved text f p q) → Goes rule (Lex text) (plain full) end (others c f) p.prev_token_end (list_of c f) q.prev_token_end (λ us. us) (passing m.lexeme)
-comma_goes c a k m = skips a Comma k (plain_sign Comma a k refl refl comma_word) refl m
+comma_goes c a k m = skips a Comma k (plain_sign Comma a k refl refl comma_plain) refl m
 
 commas_here : {text : List ℕ} {f : Flags} {q : Parser} → At text f q → q.token.kind ≡ Comma → (y : Lexeme) → Lex text q.prev_token_end y → IsTrue (seen (is Comma) y)
 commas_here a k y l = and_from _ _ (subst (λ (v : Kind). same_kind Comma v ≡ true) (sym (kind_here a k refl y l)) refl) (ap not (read_plain y l (kind_here a k refl y l) refl))

@@ -4,12 +4,11 @@ use Rattle.std.specs.Prelude.{IfOk, IsCharBoundary, MatchResult, Result, Ok, Err
 use Rattle.std.proofs.lemmas.Bool.{false≢true, and_from, and_parts, or_left, or_right}
 use Rattle.js_base.specs.declared.diagnostic.Diagnostic.{Diagnostic}
 use Rattle.js_base.specs.declared.kind.Kind.{Kind}
-use Rattle.js_base.specs.declared.kind.Kind.TheVariants.{Comma, Eq, LBrack, LCurly, PrivateIdentifier, Undetermined}
+use Rattle.js_base.specs.declared.kind.Kind.TheVariants.{Comma, Eq, LBrack, LCurly, Undetermined}
 use Rattle.js_base.specs.declared.span.Span.{Span}
 use Rattle.js_base.specs.Kinds.{same_kind, one_of_kinds}
-use Rattle.js_base.specs.Texts.{words}
+use Rattle.js_base.specs.KindSets.{binding_identifier_kinds, identifier_name_kinds}
 use Rattle.js_base.proofs.KindLemmas.{kind_of_same}
-use Rattle.js_grammar.specs.Lexemes.{is_word}
 use Rattle.js_grammar.specs.Trees.{Label, Slots, end, hole, tree, no_op, variable_declarator}
 use Rattle.js_grammar.specs.Grammar.{Lexeme, Lexemes, next, here, Look, seen, is, never, such, nothing, empty_slot, Takes, is_nothing, is_lexeme, is_such, is_seq, is_left, is_right, is_empty_slot, is_node, ◌▸◌}
 use Rattle.js_grammar.specs.Insertion.{Row, after_expression, after_declarator, edge}
@@ -37,7 +36,7 @@ use Rattle.js_base.specs.Diagnostics.{class_of}
 use Rattle.js_cursor.specs.Moves.{Keeps as KeepsOne}
 use Rattle.js_parsing_laws.proofs.Escapes.{plain_or_word}
 use Rattle.js_parsing_laws.specs.Answers.{Grown, Verdict, Stretch, Underived, Answer, Numbered, Stops, beside, unclean}
-use Rattle.js_parsing_laws.specs.Lexemes.{Lex, Walked, name_kinds, spot, Plain, read_word}
+use Rattle.js_parsing_laws.specs.Lexemes.{Lex, Walked, spot, Plain}
 use Rattle.js_parsing_laws.specs.Moves.{Moved, MadeHere, plain_label}
 use Rattle.js_parsing_laws.specs.Stands.{NameHere}
 use Rattle.js_parsing_laws.specs.States.{At, Same, NodesLie}
@@ -45,7 +44,7 @@ use Rattle.js_parsing_laws.specs.Statements.{link_kinds, no_link}
 use Rattle.js_parsing_laws.specs.Told.{unrelated_at}
 use Rattle.js_declarations.specs.Declarations.{One, NoOne, Declarator, EndsDeclarator, ChecksInitialiser, behind_row, ends_row, stops_row, missing}
 use Rattle.js_pattern_laws.proofs.Bindings.{no_binding, no_pattern_name}
-use Rattle.js_parsing_laws.proofs.NamedFirsts.{fails_unnamed}
+use Rattle.js_parsing_laws.proofs.NamedFirsts.{fails_unnamed, either_of}
 use Rattle.js_parsing_laws.proofs.NameKinds.{listed_here, name_at, no_listed_name}
 use Rattle.js_parsing_laws.proofs.Giving.{kept_one}
 use Rattle.js_parsing_laws.proofs.Here.{begins_here, kind_here}
@@ -58,14 +57,7 @@ use Rattle.js_parsing_laws.proofs.Tight.{narrows, plain_is_read, plain_lex}
 use Rattle.js_parsing_laws.proofs.Told.{told_at, told_same}
 use Rattle.js_parsing_laws.proofs.Verdicts.{and_then, behind_none, either_way, grown_then, verdict_of}
 use Rattle.js_parsing_laws.proofs.Verdicts.{after as grown_behind}
-
-pub eq_plain : (is_word Eq || same_kind PrivateIdentifier Eq) ≡ false
-unfolding words
-eq_plain = refl
-
-either_of : {T : Type 0} (b c : Bool) → (b || c) ≡ true → (b ≡ true → T) → (c ≡ true → T) → T
-either_of true c h g i = g refl
-either_of false c h g i = i h
+use Rattle.js_parsing_laws.proofs.PlainSigns.{eq_plain}
 
 -- ---- what the line says
 
@@ -103,7 +95,7 @@ unbound {text} {f} {s} c n = record { no = λ ts us k ls rest lx d h. go ts us k
 
 -- no lexeme stands here
 pub none_at : {text : List ℕ} {f : Flags} {p : Parser} (c : Bool) → At text f p → p.token.kind ≡ Undetermined → NoOne text (declarator c f) p.prev_token_end
-none_at c a h = unbound c (no_binding a (λ k e. false≢true (ap (same_kind LBrack) (sym h ∙ k))) (λ k e. false≢true (ap (same_kind LCurly) (sym h ∙ k))) (no_listed_name _ _ _ (ap (one_of_kinds name_kinds) h)))
+none_at c a h = unbound c (no_binding a (λ k e. false≢true (ap (same_kind LBrack) (sym h ∙ k))) (λ k e. false≢true (ap (same_kind LCurly) (sym h ∙ k))) (no_listed_name _ _ _ (ap (one_of_kinds binding_identifier_kinds) h)))
 
 -- ---- what may stand behind a declarator
 
@@ -146,7 +138,7 @@ comma_behind_name = refl
 
 -- what no expression goes on with
 abbrev ends_value : Row → Look
-ends_value r k w e = (not e || read_word k) && (looser 1 true r k w e || beside k w e)
+ends_value r k w e = (not e || one_of_kinds identifier_name_kinds k) && (looser 1 true r k w e || beside k w e)
 
 value_stops : (r : Row) → covers (ends_value r) (stops_row r) ≡ true
 unfolding covers
@@ -304,7 +296,7 @@ declared {text} {f} {c} {p} {w} q {l} {cs} {id} {pass} at same further walked ve
       pass = pass;
       walked = walked;
       verdict = verdict;
-      comma = comma;
+      comma = λ y a b. not_both (is Comma) (ends_row (row_of l cs)) comma y.kind y.newline y.escaped a b;
       stops = stops;
       holds = subst (λ (z : Parser). Holds z.nodes (length p.nodes) (length z.nodes) id.0 l cs) m h;
       keeps = subst (λ (z : Parser). Keeps p.nodes z.nodes) m k;

@@ -6,6 +6,7 @@ use Rattle.js_base.specs.declared.kind.Kind.{Kind}
 use Rattle.js_base.specs.declared.kind.Kind.TheVariants.{Comma, Eq, Ident, In, LBrack, LCurly, Of, Semicolon, Undetermined}
 use Rattle.js_base.specs.declared.span.Span.{Span}
 use Rattle.js_base.specs.Kinds.{same_kind, one_of_kinds}
+use Rattle.js_base.specs.KindSets.{binding_identifier_kinds}
 use Rattle.js_base.proofs.KindLemmas.{kind_of_same}
 use Rattle.js_grammar.specs.Trees.{Label, Slots, append, end, hole, tree, no_op, variable_declarator}
 use Rattle.js_grammar.specs.Grammar.{Lexeme, Lexemes, here, Look, seen, is, such, nothing, empty_slot, seq, Takes, is_nothing, is_lexeme, is_such, is_seq, is_left, is_right, is_empty_slot, is_node, is_commas, ◌▸◌}
@@ -39,18 +40,19 @@ use Rattle.js_declarations.specs.declared.head.HeadDeclarator.{HeadDeclarator}
 use Rattle.js_declarations.specs.declared.head.HeadForm.{HeadForm}
 use Rattle.js_declarations.specs.declared.head.HeadForm.TheVariants as form
 use Rattle.js_declarations.proofs.DeclaratorLists.{Underway, underway_end, underway_init, underway_step}
-use Rattle.js_declarations.proofs.Declarators.{BindingRead, as_binding, eq_plain, bound, declared_bare, declared_with, initialiser_none, name_alone, no_eq_here, unbound}
+use Rattle.js_declarations.proofs.Declarators.{BindingRead, as_binding, bound, declared_bare, declared_with, initialiser_none, name_alone, no_eq_here, unbound}
 use Rattle.js_pattern_laws.proofs.Bindings.{no_binding, no_pattern_name}
 use Rattle.js_parsing_laws.proofs.Here.{unsettled}
 use Rattle.js_parsing_laws.proofs.NameKinds.{listed_here, listed_name, name_at, no_listed_name}
 use Rattle.js_parsing_laws.proofs.NamedFirsts.{fails_unnamed}
-use Rattle.js_parsing_laws.specs.Lexemes.{escaped_word, name_kinds}
+use Rattle.js_parsing_laws.specs.Lexemes.{escaped_word}
 use Rattle.js_parsing_laws.proofs.MadeNodes.{node_held, two_held, made_lies}
 use Rattle.js_parsing_laws.proofs.Moving.{beside_nodes, same_both, same_with, stops_behind}
 use Rattle.js_parsing_laws.proofs.Paths.{Path, ◌⟶◌, ◌⟶✗◌, by_symbol_as, fails_at, label_here, last_called, noded, noded_by, token, walked_both}
 use Rattle.js_parsing_laws.proofs.Signs.{plain_sign, stands_not, word_there}
 use Rattle.js_parsing_laws.proofs.Verdicts.{and_then, either_way, grown_then, verdict_of}
 use Rattle.js_parsing_laws.proofs.Verdicts.{after as grown_behind}
+use Rattle.js_parsing_laws.proofs.PlainSigns.{eq_plain}
 
 -- ---- whether `in` or `of` stands there
 
@@ -75,7 +77,7 @@ in_or_of k h = by (same_kind In k) refl h
     by true e h = inl (sym (kind_of_same In k e))
     by false e h = last (same_kind Of k) refl h
 
-through_not : {text : List ℕ} {f : Flags} {q : Parser} → At text f q → ThroughHere q false → (y : Lexeme) → Lex text q.prev_token_end y → IsTrue (seen goes_through y) → ⊥
+pub through_not : {text : List ℕ} {f : Flags} {q : Parser} → At text f q → ThroughHere q false → (y : Lexeme) → Lex text q.prev_token_end y → IsTrue (seen goes_through y) → ⊥
 through_not a n y l h = by (in_or_of y.kind parts.0)
   where
     parts : (one_of_kinds (In ∷ Of ∷ []) y.kind ≡ true) × (not y.escaped ≡ true)
@@ -302,7 +304,7 @@ module _ {text : List ℕ} {f : Flags} {p q r : Parser} {binding : NodeId} (a : 
 
 -- where no lexeme stands
 pub none_at_head : {text : List ℕ} {f : Flags} {p : Parser} (c : Bool) → At text f p → p.token.kind ≡ Undetermined → NoHeadDeclarator text f c p.prev_token_end
-none_at_head c a h = no_head_declarator c (no_binding a (λ k e. false≢true (ap (same_kind LBrack) (sym h ∙ k))) (λ k e. false≢true (ap (same_kind LCurly) (sym h ∙ k))) (no_listed_name _ _ _ (ap (one_of_kinds name_kinds) h)))
+none_at_head c a h = no_head_declarator c (no_binding a (λ k e. false≢true (ap (same_kind LBrack) (sym h ∙ k))) (λ k e. false≢true (ap (same_kind LCurly) (sym h ∙ k))) (no_listed_name _ _ _ (ap (one_of_kinds binding_identifier_kinds) h)))
 
 pub through_so : (p : Parser) {b r : Bool} → r ≡ b → ThroughHere p r → ThroughHere p b
 through_so p e h = subst (λ (v : Bool). ThroughHere p v) e h

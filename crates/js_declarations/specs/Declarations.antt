@@ -1,21 +1,19 @@
 -- What is read of the declarators of a declaration (ECMA-262, 14.3.1, 14.3.2).
-use Rattle.std.specs.Prelude.{ℕ, ◌≡◌, ◌≤◌, ◌<◌, ◌⊎◌, Bool, true, false, not, ◌||◌, IsTrue, List, [], ◌∷◌, ◌++◌, Option, Some, None, length, Result, Ok, Err}
+use Rattle.std.specs.Prelude.{ℕ, ◌≡◌, ◌≤◌, ◌<◌, ◌⊎◌, Bool, true, false, not, ◌&&◌, ◌||◌, IsTrue, List, [], ◌∷◌, ◌++◌, Option, Some, None, length, Result, Ok, Err}
 use Rattle.js_base.specs.declared.diagnostic.Diagnostic.{Diagnostic}
 use Rattle.js_base.specs.declared.diagnostic.DiagnosticKind.{DiagnosticKind}
 use Rattle.js_base.specs.declared.diagnostic.DiagnosticKind.TheVariants.{InvalidDestructuringDeclaration, MissingInitializerInConst}
-use Rattle.js_base.specs.declared.kind.Kind.TheVariants.{Comma, Const}
+use Rattle.js_base.specs.declared.kind.Kind.TheVariants.{Comma, Const, Semicolon}
 use Rattle.js_base.specs.declared.span.Span.{Span}
 use Rattle.js_base.specs.Kinds.{same_kind, one_of_kinds}
 use Rattle.js_grammar.specs.Trees.{Label, Slots, end, tree}
-use Rattle.js_grammar.specs.Grammar.{Lexeme, Lexemes, here, Look, seen, is, commas, Takes}
+use Rattle.js_grammar.specs.Grammar.{Lexeme, Lexemes, here, Look, seen, is, may_omit, commas, Takes}
 use Rattle.js_grammar.specs.Insertion.{Row, after_word, edge, goes_on}
 use Rattle.js_grammar.specs.Lexed.{Lexes}
 use Rattle.js_grammar.specs.Follow.{row_of, first_edge}
 use Rattle.js_grammar.specs.Parsing.{Passes, Reaches}
 use Rattle.js_grammar.specs.Productions.{G, Flags}
 use Rattle.js_grammar.specs.Table.{rule, declarator}
-use Rattle.js_grammar.proofs.Calculus.{closes}
-use Rattle.js_grammar.proofs.Looks.{apart}
 use Rattle.js_tree.specs.declared.id.NodeId.{NodeId}
 use Rattle.js_tree.specs.declared.op.DeclarationKind.{DeclarationKind}
 use Rattle.js_tree.specs.declared.kind.NodeKind.TheVariants.{VariableDeclarator}
@@ -42,7 +40,7 @@ list_of c f = commas false (declarator c f)
 
 -- what ends a declaration, by the row of its last declarator
 abbrev pub ends_row : Row → Look
-ends_row r = closes (goes_on r) no_link
+ends_row r k w e = is Semicolon k w e || (may_omit (goes_on r) k w e && no_link k w e)
 
 -- what may stand behind a declarator: a comma, or what ends the declaration
 abbrev pub behind_row : Row → Look
@@ -77,7 +75,7 @@ pub record Declarator (text : List ℕ) (f : Flags) (c : Bool) (p q : Parser) (i
   pub walked : Walked text (spot p) (spot q) pass
   pub verdict : Verdict (f.wide ≡ true) p.errors q.errors (One text (declarator c f) p.prev_token_end q.prev_token_end label slots pass) (NoOne text (declarator c f) p.prev_token_end)
   -- with a comma behind it the declaration goes on; without one, and where `in` is an operator, nothing goes on with it
-  pub comma : apart (is Comma) (ends_row (row_of label slots)) ≡ true
+  pub comma : (y : Lexeme) → IsTrue (seen (is Comma) y) → IsTrue (seen (ends_row (row_of label slots)) y) → ⊥
   pub stops : f.in_ ≡ true → (q.token.kind ≡ Comma → ⊥) → (y : Lexeme) → Plain text q.prev_token_end y → IsTrue (seen (stops_row (row_of label slots)) y)
   pub holds : Holds q.nodes (length p.nodes) (length q.nodes) id.0 label slots
   pub keeps : Keeps p.nodes q.nodes

@@ -1,13 +1,13 @@
 -- Arrow functions (ECMA-262, 15.3 and 15.9), and where none is derived.
 use Rattle.std.proofs.Common.{ℕ, ◌≡◌, ◌≤◌, ◌<◌, inl, inr, List, [], ◌∷◌, length, Bool, true, false, not, cond, ◌&&◌, ◌||◌, IsTrue, Option, Some, None, refl, sym, ap, subst, arith, ◌∙◌, ◌+◌, ◌⊎◌, max}
 use Rattle.std.specs.Prelude.{IsCharBoundary, Result, Ok, Err, nat_lt}
-use Rattle.std.proofs.lemmas.Bool.{false≢true, and_parts, or_left, or_right}
+use Rattle.std.proofs.lemmas.Bool.{false≢true, and_parts, or_left, or_right, not-true}
 use Rattle.js_base.specs.Contexts.{has_flag, yield_flag}
 use Rattle.js_base.specs.declared.kind.Kind.{Kind}
 use Rattle.js_base.specs.declared.kind.Kind.TheVariants.{Arrow, Await, Comma, LParen, LCurly, RAngle, Yield, RegExp, Async}
 use Rattle.js_base.specs.declared.span.Span.{Span}
 use Rattle.js_base.specs.Kinds.{same_kind, one_of_kinds}
-use Rattle.js_base.specs.Texts.{words}
+use Rattle.js_base.specs.KindSets.{binding_identifier_kinds}
 use Rattle.js_base.proofs.KindLemmas.{kind_of_same}
 use Rattle.js_grammar.specs.Trees.{Span as TreeSpan, Label, Slots, end, tree, no_op, arrow_function_expression}
 use Rattle.js_grammar.specs.Grammar.{Lexeme, Lexemes, Look, last, next, here, seen, is, such, nothing, exact, Make, node, Takes, ◌▸◌, ◌◇◌, is_nothing, is_seq, is_lexeme, is_look, is_such, is_left, is_right, is_node, is_empty_slot, alt}
@@ -28,9 +28,8 @@ use Rattle.js_grammar.proofs.Calculus.{On, Inside, inside_full, ◌▹◌, ◌�
 use Rattle.js_grammar.proofs.FollowLaws.{fails_by}
 use Rattle.js_base.specs.declared.token.Token.{Token}
 use Rattle.js_grammar.specs.Grammar.{empty_slot}
-use Rattle.js_grammar.specs.Lexemes.{is_word, division}
+use Rattle.js_grammar.specs.Lexemes.{division}
 use Rattle.js_grammar.specs.Productions.{BindingIdentifier}
-use Rattle.js_base.specs.declared.kind.Kind.TheVariants.{PrivateIdentifier}
 use Rattle.js_grammar.specs.Trees.{NodeKind, hole, formal_parameters, formal_parameter, binding_identifier}
 use Rattle.js_grammar.proofs.Calculus.{fails_rule, weaken_fails_on, reads_empty_slot}
 use Rattle.js_grammar.proofs.FollowLaws.{same_read}
@@ -53,6 +52,7 @@ use Rattle.js_tree.specs.declared.op.Op.TheVariants as op_made
 use Rattle.js_tree.specs.Nodes.{Node}
 use Rattle.js_tree.specs.Holding.{Holds, Keeps}
 use Rattle.js_tree.proofs.HoldingLemmas.{Holds-wider, HoldsAll-one, HoldsAll-hole, Keeps-longer, Keeps-refl, Keeps-trans, Keeps-made}
+use Rattle.js_tree.proofs.Coverings.{or_false}
 use Rattle.js_cursor.specs.Checkpoints.{Remembers, GoesBack}
 use Rattle.js_cursor.specs.declared.checkpoint.ParserCheckpoint.{ParserCheckpoint}
 use Rattle.js_cursor.specs.declared.stop.Stop.{Stop}
@@ -77,7 +77,7 @@ use Rattle.js_expression_laws.proofs.OnePlace.{calm, one_alone, one_move, one_to
 use Rattle.js_expression_laws.proofs.ParenthesizedFronts.{no_arrow_admitted, args_one}
 use Rattle.js_cursor.specs.Tokens.{may_be_read_again}
 use Rattle.js_parsing_laws.proofs.KeptTokens.{before_back, last_back}
-use Rattle.js_parsing_laws.specs.Lexemes.{Lex, name_kinds, other_goals, signs, spot, slashes, Plain, may_name, Walked}
+use Rattle.js_parsing_laws.specs.Lexemes.{Lex, other_goals, signs, spot, slashes, Plain, may_name, Walked}
 use Rattle.js_parsing_laws.specs.Moves.{Moved, MadeHere, LeafTaken, TakesLeaf, plain_label}
 use Rattle.js_parsing_laws.specs.States.{At, Same, Standing, IsPlain, whole, sign, nothing as nothing_here, NodesLie, SpansLie}
 use Rattle.js_targets.proofs.ArraysBeforeSigns.{is_cover}
@@ -89,8 +89,6 @@ use Rattle.js_expression_laws.proofs.Assignments.{by_second, second}
 use Rattle.js_expression_laws.proofs.Conditionals.{conditional_none}
 use Rattle.js_parsing_laws.proofs.Signs.{other_kind, plain_sign}
 use Rattle.js_parsing_laws.proofs.Told.{beside_errors}
-use Rattle.js_parsing_laws.proofs.Unbuilt.{nothing_unbuilt}
-use Rattle.js_parsing_laws.proofs.ToEnd.{to_end_stays}
 use Rattle.js_parsing_laws.proofs.Giving.{kept_one, fails_unescaped}
 use Rattle.js_parsing_laws.proofs.Here.{angled, found, plainly, one_plain, newline_here, kind_here, told, uncut, told_plain}
 use Rattle.js_parsing_laws.proofs.MadeNodes.{leaf_held, node_held, two_held, one_lies, one_lies_in, LabelLies, from_start}
@@ -104,6 +102,7 @@ use Rattle.js_parsing_laws.proofs.Escapes.{read_plain, escaped_unnamed}
 use Rattle.js_parsing_laws.proofs.Verdicts.{grown_both, grown_first, grown_on, grown_then}
 use Rattle.js_parsing_laws.specs.Classes.{IsEarly}
 use Rattle.js_parsing_laws.proofs.Classes.{kept_early}
+use Rattle.js_parsing_laws.proofs.PlainSigns.{arrow_plain}
 use Rattle.std.proofs.lemmas.List.Elements.{All-same}
 
 -- ---- what begins like a head, with `=>` behind it, is no operand
@@ -213,10 +212,6 @@ both_lines : (f : Flags) → rule (at Arrow' f) ≡ alt (arrow_line false f) (ar
 unfolding rule rule_of
 both_lines f = refl
 
-or_false : (b : Bool) → (b || false) ≡ b
-or_false true = refl
-or_false false = refl
-
 -- without `async` the parameters are those around
 pub plain_head_flags : (f : Flags) → arrow_head false f ≡ f
 plain_head_flags f = ap (λ (b : Bool). record f { await_ = b }) (or_false f.await_)
@@ -280,33 +275,33 @@ one_arrow {text} {f} {s} n = record { no = λ ts vs k ls rest l d e. go ts vs k 
     go ts vs k ls rest l (is_seq {mid = mid} d (is_lexeme {x = x} q)) = let z = head_one d in n ls mid z.0 l z.1 (and_parts (same_kind Arrow x.kind) _ q).0
 
 -- a name is no bracket
-name_no_bracket : (k : Kind) → one_of_kinds name_kinds k ≡ true → bracket k ≡ bracket_plain
+name_no_bracket : (k : Kind) → one_of_kinds binding_identifier_kinds k ≡ true → bracket k ≡ bracket_plain
 unfolding apart
 name_no_bracket k h = not_bracket k false false (λ b. not_both a_name brackets refl k false false h b)
 
-calm_name : (k : Kind) → one_of_kinds name_kinds k ≡ true → calm k ≡ true
+calm_name : (k : Kind) → one_of_kinds binding_identifier_kinds k ≡ true → calm k ≡ true
 unfolding covers apart
 calm_name k h = ap not (name_apart (RegExp ∷ slashes) refl k h)
 
 -- nor does a name begin with a slash
-name_calm : {ls r : Lexemes} {e : ℕ} (o : One [] ls e r) → one_of_kinds name_kinds (here ls).kind ≡ true → AllCalm o
+name_calm : {ls r : Lexemes} {e : ℕ} (o : One [] ls e r) → one_of_kinds binding_identifier_kinds (here ls).kind ≡ true → AllCalm o
 unfolding bracket move
 name_calm (the_last {x = x} m) h = calm_name x.kind h
 name_calm (and_more {b = b} {s = t} {x = x} m o) h = absurd (none_open (subst (λ (v : Bracket). move v [] ≡ Some (b ∷ t)) (name_no_bracket x.kind h) m))
 
-pub no_arrow_behind : {text : List ℕ} {f : Flags} {p : Parser} → At text f p → one_of_kinds name_kinds p.token.kind ≡ true → ((y : Lexeme) → Lex text p.token.span.end y → y.kind ≡ Arrow → ⊥) → NoLine text f p.prev_token_end
+pub no_arrow_behind : {text : List ℕ} {f : Flags} {p : Parser} → At text f p → one_of_kinds binding_identifier_kinds p.token.kind ≡ true → ((y : Lexeme) → Lex text p.token.span.end y → y.kind ≡ Arrow → ⊥) → NoLine text f p.prev_token_end
 unfolding bracket move
 no_arrow_behind {text} {f} {p} a k n = one_arrow (λ ls mid e l o q. go ls mid e l o q)
   where
     there : (x : Lexeme) → Lex text p.prev_token_end x → (bracket x.kind ≡ bracket_plain) × (p.token.span.end ≡ x.to)
-    there x l = let t = told a (name_whole a k).0 (name_signless p.token.kind k) x l in (name_no_bracket x.kind (subst (λ (v : Kind). one_of_kinds name_kinds v ≡ true) t.kind k), t.end)
+    there x l = let t = told a (name_whole a k).0 (name_signless p.token.kind k) x l in (name_no_bracket x.kind (subst (λ (v : Kind). one_of_kinds binding_identifier_kinds v ≡ true) t.kind k), t.end)
 
     go : (ls mid : Lexemes) (e : ℕ) → Lexes (Lex text) p.prev_token_end ls → One [] ls e mid → same_kind Arrow (here mid).kind ≡ true → ⊥
     go ls mid e l (the_last {x = x} m) q = n (here mid) (subst (λ (v : ℕ). Lex text v (here mid)) (sym (there x l.0).1) (here_at (Lex text) mid l.1)) (sym (kind_of_same Arrow (here mid).kind q))
     go ls mid e l (and_more {b = b} {s = t} {x = x} m o) q = none_open (subst (λ (v : Bracket). move v [] ≡ Some (b ∷ t)) (there x l.0).0 m)
 
 module _ {text : List ℕ} {f : Flags} {p : Parser} (a : At text f p) where
-  name_only : {X : Test} → one_of_kinds name_kinds p.token.kind ≡ true → Fails rule (Lex text) X end (symbol Params f) p.prev_token_end
+  name_only : {X : Test} → one_of_kinds binding_identifier_kinds p.token.kind ≡ true → Fails rule (Lex text) X end (symbol Params f) p.prev_token_end
   unfolding covers apart
   name_only k = fails_at a (symbol Params f) (LParen ∷ []) refl (name_apart (LParen ∷ []) refl _ k)
 
@@ -317,7 +312,7 @@ module _ {text : List ℕ} {f : Flags} {p : Parser} (a : At text f p) where
   -- parentheses as the parameters
   no_name : (g : Flags) {X : Test} → p.token.kind ≡ LParen → Fails rule (Lex text) X end (mk formal_parameters (mk formal_parameter (symbol BindingIdentifier g ▸ empty_slot))) p.prev_token_end
   unfolding covers apart
-  no_name g k = fails_at a (mk formal_parameters (mk formal_parameter (symbol BindingIdentifier g ▸ empty_slot))) name_kinds refl (ap (one_of_kinds name_kinds) k)
+  no_name g k = fails_at a (mk formal_parameters (mk formal_parameter (symbol BindingIdentifier g ▸ empty_slot))) binding_identifier_kinds refl (ap (one_of_kinds binding_identifier_kinds) k)
 
   pub no_parameters : {g : Flags} → Underived text (at Params g) p.prev_token_end → NoHead text g p.prev_token_end
   no_parameters n = part_fails {X' = plain full} (weaken_fails_on n (record { admits = λ ts vs k ls rest d e. (refl, refl) })) (record { admits = λ ts us vs j k ls mid rest d d' e. (refl, refl) })
@@ -346,10 +341,6 @@ module _ {text : List ℕ} {f : Flags} {p : Parser} (a : At text f p) where
     pub unarrowed : (q.token.kind ≡ Arrow → ⊥) → NoHead text f p.prev_token_end
     unfolding covers apart
     unarrowed n = then_any parameters_alone ⟶✗ fails_at x.at {X = plain full} (tok Arrow) (Arrow ∷ []) refl (other_kind Arrow q.token.kind n)
-
-arrow_plain : (is_word Arrow || same_kind PrivateIdentifier Arrow) ≡ false
-unfolding words
-arrow_plain = refl
 
 -- ---- what stands behind a name
 
@@ -382,10 +373,6 @@ module _ {text : List ℕ} {f : Flags} {p : Parser} {t : Token} (a : At text f p
           (x.lexeme, (x.stands.lex, read_of x.lexeme i refl), i)
 
 -- ---- what is answered of a head
-
-not_true : (b : Bool) → not b ≡ true → b ≡ false
-not_true true h = absurd (false≢true h)
-not_true false h = refl
 
 head_of_path : {text : List ℕ} {f : Flags} {p q : Parser} (w : Parser) {l : Label} {cs : Slots} {id : NodeId} → Path text f (plain full) (head_of f) p nothing q (tree l cs) → q.errors ≡ p.errors → Same p q → w ≡ record q { nodes = w.nodes } → Holds w.nodes (length p.nodes) (length w.nodes) id.0 l cs → Keeps p.nodes w.nodes → (IsCharBoundary p.text p.token.span.start → NodesLie q.text q.nodes → NodesLie q.text w.nodes) → Head text f f p w id
 head_of_path {text} {f} {p} {q} w {l} {cs} {id} r e s n h k i = go w.nodes n h k i
@@ -496,7 +483,7 @@ name_found {p} {q} {w} {id} a b s = (k, head, b.1)
 
 -- no YieldExpression begins with a name
 no_yield_named : {text : List ℕ} {f : Flags} {p : Parser} → At text f p → may_name f.yield_ f.await_ p.token.kind ≡ true → NoYield text f p.prev_token_end
-no_yield_named {f = f} a k = no_yield a (λ e. not_true f.yield_ (subst (λ (v : Kind). may_name f.yield_ f.await_ v ≡ true) e k))
+no_yield_named {f = f} a k = no_yield a (λ e. not-true f.yield_ (subst (λ (v : Kind). may_name f.yield_ f.await_ v ≡ true) e k))
 
 -- nor with a parenthesis
 pub no_yield_paren : {text : List ℕ} {f : Flags} {p : Parser} → At text f p → p.token.kind ≡ LParen → NoYield text f p.prev_token_end
@@ -506,11 +493,11 @@ no_yield_paren a k = no_yield a (λ i. let z : LParen ≡ Yield = sym k ∙ i in
 pub named_head : {p w : Parser} {id : NodeId} → Standing p → NameHere p true → NamesHead p w (Some id) → IsHeadHere p w id
 named_head {p} {w} {id} a n h = (h.0, (λ text f b. a_head (h.1 text f b) (no_yield_named b (name_at true b n)) (none text f b)), none)
   where
-    listed : one_of_kinds name_kinds p.token.kind ≡ true
+    listed : one_of_kinds binding_identifier_kinds p.token.kind ≡ true
     listed = listed_here p n
 
-    named : {text : List ℕ} {f : Flags} → At text f p → (x : Lexeme) → Lex text p.prev_token_end x → one_of_kinds name_kinds x.kind ≡ true
-    named a x l = subst (λ (v : Kind). one_of_kinds name_kinds v ≡ true) (told a (name_whole a listed).0 (name_signless p.token.kind listed) x l).kind listed
+    named : {text : List ℕ} {f : Flags} → At text f p → (x : Lexeme) → Lex text p.prev_token_end x → one_of_kinds binding_identifier_kinds x.kind ≡ true
+    named a x l = subst (λ (v : Kind). one_of_kinds binding_identifier_kinds v ≡ true) (told a (name_whole a listed).0 (name_signless p.token.kind listed) x l).kind listed
 
     none : (text : List ℕ) (f : Flags) → At text f p → Underived text (at Short f) p.prev_token_end
     none text f a = head_no_operand (h.1 text f a) h.0 (λ ls r i l o b. name_calm o (named a (here ls) (here_at (Lex text) ls l)))
@@ -618,7 +605,7 @@ pub head_refused : {p q : Parser} (e : Stop) → Standing p → e ≡ Fatal → 
 head_refused {p} {q} e a i s = go (λ text f b. subst (λ (v : Stop). Stops p q v (Underived text (at Params f) p.prev_token_end)) i (s text f b))
   where
     go : ((text : List ℕ) (f : Flags) → At text f p → Refuses p q (Underived text (at Params f) p.prev_token_end)) → WentOn p q × NoParametersHere p
-    go x = let y = x _ _ a in (((y.follows, y.at), y.heads, y.lies), λ text f b. no_parameters b ((x text f b).none nothing_unbuilt))
+    go x = let y = x _ _ a in (((y.follows, y.at), y.heads, y.lies), λ text f b. no_parameters b (x text f b).none)
 
 -- what was found
 pub some_found : (p q : Parser) (head : ArrowHead) (r : Option ArrowHead) → r ≡ Some head → FindsAnyHead p q r → IsHeadBefore head.is_async p q head.parameters
@@ -701,7 +688,7 @@ plain_back {text} {p} {r} t c e (nothing_here d k n) = nothing_here (c ∙ d) (a
 pub went_back : {p q r : Parser} {c : ParserCheckpoint} → may_be_read_again p.token.kind ≡ false → Remembers p c → WentOn p q → GoesBack c q r → Unmoved p r
 went_back {p} {q} {r} o m (f, n, l) g =
     let b = came_back m f.0 g in
-    let s : Same p r = record { follows = back_follows m f.0 g; options = g.options ∙ f.0.options; ctx = b.ctx; depth = b.depth; visits = b.visits; early = λ h. All-same IsEarly r.errors p.errors b.errors h; lies = λ h. (g.at.lies.starts_whole, nodes_lie q r g.text g.nodes (l h)); meets = to_end_stays p r b.text b.prev_token_end } in
+    let s : Same p r = record { follows = back_follows m f.0 g; options = g.options ∙ f.0.options; ctx = b.ctx; depth = b.depth; visits = b.visits; early = λ h. All-same IsEarly r.errors p.errors b.errors h; lies = λ h. (g.at.lies.starts_whole, nodes_lie q r g.text g.nodes (l h)) } in
     record {
       at = λ text f a. record { text_is = b.text ∙ a.text_is; flags_are = flags_same p r b.ctx b.source_type s.options ∙ a.flags_are; at = g.at; plain = plain_back b.token b.cut b.prev_token_end a.plain; behind = let i = b.prev_token_end in let j = ap (λ z. z.span.start) b.token in let k = a.behind in omega arith; heads = heads_kept q r g.text g.source_type g.options (ap (λ (z : Notes). z.failed) g.state) (ap (λ (z : Notes). z.operands) g.state) n; kept_last = last_back p.lexer r.lexer b.token b.keeps_tokens (b.tokens o) a.kept_last };
       same = s;
@@ -884,7 +871,7 @@ line_at {text} {f} a (inl (e, c)) = subst (At text f) (sym c.is) (beside_errors 
 line_at {text} {f} a (inr (e, i)) = subst (At text f) (sym i) a
 
 pub line_same : {p q : Parser} → ChecksLine p q → Same p q
-line_same {p} {q} (inl (e, c)) = record { follows = keeps_follows c; options = ap (λ (z : Parser). z.options) c.is; ctx = ap (λ (z : Parser). z.ctx) c.is; depth = ap (λ (z : Parser). z.depth) c.is; visits = ap (λ (z : Parser). z.visits) c.is; early = λ h. kept_early c refl h; lies = λ h. subst SpansLie (sym c.is) h; meets = to_end_stays p q (ap (λ (z : Parser). z.text) c.is) (ap (λ (z : Parser). z.prev_token_end) c.is) }
+line_same {p} {q} (inl (e, c)) = record { follows = keeps_follows c; options = ap (λ (z : Parser). z.options) c.is; ctx = ap (λ (z : Parser). z.ctx) c.is; depth = ap (λ (z : Parser). z.depth) c.is; visits = ap (λ (z : Parser). z.visits) c.is; early = λ h. kept_early c refl h; lies = λ h. subst SpansLie (sym c.is) h }
 line_same {p} (inr (e, i)) = subst (λ (z : Parser). Same p z) (sym i) same_itself
 
 pub line_place : {p q : Parser} → ChecksLine p q → q.prev_token_end ≡ p.prev_token_end

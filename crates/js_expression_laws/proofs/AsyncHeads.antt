@@ -1,19 +1,18 @@
 -- Arrow functions behind `async` (ECMA-262, 15.9): what stands there is a head alone, or none does.
 use Rattle.std.proofs.Common.{ℕ, ◌≡◌, inl, inr, List, [], ◌∷◌, length, Bool, true, false, not, ◌&&◌, ◌||◌, IsTrue, Option, Some, None, refl, sym, ap, subst, arith, ◌∙◌}
 use Rattle.std.specs.Prelude.{MatchResult, Result, Ok, Err}
-use Rattle.std.proofs.lemmas.Bool.{false≢true, and_parts, and_from, or_left, or_right}
+use Rattle.std.proofs.lemmas.Bool.{false≢true, and_parts, and_from, or_left, or_right, not-true}
 use Rattle.js_base.specs.declared.kind.Kind.{Kind}
-use Rattle.js_base.specs.declared.kind.Kind.TheVariants.{Arrow, Async, In, LBrack, LCurly, LParen, Of, PrivateIdentifier, Question, RAngle, Yield}
+use Rattle.js_base.specs.declared.kind.Kind.TheVariants.{Arrow, Async, In, LBrack, LCurly, LParen, Of, Question, RAngle, Yield}
 use Rattle.js_base.specs.declared.token.Token.{Token}
 use Rattle.js_base.specs.Kinds.{same_kind, one_of_kinds}
-use Rattle.js_base.specs.Texts.{words}
+use Rattle.js_base.specs.KindSets.{binding_identifier_kinds, identifier_name_kinds}
 use Rattle.js_base.proofs.KindLemmas.{kind_of_same}
 use Rattle.js_grammar.specs.Trees.{Label, Slots, end, tree}
 use Rattle.js_grammar.specs.Grammar.{Lexeme, Lexemes, Look, here, is, next, seen, alt, such, Takes, is_seq, is_lexeme, is_look, is_left, is_right, is_such, is_node, ◌▸◌}
 use Rattle.js_grammar.specs.Follow.{after, looser}
 use Rattle.js_grammar.specs.Insertion.{Row, assign_operators, may_bind, after_expression, after_postfix, after_body, after_yield, after_declarator, after_word}
 use Rattle.js_grammar.specs.Lexed.{Lexes}
-use Rattle.js_grammar.specs.Lexemes.{is_word}
 use Rattle.js_grammar.specs.Parsing.{Fails, plain, full, always}
 use Rattle.js_grammar.specs.Productions.{Flags, Symbol, at, any_of, branches, Arrow', Assignment, Conditional, Params, Short, SimpleTarget, Target, ArrayTarget, ObjectTarget}
 use Rattle.js_grammar.specs.Productions.{sym as symbol}
@@ -38,7 +37,7 @@ use Rattle.js_cursor.proofs.Later.{follows_on}
 use Rattle.js_parsing_laws.specs.Answers.{Underived}
 use Rattle.js_parsing_laws.specs.Contexts.{arrow_head}
 use Rattle.js_parsing_laws.specs.Heads.{NoHead, OnlyArrow}
-use Rattle.js_parsing_laws.specs.Lexemes.{Lex, name_kinds, other_goals, read_kinds, signs, read_word}
+use Rattle.js_parsing_laws.specs.Lexemes.{Lex, other_goals, signs, is_read_kind}
 use Rattle.js_parsing_laws.specs.Moves.{Moved, Moves}
 use Rattle.js_parsing_laws.specs.Stands.{StandsHere}
 use Rattle.js_parsing_laws.specs.States.{At, Standing}
@@ -52,6 +51,7 @@ use Rattle.js_parsing_laws.proofs.Verdicts.{grown_then}
 use Rattle.js_operand_laws.proofs.Operands.{name_signless}
 use Rattle.js_targets.proofs.ArraysBeforeSigns.{array_part, is_cover}
 use Rattle.js_targets.proofs.Assigned.{arrow_passes, assign_part, assign_slots, no_branch, no_yield, only_arrow, to_choice}
+use Rattle.js_targets.proofs.ArrayElements.{contrary}
 use Rattle.js_expression_laws.specs.Arrows.{AsyncHead, list_head, name_head, AsyncHeadBegins, AsyncPassed, AttemptsHead, BeforeArrow, led_head, told_led, BehindWord, FindsAnyHead, FindsAsyncHead, FindsHead, Head, HeadBehindAsync, read_clean, read_unclean, IsHeadBefore, IsHeadOf, NoAsyncHere, NoLed, NoLine, OnlyLed, PlainHead, a_head, told_head, SearchesHead, SearchesPlainHead, ToldHead, Unmoved, WentOn, lead_of, line_of}
 use Rattle.js_expression_laws.specs.declared.forms.ArrowHead.{ArrowHead}
 use Rattle.js_expression_laws.specs.HeadOperands.{NoTargetPart}
@@ -84,7 +84,7 @@ one_passed (the_last {x = x} {ls = ls} m) = (x, ls, refl)
 one_passed (and_more {x = x} {ls = ls} m o) = (x, ls, refl)
 
 abbrev a_head_there : Look
-a_head_there k w e = begins_head k w e && (not w && (not e || read_word k))
+a_head_there k w e = begins_head k w e && (not w && (not e || one_of_kinds identifier_name_kinds k))
 
 -- an operand doesn't end before a head on its line
 head_binds : (b : Bool) → covers a_head_there (λ k w e. not (looser 2 b after_expression k w e)) ≡ true
@@ -106,10 +106,6 @@ arrow_binds b after_body h = absurd (false≢true h)
 arrow_binds b after_yield h = absurd (false≢true h)
 arrow_binds b after_declarator h = absurd (false≢true h)
 arrow_binds b after_word h = absurd (false≢true h)
-
-contrary : (b : Bool) → not b ≡ true → b ≡ true → ⊥
-contrary true h e = false≢true h
-contrary false h e = false≢true e
 
 -- neither an operator of an assignment nor a question mark begins a head, nor is it `=>`
 abbrev begins_or_arrow : Look
@@ -233,7 +229,7 @@ module _ {text : List ℕ} {f : Flags} {s t : ℕ} (w : (y : Lexeme) → Lex tex
 
 -- ---- the state at `async`
 
-name_listed : one_of_kinds name_kinds Async ≡ true
+name_listed : one_of_kinds binding_identifier_kinds Async ≡ true
 name_listed = refl
 
 module _ {text : List ℕ} {f : Flags} {p : Parser} (a : At text f p) (k : p.token.kind ≡ Async) where
@@ -252,7 +248,7 @@ module _ {text : List ℕ} {f : Flags} {p : Parser} (a : At text f p) (k : p.tok
     only_led : OnlyLed true text f p.prev_token_end
     only_led = record {
       arrow = to_choice f p.prev_token_end (no_yield a (λ e. let z : Async ≡ Yield = sym k ∙ e in absurd (cc))) ▹ (right (conditional_fails the_word b o) ▹ left (assignments_fail the_word b o no_array));
-      other = no_plain_led f (no_arrow_behind a (ap (one_of_kinds name_kinds) k ∙ name_listed) (λ y l e. false≢true (ap (λ (k : Kind). may_bind k || same_kind LParen k) (sym e) ∙ (b y l).1)));
+      other = no_plain_led f (no_arrow_behind a (ap (one_of_kinds binding_identifier_kinds) k ∙ name_listed) (λ y l e. false≢true (ap (λ (k : Kind). may_bind k || same_kind LParen k) (sym e) ∙ (b y l).1)));
     }
 
     no_target_there : NoTargetPart text f p.prev_token_end
@@ -272,10 +268,6 @@ module _ {text : List ℕ} {f : Flags} {p : Parser} (a : At text f p) (k : p.tok
             n.no ts vs j mid rest (subst (λ (v : ℕ). Lexes (Lex text) v mid) e l.1) (subst (λ (v : ℕ). Takes rule (line_of (arrow_head true f)) end ts v mid vs j rest) e d) (refl, refl)
 
 -- ---- a head behind it
-
-paren_plain : (is_word LParen || same_kind PrivateIdentifier LParen) ≡ false
-unfolding words
-paren_plain = refl
 
 module _ {text : List ℕ} {f : Flags} {q w : Parser} {id : NodeId} (a : At text f q) where
   behind_so : AsyncHead text f q w id → Behind text f q.prev_token_end
@@ -352,12 +344,8 @@ module _ {p q : Parser} (k : StandsHere p Async true) (b : (text : List ℕ) (f 
 
 -- ---- whether one begins
 
-is_off : (b : Bool) → not b ≡ true → b ≡ false
-is_off true h = absurd (false≢true h)
-is_off false h = refl
-
 abbrev a_first : Look
-a_first k w e = one_of_kinds (LParen ∷ name_kinds) k
+a_first k w e = one_of_kinds (LParen ∷ binding_identifier_kinds) k
 
 firsts_begin : covers a_first begins_head ≡ true
 unfolding covers
@@ -371,7 +359,7 @@ begins_plain : covers begins_head (λ k w e. not (is_right_angle k) && not (one_
 unfolding covers
 begins_plain = refl
 
-begins_first : covers (λ k w e. begins_head k w e && one_of_kinds read_kinds k) a_first ≡ true
+begins_first : covers (λ k w e. begins_head k w e && is_read_kind k) a_first ≡ true
 unfolding covers
 begins_first = refl
 
@@ -382,7 +370,7 @@ led_unless {text} {f} {p} a k n = record { no = λ ts vs j ls rest l d e. go ts 
     go : (ts vs : Slots) (j : ℕ) (ls rest : Lexemes) → Lexes (Lex text) p.prev_token_end ls → Takes rule (lead_of true ▸ line_of (arrow_head true f)) end ts p.prev_token_end ls vs j rest → ⊥
     go ts vs j ls rest l (is_seq (is_seq (is_lexeme {x = x} {ls = mid} c) (is_look w)) (is_seq h d)) =
         let y : Lex text x.to (here mid) = here_at (Lex text) mid l.1 in
-        n (here mid) (subst (λ (v : ℕ). Lex text v (here mid)) (the_word a k x l.0).1 y) (is_off (here mid).newline w) (head_one h).2
+        n (here mid) (subst (λ (v : ℕ). Lex text v (here mid)) (the_word a k x l.0).1 y) (not-true (here mid).newline w) (head_one h).2
 
 -- parameters begin with a parenthesis
 params_first : (g : Flags) {ts us : Slots} {i j : ℕ} {ls rest : Lexemes} → Takes rule (symbol Params g) end ts i ls us j rest → IsTrue (seen (is LParen) (here ls))
@@ -400,17 +388,17 @@ module _ {text : List ℕ} {f : Flags} {p : Parser} {t : Token} (a : At text f p
       z = and_parts (not (is_right_angle y.kind)) _ (covered begins_head (λ k w e. not (is_right_angle k) && not (one_of_kinds other_goals k)) begins_plain y.kind y.newline y.escaped b)
 
       r : is_right_angle y.kind ≡ false
-      r = is_off _ z.0
+      r = not-true _ z.0
 
       o : one_of_kinds other_goals y.kind ≡ false
-      o = is_off _ z.1
+      o = not-true _ z.1
 
   -- it stands on a new line, or is none
   async_late : p.token.kind ≡ Async → t.is_on_new_line ≡ true → NoLed true text f p.prev_token_end
   async_late k w = led_unless a k (λ y l n b. false≢true (sym n ∙ (sym (head_told y l b).newline ∙ w)))
 
-  async_other : p.token.kind ≡ Async → one_of_kinds (LParen ∷ name_kinds) t.kind ≡ false → NoLed true text f p.prev_token_end
-  async_other k q = led_unless a k (λ y l n b. false≢true (sym q ∙ (ap (one_of_kinds (LParen ∷ name_kinds)) (head_told y l b).kind ∙ covered (λ k w e. begins_head k w e && one_of_kinds read_kinds k) a_first begins_first y.kind y.newline y.escaped (and_from _ _ b l.1))))
+  async_other : p.token.kind ≡ Async → one_of_kinds (LParen ∷ binding_identifier_kinds) t.kind ≡ false → NoLed true text f p.prev_token_end
+  async_other k q = led_unless a k (λ y l n b. false≢true (sym q ∙ (ap (one_of_kinds (LParen ∷ binding_identifier_kinds)) (head_told y l b).kind ∙ covered (λ k w e. begins_head k w e && is_read_kind k) a_first begins_first y.kind y.newline y.escaped (and_from _ _ b l.1))))
 
   -- no parenthesis stands behind the word
   pub list_other : p.token.kind ≡ Async → (t.kind ≡ LParen → ⊥) → NoParameters true text f p.prev_token_end
@@ -420,16 +408,16 @@ module _ {text : List ℕ} {f : Flags} {p : Parser} {t : Token} (a : At text f p
       go ts vs j ls rest l (is_seq (is_seq (is_lexeme {x = x} {ls = mid} c) (is_look w)) (is_seq d z)) =
           let i : LParen ≡ (here mid).kind = kind_of_same LParen (here mid).kind (and_parts (same_kind LParen (here mid).kind) _ (params_first (arrow_head true f) d)).0 in
           let y : Lex text p.token.span.end (here mid) = subst (λ (v : ℕ). Lex text v (here mid)) (the_word a k x l.0).1 (here_at (Lex text) mid l.1) in
-          let b : IsTrue (seen begins_head (here mid)) = covered a_first begins_head firsts_begin (here mid).kind (here mid).newline (here mid).escaped (ap (one_of_kinds (LParen ∷ name_kinds)) (sym i)) in
+          let b : IsTrue (seen begins_head (here mid)) = covered a_first begins_head firsts_begin (here mid).kind (here mid).newline (here mid).escaped (ap (one_of_kinds (LParen ∷ binding_identifier_kinds)) (sym i)) in
           q ((head_told (here mid) y b).kind ∙ sym i)
 
-  async_follows : t.is_on_new_line ≡ false → one_of_kinds (LParen ∷ name_kinds) t.kind ≡ true → BehindWord text p.token.span.end
+  async_follows : t.is_on_new_line ≡ false → one_of_kinds (LParen ∷ binding_identifier_kinds) t.kind ≡ true → BehindWord text p.token.span.end
   async_follows w q y l =
-      let i : y.kind ≡ t.kind = peeked_kind a h (is_off _ (covered a_first (λ k w e. not (one_of_kinds unsettled k)) firsts_settled t.kind false false q)) y l in
-      let b : IsTrue (seen begins_head y) = covered a_first begins_head firsts_begin y.kind y.newline y.escaped (ap (one_of_kinds (LParen ∷ name_kinds)) i ∙ q) in
+      let i : y.kind ≡ t.kind = peeked_kind a h (not-true _ (covered a_first (λ k w e. not (one_of_kinds unsettled k)) firsts_settled t.kind false false q)) y l in
+      let b : IsTrue (seen begins_head y) = covered a_first begins_head firsts_begin y.kind y.newline y.escaped (ap (one_of_kinds (LParen ∷ binding_identifier_kinds)) i ∙ q) in
       (sym (head_told y l b).newline ∙ w, b)
 
-pub async_begins : {p q : Parser} {t : Token} → StandsHere p Async true → q ≡ p → Peeks p t → t.is_on_new_line ≡ false → (r : Bool) → r ≡ one_of_kinds (LParen ∷ name_kinds) t.kind → AsyncHeadBegins p q r
+pub async_begins : {p q : Parser} {t : Token} → StandsHere p Async true → q ≡ p → Peeks p t → t.is_on_new_line ≡ false → (r : Bool) → r ≡ one_of_kinds (LParen ∷ binding_identifier_kinds) t.kind → AsyncHeadBegins p q r
 async_begins k e h w true r = (e, k, λ text f a. async_follows a h w (sym r))
 async_begins k e h w false r = (e, λ text f a. async_other a h k.0 (sym r))
 

@@ -26,7 +26,7 @@ found (row ∷ rows) a k r e = go (same_kind row.0 k) refl e (found rows a.1 k r
 pub kind_found : (k : Kind) (r : BinaryOperator) → row_of binary_operators k ≡ Some r → binary_kind r ≡ k
 kind_found k r e = found binary_operators (refl, (refl, (refl, (refl, (refl, (refl, (refl, (refl, (refl, (refl, (refl, (refl, (refl, (refl, (refl, (refl, (refl, (refl, (refl, (refl, (refl, (refl, tt)))))))))))))))))))))) k r e
 
-different : (a k : Kind) → (k ≡ a → ⊥) → same_kind a k ≡ false
+pub different : (a k : Kind) → (k ≡ a → ⊥) → same_kind a k ≡ false
 different a k n = go (same_kind a k) refl
   where
     go : (b : Bool) → same_kind a k ≡ b → b ≡ false

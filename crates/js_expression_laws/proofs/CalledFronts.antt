@@ -1,6 +1,6 @@
 -- An operand that begins with the name `async`, behind which a parenthesis or another name stands: it ends behind the word, or goes on with arguments; and behind those it ends, or goes on with something else than `=>` (CoverCallExpressionAndAsyncArrowHead, ECMA-262, 13.3).
 use Rattle.std.proofs.Common.{ℕ, ◌≡◌, ◌⊎◌, inl, inr, Bool, true, false, not, ◌&&◌, ◌||◌, IsTrue, refl, sym, ap, subst, ◌∙◌, rules}
-use Rattle.std.proofs.lemmas.Bool.{false≢true, and_parts, and_from, or_left, or_right}
+use Rattle.std.proofs.lemmas.Bool.{false≢true, and_parts, and_from, or_left, or_right, false_from_ne_true}
 use Rattle.js_base.specs.declared.kind.Kind.TheVariants.{Arrow, Async}
 use Rattle.js_base.specs.Kinds.{same_kind}
 use Rattle.js_grammar.specs.Trees.{Slots, end, tree, append}
@@ -16,6 +16,7 @@ use Rattle.js_grammar.proofs.Frame.{framed}
 use Rattle.js_grammar.proofs.Heads.{begins_head, of_operands}
 use Rattle.js_grammar.proofs.Looks.{apart, covered, not_both}
 use Rattle.js_grammar.proofs.RightEdges.{first_row, same_row}
+use Rattle.js_grammar.proofs.Finding.{either}
 
 abbrev the_word : Look
 the_word k w e = same_kind Async k
@@ -158,14 +159,6 @@ abbrev Second : Lexemes → Type 0
 Second (last x) = ⊥
 Second (next x ls) = IsTrue (seen begins_head (here ls))
 
-either : (a b : Bool) → (a || b) ≡ true → (a ≡ true) ⊎ (b ≡ true)
-either true b h = inl refl
-either false b h = inr h
-
-falsely : (b : Bool) → (b ≡ true → ⊥) → b ≡ false
-falsely true n = absurd (n refl)
-falsely false n = refl
-
 begun : (p : Look) {g : G} {ts us : Slots} {i j : ℕ} {ls rest : Lexemes} → Takes rule g end ts i ls us j rest → begins_otherwise p g ≡ true → IsTrue (seen p (here ls)) → ⊥
 begun p {g} {ls = ls} d h b = not_both (starts first g full) p h (here ls).kind (here ls).newline (here ls).escaped (starting firsts full d refl) b
 
@@ -208,7 +201,7 @@ behind_arguments {b} {mid = mid} {r = r} {rest = rest} d h (inl q) = by (either 
   where
     by : (stays b ≡ true) ⊎ ((begins_otherwise an_arrow b && (is_args b || begins_otherwise begins_head b)) ≡ true) → (rest ≡ r) ⊎ NoArrow r
     by (inl i) = inl ((stayed d i).0 ∙ q)
-    by (inr i) = inr (falsely _ (λ k. begun an_arrow d (and_parts (begins_otherwise an_arrow b) _ i).0 (subst (λ (v : Lexemes). same_kind Arrow (here v).kind ≡ true) (sym q) k)))
+    by (inr i) = inr (false_from_ne_true _ (λ k. begun an_arrow d (and_parts (begins_otherwise an_arrow b) _ i).0 (subst (λ (v : Lexemes). same_kind Arrow (here v).kind ≡ true) (sym q) k)))
 
 then_called : (f : Flags) {a b : G} {ts us vs : Slots} {i j k : ℕ} {ls mid rest : Lexemes} → Takes rule a end ts i ls us j mid → Takes rule b end us j mid vs k rest → calls (seq a b) ≡ true → Flagged f (seq a b) → IsTrue (seen the_word (here ls)) → Second ls → (calls a ≡ true → Called f (takes_one a) (is_tree a) ts ls j mid) → Called f (takes_one (seq a b)) (is_tree (seq a b)) ts ls k rest
 then_called f {a} {b} {ts} {us} {vs} {i} {j} {k} {ls} {mid} {rest} d e h u q s go = by (either (begins_otherwise the_word (seq a b)) _ h)

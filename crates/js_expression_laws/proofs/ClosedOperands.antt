@@ -1,10 +1,10 @@
 -- An operand of one lexeme with a closing sign behind it is all of an AssignmentExpression (ECMA-262, 13.15): level by level, no production goes on with such a sign.
-use Rattle.std.proofs.Common.{ℕ, ◌≡◌, inl, Bool, true, false, not, ◌&&◌, cond, List, [], ◌∷◌, Some, None, refl, sym, ap, subst, arith, ◌∙◌}
+use Rattle.std.proofs.Common.{ℕ, ◌≡◌, inl, Bool, true, false, not, cond, List, [], ◌∷◌, Some, None, refl, sym, ap, subst, arith, ◌∙◌}
 use Rattle.std.specs.Prelude.{MatchResult, Option, Result, Ok, Err}
-use Rattle.std.proofs.lemmas.Bool.{false≢true}
+use Rattle.std.proofs.lemmas.Bool.{false≢true, and_right}
 use Rattle.js_base.specs.declared.kind.Kind.{Kind}
 use Rattle.js_base.specs.declared.kind.Kind.TheVariants.{Arrow, Async, Await, Comma, Decimal, Dot, Function, Ident, LBrack, LParen, New, Question, Question2, QuestionDot, RAngle, RBrack, RParen, Semicolon, Star2, Str, Super, Yield}
-use Rattle.js_base.specs.KindSets.{number_kinds}
+use Rattle.js_base.specs.KindSets.{number_kinds, binding_identifier_kinds}
 use Rattle.js_base.specs.Contexts.{await_flag, has_flag, yield_flag}
 use Rattle.js_base.specs.Kinds.{same_kind, one_of_kinds}
 use Rattle.js_base.specs.Texts.{words}
@@ -21,7 +21,7 @@ use Rattle.js_cursor.specs.Moves.{OnlyMemory}
 use Rattle.js_cursor.specs.Parsers.{Parser}
 use Rattle.js_cursor.specs.declared.stop.Stop.{Stop}
 use Rattle.js_parsing_laws.specs.Answers.{Answers, Numbered}
-use Rattle.js_parsing_laws.specs.Lexemes.{Lex, may_name, name_kinds}
+use Rattle.js_parsing_laws.specs.Lexemes.{Lex, may_name}
 use Rattle.js_parsing_laws.specs.Moves.{Tightness}
 use Rattle.js_parsing_laws.specs.Operators.{power_of, unary_kinds}
 use Rattle.js_parsing_laws.specs.Stands.{StandsHere}
@@ -65,10 +65,6 @@ taken_kind P a b c (a_name k t) = subst P (sym k) a
 taken_kind P a b c (a_string k t) = subst P (sym k) b
 taken_kind P a b c (a_number k t) = subst P (sym k) c
 
-none_of_both : (a b : Bool) → b ≡ false → (a && b) ≡ false
-none_of_both true b h = h
-none_of_both false b h = refl
-
 -- where it ends
 taken_place : {text : List ℕ} {f : Flags} {p q : Parser} {id : NodeId} → At text f p → LexemeTaken p q id → q.prev_token_end ≡ p.token.span.end
 taken_place a (a_name k t) = let x = t _ _ a in ap (λ (z : Parser). z.prev_token_end) x.made.stays ∙ sym (x.moved.tells.end ∙ x.moved.ends)
@@ -108,7 +104,7 @@ module _ {p q : Parser} {id : NodeId} (t : LexemeTaken p q id) (c : one_of_kinds
     update_taken : Numbered text f (at Update f) p q id
     update_taken =
         let x = left_hand_taken in
-        left_alone a (taken_kind (λ k. one_of_kinds update_kinds k ≡ false) refl refl refl t) x (none_behind x.answer.at refl (none_of_both (not q.token.is_on_new_line) (one_of_kinds update_kinds q.token.kind) (closing_apart update_kinds q.token.kind c refl refl refl refl)))
+        left_alone a (taken_kind (λ k. one_of_kinds update_kinds k ≡ false) refl refl refl t) x (none_behind x.answer.at refl (and_right (not q.token.is_on_new_line) (one_of_kinds update_kinds q.token.kind) (closing_apart update_kinds q.token.kind c refl refl refl refl)))
 
     unary_taken : Numbered text f (at Unary f) p q id
     unary_taken = unary_result q (Ok id) a (taken_kind (λ k. one_of_kinds unary_kinds k ≡ false) refl refl refl t) (taken_kind (λ k. k ≡ Await → f.awaits ≡ false) (λ e. absurd (cc)) (λ e. absurd (cc)) (λ e. absurd (cc)) t) update_taken
@@ -139,7 +135,7 @@ module _ {p q : Parser} {id : NodeId} (t : LexemeTaken p q id) (c : one_of_kinds
 
   -- no arrow function begins with it
   no_line_here : LexemeTaken p q id → NoLineHere p
-  no_line_here (a_name k u) = λ text f a. no_arrow_behind a (ap (one_of_kinds name_kinds) k) (λ y l e. other_kind Arrow refl (sym (kind_behind a y l) ∙ e))
+  no_line_here (a_name k u) = λ text f a. no_arrow_behind a (ap (one_of_kinds binding_identifier_kinds) k) (λ y l e. other_kind Arrow refl (sym (kind_behind a y l) ∙ e))
   no_line_here (a_string k u) = neither (ap (may_name (has_flag yield_flag p.ctx) (has_flag await_flag p.ctx)) k) (λ e w. let z : Str ≡ LParen = sym k ∙ e in absurd (cc))
   no_line_here (a_number k u) = neither (ap (may_name (has_flag yield_flag p.ctx) (has_flag await_flag p.ctx)) k) (λ e w. let z : Decimal ≡ LParen = sym k ∙ e in absurd (cc))
 

@@ -7,7 +7,6 @@ use Rattle.js_base.specs.declared.kind.Kind.TheVariants.{Arrow, LParen, LBrack, 
 use Rattle.js_base.specs.declared.diagnostic.Diagnostic.{Diagnostic}
 use Rattle.js_base.specs.declared.token.Token.{Token}
 use Rattle.js_base.specs.Kinds.{same_kind, one_of_kinds}
-use Rattle.js_base.proofs.KindLemmas.{kind_of_same}
 use Rattle.js_grammar.specs.Brackets.{Bracket, plain, opens, closes, bracket, move, pop}
 use Rattle.js_grammar.specs.Grammar.{Lexeme, Lexemes}
 use Rattle.js_grammar.specs.Lexed.{Lexes}
@@ -20,6 +19,7 @@ use Rattle.js_parsing_laws.specs.Lexemes.{Lex, slashes}
 use Rattle.js_expression_laws.specs.declared.forms.OpenBracket.{OpenBracket}
 use Rattle.js_expression_laws.specs.Closings.{number_of, Closing, closed, inside, ArrowBehindOne, open_behind, tells_whole, BracketPassed, LastClosed, Opened, ArrowStands, ArrowFound, Settled}
 use Rattle.js_expression_laws.proofs.OnePlace.{one_plain_move}
+use Rattle.js_expression_laws.proofs.BinaryOperators.{different}
 
 -- ---- lists of brackets
 
@@ -46,13 +46,6 @@ unfolding pop
 pops b c bs e = ap (pop (number_of b)) (one_more [] bs c) ∙ (ap (λ (v : Bool). cond v (Some (open_behind [] bs)) None) (eq-eqb (number_of b) (number_of c) (sym e)))
 
 -- ---- kinds
-
-differs : (j k : Kind) → (k ≡ j → ⊥) → same_kind j k ≡ false
-differs j k n = go (same_kind j k) refl
-  where
-    go : (b : Bool) → same_kind j k ≡ b → same_kind j k ≡ false
-    go true e = absurd (n (sym (kind_of_same j k e)))
-    go false e = e
 
 opened_move : (k : Kind) (b : ℕ) (st : List ℕ) → bracket k ≡ opens b → move (bracket k) st ≡ Some (b ∷ st)
 unfolding move
@@ -110,10 +103,10 @@ curly_closed st = closed_move RCurly 3 st curly_closes
 
 pub no_bracket : (k : Kind) (st : List ℕ) → (k ≡ LParen → ⊥) → (k ≡ LBrack → ⊥) → (k ≡ LCurly → ⊥) → (k ≡ TemplateHead → ⊥) → (k ≡ RParen → ⊥) → (k ≡ RBrack → ⊥) → (k ≡ RCurly → ⊥) → (k ≡ TemplateTail → ⊥) → (k ≡ TemplateMiddle → ⊥) → move (bracket k) st ≡ Some st
 unfolding bracket
-no_bracket k st a b c d e f g h i = plain_move k st (rw (differs LParen k a, differs LBrack k b, differs LCurly k c, differs TemplateHead k d, differs RParen k e, differs RBrack k f, differs RCurly k g, differs TemplateTail k h, differs TemplateMiddle k i) refl)
+no_bracket k st a b c d e f g h i = plain_move k st (rw (different LParen k a, different LBrack k b, different LCurly k c, different TemplateHead k d, different RParen k e, different RBrack k f, different RCurly k g, different TemplateTail k h, different TemplateMiddle k i) refl)
 
 pub is_whole : (k : Kind) → (k ≡ RAngle → ⊥) → (k ≡ Undetermined → ⊥) → (k ≡ Slash → ⊥) → (k ≡ SlashEq → ⊥) → tells_whole k ≡ true
-is_whole k a b c d = rw (differs RAngle k a, differs Undetermined k b, differs Slash k c, differs SlashEq k d) refl
+is_whole k a b c d = rw (different RAngle k a, different Undetermined k b, different Slash k c, different SlashEq k d) refl
 
 -- ---- the token behind a place
 

@@ -2,6 +2,7 @@
 use Rattle.std.proofs.Common.{ℕ, ◌≡◌, ◌≤◌, ◌<◌, ◌+◌, ◌-◌, inl, inr, max, Bool, true, false, not, ◌||◌, IsTrue, List, [], ◌∷◌, length, Some, Option, refl, sym, ap, subst, arith, ◌∙◌}
 use Rattle.std.specs.Prelude.{IsCharBoundary, Ok, Err}
 use Rattle.std.proofs.lemmas.Bool.{false≢true, and_from, and_parts, or_left, or_right}
+use Rattle.js_targets.proofs.Covers.{all_stand}
 use Rattle.js_base.specs.declared.diagnostic.Diagnostic.{Diagnostic}
 use Rattle.js_base.specs.declared.kind.Kind.{Kind}
 use Rattle.js_base.specs.declared.kind.Kind.TheVariants.{Question2}
@@ -41,7 +42,6 @@ use Rattle.js_parsing_laws.specs.Moves.{Moved, MadeHere, IsWholeHere}
 use Rattle.js_parsing_laws.specs.States.{At, Same}
 use Rattle.js_expression_laws.proofs.Coalescing.{Begun, operand, operands, coalesced, part, PartReads, AllSigns, NoSign, as_bit_or, no_bit_or, unread_operand, no_short, kind_of_or, begun_alone, begun_fails, begun_step}
 use Rattle.js_parsing_laws.proofs.Signs.{plain_sign, whole_sign, other_kind}
-use Rattle.js_expression_laws.proofs.Exponents.{lexes_all}
 use Rattle.js_parsing_laws.proofs.Told.{beside_errors}
 use Rattle.js_parsing_laws.proofs.Giving.{gives_up, kept_one}
 use Rattle.js_parsing_laws.proofs.Here.{kind_here, begins_here}
@@ -234,7 +234,7 @@ module _ {text : List ℕ} {f : Flags} where
       pub checked : {w : Parser} {mixed : Bool} {start found : ℕ} → At text f p → mixed ≡ is_mixed → found ≡ length p.errors → ChecksMixed start mixed found v w (Ok tt) → Checked text f p v w pair_label pair_slots pair_pass
       checked {w} {mixed} {start} {found} a e i (inl c) = subst (λ (z : Parser). Checked text f p v z pair_label pair_slots pair_pass) (sym c.1.is) (record {
         at = beside_errors x.answer.at (subst IsAt c.1.is c.1.at);
-        same = record { follows = subst (Follows v) c.1.is (keeps_follows c.1); options = refl; ctx = refl; depth = refl; visits = refl; early = λ w. one_early _ v.errors refl w; lies = λ w. w; meets = λ w. w };
+        same = record { follows = subst (Follows v) c.1.is (keeps_follows c.1); options = refl; ctx = refl; depth = refl; visits = refl; early = λ w. one_early _ v.errors refl w; lies = λ w. w };
         nodes = refl;
         place = refl;
         spot_is = refl;
@@ -265,7 +265,7 @@ module _ {text : List ℕ} {f : Flags} where
           record {
             place = p.prev_token_end;
             lexemes = s.pass behind_left;
-            part = record { reached = subst (λ (t : List ℕ). Reached t p.prev_token_end) (sym whole.text) a.at.reached; lexed = subst (λ (t : List ℕ). Lexes (StandsBehind all_faults t) p.prev_token_end (s.pass behind_left)) (sym x.answer.at.text_is) (lexes_all text p.prev_token_end (s.pass behind_left) all_lexed) };
+            part = record { reached = subst (λ (t : List ℕ). Reached t p.prev_token_end) (sym whole.text) a.at.reached; lexed = subst (λ (t : List ℕ). Lexes (StandsBehind all_faults t) p.prev_token_end (s.pass behind_left)) (sym x.answer.at.text_is) (all_stand text p.prev_token_end (s.pass behind_left) all_lexed) };
             begins = begins_here a (here (s.pass behind_left)) (here_at (Lex text) (s.pass behind_left) all_lexed);
             flags = f;
             left = record { label = s.label; slots = s.slots };

@@ -5,14 +5,12 @@ use Rattle.std.proofs.Common.{ℕ, ◌≡◌, ◌≤◌, List, [], ◌∷◌, le
 use Rattle.std.specs.Prelude.{Err}
 use Rattle.std.proofs.lemmas.Bool.{false≢true, and_from, and_parts}
 use Rattle.js_base.specs.declared.kind.Kind.{Kind}
-use Rattle.js_base.specs.declared.kind.Kind.TheVariants.{Question, Colon, PrivateIdentifier, Undetermined, RegExp}
+use Rattle.js_base.specs.declared.kind.Kind.TheVariants.{Question, Colon, Undetermined, RegExp}
 use Rattle.js_base.specs.declared.span.Span.{Span}
 use Rattle.js_base.specs.Kinds.{same_kind, one_of_kinds}
-use Rattle.js_base.specs.Texts.{words}
 use Rattle.js_grammar.specs.Trees.{Span as TreeSpan, Slots, end, tree, Label, no_op, conditional_expression}
 use Rattle.js_grammar.specs.Grammar.{Lexeme, Lexemes, Look, here, seen, such, nothing, exact, is_seq, is_lexeme, is_such, alt, Takes, ◌▸◌}
 use Rattle.js_grammar.specs.Insertion.{Row, after_expression, after_postfix, after_body, after_yield, after_declarator, after_word, assign_operators}
-use Rattle.js_grammar.specs.Lexemes.{is_word}
 use Rattle.js_grammar.specs.Parsing.{Test, always, Admits, Goes, Fails, still}
 use Rattle.js_grammar.specs.Productions.{G, Flags, at, tok, mk, plus_in, Assignment, Conditional, Short}
 use Rattle.js_grammar.specs.Productions.{sym as symbol}
@@ -51,6 +49,7 @@ use Rattle.js_parsing_laws.specs.States.{At, Same}
 use Rattle.js_parsing_laws.specs.Moves.{Moved, MadeHere, plain_label}
 use Rattle.js_parsing_laws.specs.Answers.{Underived, Answer, Numbered, Stops, beside}
 use Rattle.js_targets.proofs.Assigned.{an_assign, unassigned, nothing_assigned, assign_plain}
+use Rattle.js_targets.proofs.ArrayElements.{contrary}
 use Rattle.js_parsing_laws.proofs.Here.{kind_here, told_plain}
 use Rattle.js_parsing_laws.proofs.MadeNodes.{node_held, one_lies}
 use Rattle.js_parsing_laws.proofs.Moving.{same_both}
@@ -59,15 +58,8 @@ use Rattle.js_parsing_laws.proofs.Paths.{Path, ◌⟼◌, ◌⟶◌, ◌⟶✗�
 use Rattle.js_parsing_laws.proofs.Phrases.{lift, lift_fails, narrow_operand, operand_assigned}
 use Rattle.js_parsing_laws.proofs.Escapes.{read_listed, read_plain}
 use Rattle.js_parsing_laws.proofs.Tight.{narrows, plain_lex, plain_so}
+use Rattle.js_parsing_laws.proofs.PlainSigns.{question_plain, colon_plain}
 use Rattle.js_parsing_laws.specs.Classes.{EndsParse}
-
-pub question_plain : (is_word Question || same_kind PrivateIdentifier Question) ≡ false
-unfolding words
-question_plain = refl
-
-pub colon_plain : (is_word Colon || same_kind PrivateIdentifier Colon) ≡ false
-unfolding words
-colon_plain = refl
 
 -- none of these kinds stands here
 pub none_here : {text : List ℕ} {f : Flags} {p : Parser} (ks : List Kind) → At text f p → (y : Lexeme) → (one_of_kinds ks y.kind ≡ true → ⊥) → one_of_kinds ks y.kind ≡ false
@@ -129,10 +121,6 @@ question_binds b after_body h = absurd (false≢true h)
 question_binds b after_yield h = absurd (false≢true h)
 question_binds b after_declarator h = absurd (false≢true h)
 question_binds b after_word h = absurd (false≢true h)
-
-contrary : (b : Bool) → not b ≡ true → b ≡ true → ⊥
-contrary true h e = false≢true h
-contrary false h e = false≢true e
 
 short_passes : passes_on Assignment Short ≡ true
 unfolding covers

@@ -1,7 +1,8 @@
 -- The operator `**` (ECMA-262, 13.6): a base that begins with no unary operator, and behind it an exponent.
 use Rattle.std.proofs.Common.{ℕ, ◌≡◌, ◌⊎◌, inl, inr, Bool, true, false, not, ◌&&◌, ◌||◌, IsTrue, List, [], ◌∷◌, length, Some, refl, sym, ap, subst, arith, ◌∙◌, length-append}
-use Rattle.std.proofs.lemmas.Bool.{false≢true, and_from, and_parts, or_left}
+use Rattle.std.proofs.lemmas.Bool.{false≢true, and_from, and_parts, or_left, or_parts}
 use Rattle.std.specs.Prelude.{IsCharBoundary, None}
+use Rattle.js_targets.proofs.Covers.{all_stand}
 use Rattle.js_base.specs.declared.diagnostic.Diagnostic.{Diagnostic}
 use Rattle.js_base.specs.declared.diagnostic.DiagnosticKind.TheVariants.{UnaryExponentiationLeftOperand}
 use Rattle.js_base.specs.declared.kind.Kind.{Kind}
@@ -12,7 +13,7 @@ use Rattle.js_base.specs.Kinds.{same_kind, one_of_kinds}
 use Rattle.js_base.specs.Texts.{words}
 use Rattle.js_base.proofs.KindLemmas.{kind_of_same}
 use Rattle.js_grammar.specs.Trees.{Label, Slots, Span as TreeSpan, end, tree, binary_expression, unary_expression, await_expression, of}
-use Rattle.js_grammar.specs.Grammar.{Lexeme, Lexemes, last, next, Look, here, seen, is, exact, such, nothing, Takes, is_nothing, is_such, is_seq, is_left, is_right, is_lexeme, is_node, is_when, ◌▸◌}
+use Rattle.js_grammar.specs.Grammar.{Lexeme, Lexemes, last, Look, here, seen, is, exact, such, nothing, Takes, is_nothing, is_such, is_seq, is_left, is_right, is_lexeme, is_node, is_when, ◌▸◌}
 use Rattle.js_grammar.specs.Insertion.{Row, after_expression, after_postfix, after_body, after_yield, after_declarator, after_word}
 use Rattle.js_grammar.specs.Lexed.{Lexes, all_faults}
 use Rattle.js_grammar.specs.Lexed.{Lex as StandsBehind}
@@ -177,13 +178,8 @@ power_none text f s n = fails_by {s = at Exponent f} (fails_alt (weaken_fails_on
 pub no_name_awaits : {text : List ℕ} {f : Flags} {p : Parser} → At text f p → f.awaits ≡ true → f.await_ ≡ true
 no_name_awaits {p = p} a h = sym (ap (λ (g : Flags). g.await_) a.flags_are) ∙ (and_parts (has_flag await_flag p.ctx) (has_flag await_expression_flag p.ctx) (ap (λ (g : Flags). g.awaits) a.flags_are ∙ h)).0
 
--- neither a unary operator nor the `await` of an AwaitExpression
-both_false : (a b : Bool) → (a || b) ≡ false → (a ≡ false) × (b ≡ false)
-both_false true b h = absurd (false≢true (sym h))
-both_false false b h = (refl, h)
-
 no_unary : (b : Bool) (k : Kind) → begins_by_unary b k ≡ false → (one_of_kinds unary_kinds k ≡ false) × (k ≡ Await → b ≡ false)
-no_unary b k h = let z = both_false (one_of_kinds unary_kinds k) _ h in (z.0, λ e. subst (λ (v : Kind). (same_kind Await v && b) ≡ false) e z.1)
+no_unary b k h = let z = or_parts (one_of_kinds unary_kinds k) _ h in (z.0, λ e. subst (λ (v : Kind). (same_kind Await v && b) ≡ false) e z.1)
 
 module _ {text : List ℕ} {f : Flags} {p : Parser} (a : At text f p) where
   -- where no operator stands, a UnaryExpression is an UpdateExpression
@@ -267,10 +263,6 @@ operator_node f (is_right (is_right (is_right (is_right (is_left (is_node d)))))
 operator_node f (is_right (is_right (is_right (is_right (is_right (is_left (is_node d))))))) = refl
 operator_node f (is_right (is_right (is_right (is_right (is_right (is_right (is_node d))))))) = refl
 
-pub lexes_all : (text : List ℕ) (s : ℕ) (ls : Lexemes) → Lexes (Lex text) s ls → Lexes (StandsBehind all_faults text) s ls
-lexes_all text s (last x) l = l.0
-lexes_all text s (next x ls) l = (l.0.0, lexes_all text x.to ls l.1)
-
 module _ {text : List ℕ} {f : Flags} {p q : Parser} {id : NodeId} (a : At text f p) (x : Numbered text f (at Unary f) p q id) (k : q.token.kind ≡ Star2) where
   -- the `**` that stands there
   star : (y : Lexeme) × Lex text q.prev_token_end y × (y.kind ≡ Star2)
@@ -293,7 +285,7 @@ module _ {text : List ℕ} {f : Flags} {p q : Parser} {id : NodeId} (a : At text
       let l = y.goes.passes.lexed (last star.0) lx in
       let d = derived_of (y.goes.sound end end q.prev_token_end (last star.0) (last star.0) lx (inl y.near) is_nothing) in
       base_stands_there (goal q) q.text p.prev_token_end q.prev_token_end p.token.span.start f x.answer.label x.answer.slots ls star.0
-      (record { reached = subst (λ (v : List ℕ). Reached v p.prev_token_end) (sym x.answer.same.follows.text) a.at.reached; lexed = subst (λ (v : List ℕ). Lexes (StandsBehind all_faults v) p.prev_token_end ls) (sym x.answer.at.text_is) (lexes_all text p.prev_token_end ls l) })
+      (record { reached = subst (λ (v : List ℕ). Reached v p.prev_token_end) (sym x.answer.same.follows.text) a.at.reached; lexed = subst (λ (v : List ℕ). Lexes (StandsBehind all_faults v) p.prev_token_end ls) (sym x.answer.at.text_is) (all_stand text p.prev_token_end ls l) })
       (begins_here a (here ls) (here_at (Lex text) ls l)) d (base_node h l d) star.2
     where
       derived_of : {ls : Lexemes} → Takes rule (such (at Unary f) always) end (tree x.answer.label x.answer.slots end) p.prev_token_end ls end q.prev_token_end (last star.0) → Takes rule (rule (at Unary f)) end (tree x.answer.label x.answer.slots end) p.prev_token_end ls end q.prev_token_end (last star.0)
@@ -325,7 +317,7 @@ module _ {text : List ℕ} {f : Flags} {p q : Parser} {id : NodeId} (a : At text
   told {d} {r} h c y = subst (λ (z : Parser). Numbered text f (at Update f) p z id) (sym c.is) (record {
     answer = record {
       at = beside_errors x.answer.at (subst IsAt c.is c.at);
-      same = record { follows = follows_on x.answer.same.follows (subst (Follows q) c.is (keeps_follows c)); options = x.answer.same.options; ctx = x.answer.same.ctx; depth = x.answer.same.depth; visits = x.answer.same.visits; early = λ w. one_early _ q.errors y (x.answer.same.early w); lies = x.answer.same.lies; meets = x.answer.same.meets };
+      same = record { follows = follows_on x.answer.same.follows (subst (Follows q) c.is (keeps_follows c)); options = x.answer.same.options; ctx = x.answer.same.ctx; depth = x.answer.same.depth; visits = x.answer.same.visits; early = λ w. one_early _ q.errors y (x.answer.same.early w); lies = x.answer.same.lies };
       further = x.answer.further;
       label = x.answer.label;
       slots = x.answer.slots;

@@ -5,6 +5,7 @@ use Rattle.js_grammar.specs.Grammar.{Lexeme}
 use Rattle.js_grammar.specs.Productions.{Flags}
 use Rattle.js_base.specs.declared.kind.Kind.TheVariants.{Arrow, LParen}
 use Rattle.js_base.specs.Kinds.{one_of_kinds}
+use Rattle.js_base.specs.KindSets.{binding_identifier_kinds}
 use Rattle.js_tree.specs.declared.id.NodeId.{NodeId}
 use Rattle.js_cursor.specs.Moves.{NotesArrow}
 use Rattle.js_cursor.specs.Parsers.{Parser}
@@ -13,7 +14,7 @@ use Rattle.js_cursor.proofs.Later.{follows_on}
 use Rattle.js_parsing_laws.specs.Answers.{Grown}
 use Rattle.js_parsing_laws.specs.Contexts.{EntersAsyncHead, arrow_head}
 use Rattle.js_parsing_laws.specs.Heads.{NoHead, widened}
-use Rattle.js_parsing_laws.specs.Lexemes.{Lex, name_kinds}
+use Rattle.js_parsing_laws.specs.Lexemes.{Lex}
 use Rattle.js_parsing_laws.specs.Stands.{NameHere, StandsHere}
 use Rattle.js_parsing_laws.specs.States.{At, IsPlain, Same, Standing, flags_of, whole, sign, nothing as none_stands}
 use Rattle.js_parsing_laws.proofs.Contexts.{async_head_at}
@@ -45,7 +46,7 @@ module _ {text : List ℕ} {f : Flags} {p : Parser} (a : At text f p) where
   at_before {q = q} b s = record { text_is = b.text_is; flags_are = flags_same p (record q { ctx = p.ctx }) refl s.follows.source_type s.options ∙ a.flags_are; at = (ctx_set p.ctx b.at).1; plain = plain_in p.ctx b.plain; behind = b.behind; heads = b.heads; kept_last = b.kept_last }
 
   same_before : {g : Flags} {q : Parser} {c : Context} → At text g q → Same (record p { ctx = c }) q → Same p (record q { ctx = p.ctx })
-  same_before {c = c} b s = record { follows = follows_on (ctx_set c a.at).0 (follows_on s.follows (ctx_set p.ctx b.at).0); options = s.options; ctx = refl; depth = s.depth; visits = s.visits; early = s.early; lies = s.lies; meets = s.meets }
+  same_before {c = c} b s = record { follows = follows_on (ctx_set c a.at).0 (follows_on s.follows (ctx_set p.ctx b.at).0); options = s.options; ctx = refl; depth = s.depth; visits = s.visits; early = s.early; lies = s.lies }
 
   head_out : {g : Flags} {q : Parser} {c : Context} {id : NodeId} → g.wide ≡ f.wide → Head text g g (record p { ctx = c }) q id → Head text f g p (record q { ctx = p.ctx }) id
   head_out {g} {q} {c} v x = record {
@@ -147,7 +148,7 @@ module _ (b : Bool) {p e : Parser} {c d : Context} (a : Standing p) (i : d ≡ p
 
 module _ {p e : Parser} {c d : Context} (a : Standing p) (i : d ≡ p.ctx) (s : EntersHead true d c) (h : e ≡ record p { ctx = c }) where
   pub name_read : (q : Parser) {w : Parser} → NameHere e true → w ≡ record q { ctx = d } → (found : Option NodeId) → NamesHead e q found → HeadBehindAsync p w found
-  name_read q {w} n j (Some id) x = (ap (λ (z : Parser). z.token.kind) j ∙ x.0, λ text f b. name_head (ap (λ (z : Parser). one_of_kinds name_kinds z.token.kind) (sym h) ∙ listed_here e n) (named_back true a i s h j x text f b) (arrow text f b))
+  name_read q {w} n j (Some id) x = (ap (λ (z : Parser). z.token.kind) j ∙ x.0, λ text f b. name_head (ap (λ (z : Parser). one_of_kinds binding_identifier_kinds z.token.kind) (sym h) ∙ listed_here e n) (named_back true a i s h j x text f b) (arrow text f b))
     where
       arrow : (text : List ℕ) (f : Flags) → At text f p → (y : Lexeme) → Lex text p.token.span.end y → y.kind ≡ Arrow
       arrow text f b y l =

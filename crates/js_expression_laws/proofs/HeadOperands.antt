@@ -17,7 +17,7 @@ use Rattle.js_grammar.specs.Table.{rule}
 use Rattle.js_grammar.proofs.Calculus.{ends, here_at, part_fails}
 use Rattle.js_grammar.proofs.Looks.{apart, covered, covers, not_both}
 use Rattle.js_tree.specs.declared.id.NodeId.{NodeId}
-use Rattle.js_tree.specs.Holding.{Made, Stands, stands}
+use Rattle.js_tree.specs.Holding.{Made, stands}
 use Rattle.js_tree.specs.declared.kind.NodeKind.TheVariants.{ParenthesizedExpression}
 use Rattle.js_tree.specs.Labels.{kind_of}
 use Rattle.js_tree.specs.Nodes.{Node, empty_program, label, node_at}
@@ -32,27 +32,25 @@ use Rattle.js_parsing_laws.specs.States.{At}
 use Rattle.js_parsing_laws.proofs.Here.{kind_here}
 use Rattle.js_parsing_laws.proofs.Paths.{not_here}
 use Rattle.js_parsing_laws.proofs.Escapes.{read_plain}
-use Rattle.js_parsing_laws.proofs.Unbuilt.{nothing_unbuilt}
 use Rattle.js_targets.specs.Taken.{NoTargetFrom, goes_through}
 use Rattle.js_targets.specs.Targets.{is_literal, target_of}
 use Rattle.js_targets.proofs.ArraysBeforeSigns.{is_cover}
 use Rattle.js_targets.proofs.HeadTargets.{before_these, none_before, none_unread}
+use Rattle.js_targets.proofs.CoveredNodes.{label_at}
+use Rattle.js_targets.proofs.ArrayElements.{contrary}
 use Rattle.js_expression_laws.specs.Arrows.{BeforeArrow, told_led, IsRefusedHead, NoOperandHere, Unmoved}
 use Rattle.js_expression_laws.specs.HeadOperands.{HeadOperand, IsNoTarget, NoTargetPart, NoTargetSeen, OperandOutcome, StaysOperand, no_target, operand}
 use Rattle.js_expression_laws.proofs.Arrows.{from_unmoved}
-use Rattle.js_expression_laws.proofs.ParenthesizedFronts.{an_arrow, contrary}
+use Rattle.js_expression_laws.proofs.ParenthesizedFronts.{an_arrow}
 
 -- ---- the node that was made
 
 made_node : {n : Node} {ns ms : List Node} {id : NodeId} → Made n ns ms id → get_or ms id.0 empty_program ≡ n
 made_node {n} {ns} {id = id} m = ap (λ (xs : List Node). get_or xs id.0 empty_program) m.nodes ∙ get_or_push ns n empty_program id.0 (sym m.number)
 
-held_label : {ns : List Node} {id : ℕ} {l : Label} {cs : Slots} {rs : List ℕ} → Stands ns id l cs rs → l ≡ label (get_or ns id empty_program)
-held_label (stands id i a) = refl
-
 pub made_no_target : {l : Label} {ids : List (Option NodeId)} {p q : Parser} {id : NodeId} → is_literal l.kind ≡ false → ((cs : Slots) → target_of l cs ≡ None) → MadeHere l ids p q id → IsNoTarget q id
 made_no_target {l} a b m = λ lo hi k cs h.
-    let e : k ≡ l = held_label h.stands ∙ (ap label (made_node m.made) ∙ m.label_is) in
+    let e : k ≡ l = label_at h.stands ∙ (ap label (made_node m.made) ∙ m.label_is) in
     (subst (λ (v : Label). is_literal v.kind ≡ false) (sym e) a, subst (λ (v : Label). target_of v cs ≡ None) (sym e) (b cs))
 
 pub made_kind : {l : Label} {ids : List (Option NodeId)} {p q : Parser} {id : NodeId} → MadeHere l ids p q id → kind_of (node_at q.nodes id).kind ≡ l.kind
@@ -108,7 +106,7 @@ refused {text} {f} {o} {p} x n k m = let t = told in told_led (record {
 }) t.1
   where
     parens : x.answer.label.kind ≡ parenthesized_expression
-    parens = ap (λ (l : Label). l.kind) (held_label (x.holds).stands) ∙ ap kind_of m
+    parens = ap (λ (l : Label). l.kind) (label_at (x.holds).stands) ∙ ap kind_of m
 
     told : Grown o.errors p.errors × Underived text (at Assignment f) o.prev_token_end
     told = elim x.answer.verdict [
@@ -154,7 +152,7 @@ module _ {text : List ℕ} {f : Flags} {p : Parser} (i : f.in_ ≡ false) where
   from_none a n = inl (before_these i (none_unread (is_cover a) n))
 
   pub operand_unread : (q : Parser) (e : Stop) → At text f p → Stops p q e (Underived text (at Short f) p.prev_token_end) → OperandOutcome text f p q (Err e)
-  operand_unread q Fatal a s = from_none a (s.none nothing_unbuilt)
+  operand_unread q Fatal a s = from_none a s.none
   operand_unread q NoMemory a s = tt
 
   module _ {q : Parser} {left : NodeId} (x : Numbered text f (at Short f) p q left) where

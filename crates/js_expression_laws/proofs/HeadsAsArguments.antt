@@ -9,8 +9,9 @@ use Rattle.js_grammar.specs.Productions.{G, Flags, at, opt, tok, plus_in, Params
 use Rattle.js_grammar.specs.Productions.{sym as symbol}
 use Rattle.js_grammar.specs.Table.{rule, rule_of, name, args, bound_rest, rest_of}
 use Rattle.js_grammar.proofs.Frame.{framed}
+use Rattle.js_grammar.proofs.CoverInitialisers.{deep}
 use Rattle.js_parsing_laws.proofs.FreeOfIn.{any_in}
-use Rattle.js_targets.proofs.ArrayTargets.{One, deep, target_step, target_last, target_property, last_property, array_up, object_up}
+use Rattle.js_targets.proofs.ArrayTargets.{One, target_step, target_last, target_property, last_property, array_up, object_up, spread_one}
 use Rattle.js_targets.proofs.Targets.{by_primary, of_assignment, target_left_hand_side}
 
 -- some slots, before whatever slots stand behind them
@@ -176,10 +177,6 @@ plain_argument : (f : Flags) {i j : ℕ} {ls rest : Lexemes} → One (at Assignm
 unfolding rule rule_of
 plain_argument f x = record { label = x.label; slots = x.slots; derived = is_left (is_such x.derived refl) }
 
-spread_argument : (f : Flags) {i j : ℕ} {x : Lexeme} {ls rest : Lexemes} → IsTrue (seen (is Dot3) x) → One (at Assignment (plus_in f)) x.to ls j rest → One (at Argument f) i (next x ls) j rest
-unfolding rule rule_of
-spread_argument f q x = record { label = _; slots = tree x.label x.slots end; derived = is_right (is_node (is_seq (is_lexeme q) (is_such x.derived refl))) }
-
 -- a target and what is assigned to it
 assigned : (f : Flags) {ts us vs : Slots} {i j k : ℕ} {ls mid rest : Lexemes} → Takes rule (rule (at Target f)) end ts i ls us j mid → Takes rule (rule (at Init (plus_in f))) end vs j mid end k rest → One (at Assignment (plus_in f)) i ls k rest
 unfolding rule rule_of
@@ -214,7 +211,7 @@ module _ (f : Flags) (w : f.wide ≡ false) (v : f.cover ≡ true) where
 
   rest_argument : {ts us : Slots} {i j : ℕ} {ls rest : Lexemes} → Takes rule (rule (at Rest f)) end ts i ls us j rest → One (at Argument f) i ls j rest
   unfolding rule rule_of
-  rest_argument (is_node (is_such (is_node (is_seq (is_lexeme q) (is_seq (is_such d h) (is_right is_nothing)))) g)) = let x = binding_target f w d in spread_argument f q (target_assignment x.derived)
+  rest_argument (is_node (is_such (is_node (is_seq (is_lexeme q) (is_seq (is_such d h) (is_right is_nothing)))) g)) = let x = binding_target f w d in spread_one f q (target_assignment x.derived)
   rest_argument (is_node (is_such (is_node (is_seq (is_lexeme q) (is_seq (is_such d h) (is_left (is_when z e))))) g)) = not_wide w z
 
   params_at : {ks ms ts us vs : Slots} {i j k : ℕ} {ls mid rest : Lexemes} → Takes rule (many (never ◇ symbol Param f ▸ tok Comma)) ms ts i ls us j mid → (ws : Slots) × Takes rule (arguments f) ks ws j mid vs k rest → (ws : Slots) × Takes rule (arguments f) ks ws i ls vs k rest

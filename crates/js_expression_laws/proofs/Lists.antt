@@ -1,10 +1,8 @@
 -- Arrow functions whose parameters stand in parentheses: where none stand, and what was found (ECMA-262, 15.3, 15.9).
-use Rattle.std.proofs.Common.{ℕ, ◌≡◌, ◌∷◌, List, [], Bool, true, false, Option, Some, None, ◌||◌, refl, sym, ap, subst, ◌∙◌}
-use Rattle.js_base.specs.declared.kind.Kind.TheVariants.{Async, LParen, PrivateIdentifier}
-use Rattle.js_base.specs.Kinds.{one_of_kinds, same_kind}
-use Rattle.js_base.specs.Texts.{words}
+use Rattle.std.proofs.Common.{ℕ, ◌≡◌, ◌∷◌, List, [], Bool, true, false, Option, Some, None, refl, sym, ap, subst, ◌∙◌}
+use Rattle.js_base.specs.declared.kind.Kind.TheVariants.{Async, LParen}
+use Rattle.js_base.specs.Kinds.{one_of_kinds}
 use Rattle.js_base.specs.declared.token.Token.{Token}
-use Rattle.js_grammar.specs.Lexemes.{is_word}
 use Rattle.js_grammar.specs.Trees.{Slots, end}
 use Rattle.js_grammar.specs.Grammar.{Lexemes, Takes, alt, is_right, is_seq, nothing, ◌▸◌}
 use Rattle.js_grammar.specs.Lexed.{Lexes}
@@ -23,15 +21,12 @@ use Rattle.js_parsing_laws.specs.Stands.{StandsHere}
 use Rattle.js_parsing_laws.specs.States.{At, Standing}
 use Rattle.js_parsing_laws.proofs.Paths.{fails_at}
 use Rattle.js_parsing_laws.proofs.Signs.{other_kind, plain_sign}
+use Rattle.js_parsing_laws.proofs.PlainSigns.{paren_plain}
 use Rattle.js_expression_laws.specs.Arrows.{FindsAnyHead, FindsAsyncHead, FindsHead, IsHeadOf, NoLed}
 use Rattle.js_expression_laws.specs.Lists.{AsyncListBegins, FindsList, NoParameters, parameters_of}
 use Rattle.js_expression_laws.specs.declared.forms.ArrowHead.{ArrowHead}
 use Rattle.js_expression_laws.proofs.Arrows.{no_async_here, no_plain_led, plain_head_flags, unmoved}
 use Rattle.js_expression_laws.proofs.AsyncHeads.{list_other, no_async_word, plain_found}
-
-open_plain : (is_word LParen || same_kind PrivateIdentifier LParen) ≡ false
-unfolding words
-open_plain = refl
 
 -- where no head stands no parameters do
 unled : {text : List ℕ} (f : Flags) {s : ℕ} (a : Bool) → NoLed a text f s → NoParameters a text f s
@@ -54,7 +49,7 @@ unfolding covers apart
 no_list {text} {f} {p} a n = subst (λ (g : Flags). Fails rule (Lex text) (plain full) end (nothing ▸ (symbol Params g ▸ tok Arrow)) p.prev_token_end) (sym (plain_head_flags f)) (done ▹✗ fails_at a {X = plain full} (symbol Params f ▸ tok Arrow) (LParen ∷ []) refl (other_kind LParen p.token.kind n))
 
 unopened : {text : List ℕ} {f : Flags} {p : Parser} → At text f p → StandsHere p LParen false → p.token.kind ≡ LParen → ⊥
-unopened a n k = n k (plain_sign LParen a k refl refl open_plain)
+unopened a n k = n k (plain_sign LParen a k refl refl paren_plain)
 
 -- ---- what is found
 

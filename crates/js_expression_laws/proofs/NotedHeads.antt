@@ -11,7 +11,6 @@ use Rattle.js_cursor.proofs.Changing.{noted_on, operand_noted_on}
 use Rattle.js_cursor.proofs.Noting.{noted_step}
 use Rattle.js_expression_laws.specs.Arrows.{NoParametersHere, OnlyArrowHere, Unmoved}
 use Rattle.js_expression_laws.proofs.Arrows.{unmoved}
-use Rattle.js_parsing_laws.proofs.ToEnd.{to_end_stays}
 use Rattle.js_parsing_laws.specs.Heads.{NoHead, NotedHeads, OnlyArrow, flags_in, widened}
 use Rattle.js_parsing_laws.specs.Lexemes.{spot}
 use Rattle.js_parsing_laws.specs.States.{At, IsPlain, Same, Standing, flags_of, whole, sign, nothing as none_stands, SpansLie}
@@ -49,7 +48,7 @@ state_noted : {p r q : Parser} → Unmoved p r → q ≡ record r { state = q.st
 state_noted {p} {r} {q} u i g n =
     record {
       at = λ text f b. at_noted text f (u.at text f b);
-      same = same_both u.same (record { follows = g.0; options = ap (λ (z : Parser). z.options) i; ctx = ap (λ (z : Parser). z.ctx) i; depth = ap (λ (z : Parser). z.depth) i; visits = ap (λ (z : Parser). z.visits) i; early = λ w. All-same IsEarly q.errors r.errors (ap (λ (z : Parser). z.errors) i) w; lies = λ w. subst SpansLie (sym i) w; meets = to_end_stays r q (ap (λ (z : Parser). z.text) i) (ap (λ (z : Parser). z.prev_token_end) i) });
+      same = same_both u.same (record { follows = g.0; options = ap (λ (z : Parser). z.options) i; ctx = ap (λ (z : Parser). z.ctx) i; depth = ap (λ (z : Parser). z.depth) i; visits = ap (λ (z : Parser). z.visits) i; early = λ w. All-same IsEarly q.errors r.errors (ap (λ (z : Parser). z.errors) i) w; lies = λ w. subst SpansLie (sym i) w });
       kept = ap (λ (z : Parser). z.errors) i ∙ u.kept;
       place = ap (λ (z : Parser). z.prev_token_end) i ∙ u.place;
       spot_is = ap spot i ∙ u.spot_is;

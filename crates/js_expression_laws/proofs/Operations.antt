@@ -29,7 +29,7 @@ use Rattle.js_tree.specs.Holding.{Holds, Keeps}
 use Rattle.js_tree.proofs.HoldingLemmas.{Keeps-trans, Keeps-made}
 use Rattle.js_cursor.specs.Moves.{is_last}
 use Rattle.js_cursor.specs.Parsers.{Parser}
-use Rattle.js_parsing_laws.specs.Lexemes.{Lex, Plain, other_goals, Walked, spot, read_kinds}
+use Rattle.js_parsing_laws.specs.Lexemes.{Lex, Plain, other_goals, Walked, spot, is_read_kind}
 use Rattle.js_parsing_laws.specs.States.{At, Same}
 use Rattle.js_parsing_laws.specs.Moves.{Moved, Tightness, MadeHere, operation_label}
 use Rattle.js_parsing_laws.specs.Operators.{power_of}
@@ -68,7 +68,7 @@ pub record Operand (text : List ℕ) (f : Flags) (m : ℕ) (p q : Parser) (id : 
 
 -- no `#` is read
 no_hash : {text : List ℕ} {s : ℕ} (y : Lexeme) → Lex text s y → y.kind ≡ PrivateIdentifier → ⊥
-no_hash y l e = false≢true (subst (λ (k : Kind). one_of_kinds read_kinds k ≡ true) e l.1)
+no_hash y l e = false≢true (subst (λ (k : Kind). is_read_kind k ≡ true) e l.1)
 
 -- the rows of operands
 level_rows : (f : Flags) (q : ℕ) (r : Row) → may_end (level_at f q).name r ≡ of_operand r

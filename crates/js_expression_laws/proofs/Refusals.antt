@@ -25,7 +25,7 @@ use Rattle.js_cursor.specs.Parsers.{Parser}
 use Rattle.js_cursor.specs.Places.{goal}
 use Rattle.js_cursor.specs.declared.stop.Stop.{Stop}
 use Rattle.js_parsing_laws.specs.Answers.{Answer, Numbered, Verdict, Stops}
-use Rattle.js_parsing_laws.specs.Lexemes.{Lex, read_kinds}
+use Rattle.js_parsing_laws.specs.Lexemes.{Lex, is_read_kind}
 use Rattle.js_parsing_laws.specs.Moves.{Moved}
 use Rattle.js_parsing_laws.specs.Operators.{power_of}
 use Rattle.js_expression_laws.specs.Rests.{update_kinds}
@@ -82,7 +82,7 @@ module _ {text : List ℕ} {f : Flags} {p q : Parser} (a : At text f p) where
   postfix_marked x u w e start d k =
       let c = update_plain q.token.kind u in
       let z = found x.at (uncut x.at c.1) c.2 in
-      let r : one_of_kinds read_kinds q.token.kind ≡ true = of_update (λ o. one_of_kinds read_kinds o ≡ true) q.token.kind u refl refl in
+      let r : is_read_kind q.token.kind ≡ true = of_update (λ o. is_read_kind o ≡ true) q.token.kind u refl refl in
       let n : z.0.escaped ≡ false = plain_of q.token.kind z.1.word z.0.escaped (subst (λ (v : Kind). z.0.escaped ≡ is_escaped v z.1.word) (sym z.2.kind) z.1.escaped) c.0 in
       let y : Lex text q.prev_token_end z.0 = (z.1, read_of z.0 (sym z.2.kind) r) in
       marked_there q p.prev_token_end a x.at (same_itself) refl (let i = x.further in omega arith)

@@ -6,7 +6,7 @@ use Rattle.js_base.specs.declared.kind.Kind.{Kind}
 use Rattle.js_base.specs.declared.kind.Kind.TheVariants.{Comma}
 use Rattle.js_base.specs.declared.span.Span.{Span}
 use Rattle.js_base.specs.Kinds.{same_kind, one_of_kinds}
-use Rattle.js_grammar.specs.Trees.{Label, Slots, end, hole, tree, append, sequence_expression, no_op}
+use Rattle.js_grammar.specs.Trees.{Label, Slots, end, tree, append, sequence_expression, no_op}
 use Rattle.js_grammar.specs.Grammar.{Lexeme, Lexemes, next, here, seen, is, such, commas, nothing, Takes, is_nothing, is_lexeme, is_such, is_seq, is_left, is_right, is_commas, is_node, ◌▸◌}
 use Rattle.js_grammar.specs.Insertion.{Row, after_expression, after_postfix, after_body, after_yield, after_declarator, after_word, edge}
 use Rattle.js_grammar.specs.Lexed.{Lexes}
@@ -20,6 +20,7 @@ use Rattle.js_grammar.proofs.Looks.{covers, covered, apart, not_both}
 use Rattle.js_grammar.proofs.Calculus.{here_at, ends, passes_both, reaches_less, ◌▹◌, left, right, fails_alt, weaken_fails_on}
 use Rattle.js_grammar.proofs.FollowLaws.{admits, surely, same_read, fails_by}
 use Rattle.js_grammar.proofs.RightEdges.{of_assignment, edge_append}
+use Rattle.js_grammar.proofs.Frame.{append_assoc}
 use Rattle.js_tree.specs.declared.id.NodeId.{NodeId}
 use Rattle.js_tree.specs.declared.kind.NodeKind.TheVariants as node
 use Rattle.js_tree.specs.declared.op.Op.TheVariants as op
@@ -221,11 +222,6 @@ module _ {text : List ℕ} {f : Flags} where
 abbrev pub sequence : Flags → G
 sequence f = mk sequence_expression (operands f)
 
-slots_behind : (a b c : Slots) → append (append a b) c ≡ append a (append b c)
-slots_behind end b c = refl
-slots_behind (hole a) b c = ap (λ v. hole v) (slots_behind a b c)
-slots_behind (tree l cs a) b c = ap (λ v. tree l cs v) (slots_behind a b c)
-
 module _ {text : List ℕ} {f : Flags} where
   pub sequence_goes : {p : Parser} (q : Parser) {us : Slots} {pass : Lexemes → Lexemes} → At text f p → Whole text f (operands f) p.prev_token_end q.prev_token_end us pass → Stretch text (after (at Expression f)) (sequence f) p.prev_token_end nothing q.prev_token_end (tree (label_here sequence_expression no_op p q) us) pass
   sequence_goes {p} q {us} {pass} a w = record { reach = w.reach; near = w.near; goes = record { passes = w.passes; sound = λ vs ws k ls rest lx r d. there vs ws k ls rest lx r d; only = λ ts vs k ls rest lx d e. back ts vs k ls rest lx d e } }
@@ -362,7 +358,7 @@ module _ {text : List ℕ} {f : Flags} {p q r : Parser} {ids : List (Option Node
 
     step_goes : v.token.kind ≡ Comma → Continues text f p q s.prefix s.pass → Stretch text (after (at Assignment f)) (such (at Assignment f) always) r.prev_token_end nothing v.prev_token_end (tree x.answer.label x.answer.slots) x.answer.pass → Continues text f p v (append s.prefix (tree x.answer.label x.answer.slots end)) (λ ls. s.pass (next m.lexeme (x.answer.pass ls)))
     step_goes k u y = record {
-      goes = λ e us through w i. subst (λ (vs : Slots). Whole text f (operands f) p.prev_token_end e vs (λ ls. s.pass (next m.lexeme (x.answer.pass (through ls))))) (sym (slots_behind s.prefix (tree x.answer.label x.answer.slots end) us))
+      goes = λ e us through w i. subst (λ (vs : Slots). Whole text f (operands f) p.prev_token_end e vs (λ ls. s.pass (next m.lexeme (x.answer.pass (through ls))))) (sym (append_assoc s.prefix (tree x.answer.label x.answer.slots end) us))
           (u.goes e (tree x.answer.label x.answer.slots us) _ (comma_passed s.at s.comma (comma_plain s.at s.comma) m (next_item y (commas_here x.answer.at k) w i) (let a = x.answer.further in let b = m.at.behind in omega arith)) (let a = forward in omega arith));
       fails = λ w. u.fails (none_passed s.at s.comma (comma_plain s.at s.comma) m (none_next y (commas_here x.answer.at k) w));
     }

@@ -31,7 +31,6 @@ use Rattle.js_parsing_laws.specs.States.{At, Same, Standing}
 use Rattle.js_parsing_laws.proofs.Here.{kind_here}
 use Rattle.js_parsing_laws.proofs.Moving.{same_both, standing}
 use Rattle.js_parsing_laws.proofs.Paths.{walked_from}
-use Rattle.js_parsing_laws.proofs.Unbuilt.{nothing_unbuilt}
 use Rattle.js_parsing_laws.proofs.Verdicts.{either_way}
 use Rattle.js_targets.specs.Others.{NoYield}
 use Rattle.js_targets.proofs.ArraysBeforeSigns.{is_cover}
@@ -82,7 +81,7 @@ pub arguments_refused : {p q : Parser} (e : Stop) → Standing p → e ≡ Fatal
 arguments_refused {p} {q} e a i s = go (λ text f b. subst (λ (v : Stop). Stops p q v (Fails rule (Lex text) (plain full) end (list_of (item_of true f)) p.prev_token_end)) i (s text f b))
   where
     go : ((text : List ℕ) (f : Flags) → At text f p → Refuses p q (Fails rule (Lex text) (plain full) end (list_of (item_of true f)) p.prev_token_end)) → ArgumentsTold p q true
-    go x = let y = x _ _ a in (((y.follows, y.at), y.heads, y.lies), λ text f b. arguments_fail b ((x text f b).none nothing_unbuilt))
+    go x = let y = x _ _ a in (((y.follows, y.at), y.heads, y.lies), λ text f b. arguments_fail b (x text f b).none)
 
 -- parameters that stand are arguments, and `=>` stands behind them
 stood_never : {p : Parser} (b : Bool) → Standing p → HeadStands b p → ((text : List ℕ) (f : Flags) → At text f p → NeverArrow text f p.prev_token_end) → ⊥

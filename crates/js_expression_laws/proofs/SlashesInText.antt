@@ -3,6 +3,7 @@ use Rattle.std.proofs.Common.{ℕ, ◌+◌, ◌≡◌, ◌≤◌, ◌<◌, ◌�
 use Rattle.std.specs.Prelude.{IsCharBoundary, IsUtf8, slice_index}
 use Rattle.std.specs.Char.{len_utf8}
 use Rattle.std.proofs.lemmas.Bool.{cases_lt, false≢true}
+use Rattle.js_operand_laws.proofs.RegularExpressions.{which_sign, plain_sign_of}
 use Rattle.js_base.specs.declared.kind.Kind.{Kind}
 use Rattle.js_base.specs.declared.kind.Kind.TheVariants.{RegExp, Slash, SlashEq}
 use Rattle.js_base.specs.Kinds.{same_kind, one_of_kinds}
@@ -29,20 +30,6 @@ use Rattle.js_expression_laws.proofs.Arrows.{AllCalm}
 use Rattle.js_expression_laws.proofs.OnePlace.{calm}
 
 -- ---- the words
-
-slash_kind : (k : Kind) → one_of_kinds slashes k ≡ true → (k ≡ Slash) ⊎ (k ≡ SlashEq)
-slash_kind k h = go (same_kind Slash k) (same_kind SlashEq k) refl refl h
-  where
-    go : (a b : Bool) → same_kind Slash k ≡ a → same_kind SlashEq k ≡ b → (a || (b || false)) ≡ true → (k ≡ Slash) ⊎ (k ≡ SlashEq)
-    go true b e f h = inl (sym (kind_of_same Slash k e))
-    go false true e f h = inr (sym (kind_of_same SlashEq k f))
-    go false false e f h = absurd (false≢true h)
-
-sign_plain : (k : Kind) → one_of_kinds slashes k ≡ true → one_of_kinds other_goals k ≡ false
-sign_plain k h = elim (slash_kind k h) [
-  | inl e ↦ ap (one_of_kinds other_goals) e
-  | inr e ↦ ap (one_of_kinds other_goals) e
-]
 
 -- a sign begins with a slash
 sign_word : (w rest : List ℕ) (k : Kind) → kind_in division w rest ≡ Some k → (k ≡ Slash) ⊎ (k ≡ SlashEq) → (cs : List ℕ) × (w ≡ 47 ∷ cs)
@@ -100,7 +87,7 @@ slash_at {text} {s} {y} u b l c = go (same_kind RegExp y.kind) refl
     at_sign : {x : Lexeme} → LexemeBehind division text s x → one_of_kinds slashes x.kind ≡ true → (s ≤ x.from) × (slice_index text x.from ≡ 47)
     at_sign {x} h k =
         let p = passed u b h in
-        let w = sign_word p.word p.rest x.kind p.lexeme.kind (slash_kind x.kind k) in
+        let w = sign_word p.word p.rest x.kind p.lexeme.kind (which_sign x.kind k) in
         let e : behind text x.from ≡ 47 ∷ (w.0 ++ p.rest) = p.here ∙ ap (λ (v : List ℕ). v ++ p.rest) w.1 in
         ((let i = p.stands.end in omega arith), byte_there (w.0 ++ p.rest) u p.stands.boundary e)
 
@@ -127,9 +114,9 @@ slash_at {text} {s} {y} u b l c = go (same_kind RegExp y.kind) refl
         }
     go false e =
         let k = sign (same_kind RegExp y.kind) c e in
-        let g = plainly l.0 l.1 (sign_plain y.kind k) in
+        let g = plainly l.0 l.1 (plain_sign_of y.kind k) in
         let a = at_sign (record { lex = l.0; of_goal = g }) k in
-        let w = sign_word l.0.word l.0.rest y.kind (subst (λ (g : LexicalGoal). kind_in g l.0.word l.0.rest ≡ Some y.kind) g l.0.lexeme.kind) (slash_kind y.kind k) in
+        let w = sign_word l.0.word l.0.rest y.kind (subst (λ (g : LexicalGoal). kind_in g l.0.word l.0.rest ≡ Some y.kind) g l.0.lexeme.kind) (which_sign y.kind k) in
         record { behind = a.0; inside = to_end (subst (λ (v : List ℕ). 0 < width v) (sym w.1) (some_width 47 w.0)); is = a.1 }
 
 -- ---- along a list

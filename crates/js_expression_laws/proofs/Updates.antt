@@ -33,7 +33,7 @@ use Rattle.js_tree.specs.Holding.{Holds, Keeps}
 use Rattle.js_tree.proofs.HoldingLemmas.{Keeps-trans, Keeps-made}
 use Rattle.js_cursor.specs.Parsers.{Parser}
 use Rattle.js_cursor.specs.Moves.{is_last}
-use Rattle.js_parsing_laws.specs.Lexemes.{Lex, is_read, read_kinds, Plain}
+use Rattle.js_parsing_laws.specs.Lexemes.{Lex, is_read, Plain, is_read_kind}
 use Rattle.js_expression_laws.specs.Rests.{update_kinds}
 use Rattle.js_parsing_laws.specs.States.{At}
 use Rattle.js_parsing_laws.specs.Moves.{Moved, MadeHere, plain_label}
@@ -48,6 +48,7 @@ use Rattle.js_operand_laws.proofs.Operands.{by_path}
 use Rattle.js_parsing_laws.proofs.Paths.{reads, Path, ◌⟼◌, ◌⟶◌, ◌⟶✗◌, at_kind, fails_at, token, last_token, last_called, noded, flagged_by, flagged_here, label_here}
 use Rattle.js_parsing_laws.proofs.Phrases.{lift, plain_row, primary_operand}
 use Rattle.js_targets.proofs.Targets.{passes_itself, of_unary}
+use Rattle.js_targets.proofs.ArrayElements.{contrary}
 use Rattle.js_parsing_laws.proofs.Escapes.{read_plain, no_word_among}
 use Rattle.js_parsing_laws.proofs.Tight.{plain_is_read, plain_lex}
 use Rattle.js_parsing_laws.proofs.Verdicts.{verdict_of}
@@ -65,10 +66,6 @@ update_plain k h = of_update (λ k. ((is_word k || same_kind PrivateIdentifier k
 
 pub update_named : (k : Kind) (o : UpdateOperator) → one_of_kinds update_kinds k ≡ true → row_in update_operators k ≡ Some o → update_kind o ≡ k
 update_named k o h = of_update (λ k. row_in update_operators k ≡ Some o → update_kind o ≡ k) k h (λ e. cc) (λ e. cc)
-
-contrary : (b : Bool) → not b ≡ true → b ≡ true → ⊥
-contrary true h e = false≢true h
-contrary false h e = false≢true e
 
 -- ---- the parts
 
@@ -233,8 +230,8 @@ module _ {text : List ℕ} {f : Flags} {p q : Parser} (a : At text f p) (n : one
       on_line : (y : Lexeme) → Lex text q.prev_token_end y → IsTrue (not y.newline)
       on_line y l = ap not (line_here x.at (subst (λ (v : Kind). one_of_kinds update_kinds v ≡ true) (sym e) u) y l ∙ w)
 
-      sign_read : (o : Kind) → one_of_kinds update_kinds o ≡ true → one_of_kinds read_kinds o ≡ true
-      sign_read o u = of_update (λ o. one_of_kinds read_kinds o ≡ true) o u refl refl
+      sign_read : (o : Kind) → one_of_kinds update_kinds o ≡ true → is_read_kind o ≡ true
+      sign_read o u = of_update (λ o. is_read_kind o ≡ true) o u refl refl
 
   postfix_path : {r : Parser} (o : Kind) → one_of_kinds update_kinds o ≡ true → q.token.kind ≡ o → q.token.escaped ≡ false → Moved text f q r → (t : Tree) → target_of x.label x.slots ≡ Some t → Path text f (after (at Update f)) (rule (at Update f)) p nothing r (tree (label_here update_expression (of o) p r) (tree t.label t.slots end))
   postfix_path o u e d m t h = by_postfix o u e u ⟼ noded a (then_sign x o u t h ⟶ sign_path o u e d m)
@@ -285,7 +282,7 @@ module _ {text : List ℕ} {f : Flags} {p : Parser} (a : At text f p) where
 
 module _ {text : List ℕ} {f : Flags} {p q : Parser} (a : At text f p) where
   sign_passed : (o : Kind) → one_of_kinds update_kinds o ≡ true → p.token.kind ≡ o → p.token.escaped ≡ false → Moved text f p q → Path text f (behind_prefix f) (prefix_slots f o) p (symbol SimpleTarget f) q (λ us. us)
-  sign_passed o h e n m = token o a e n (of_update (λ o. one_of_kinds read_kinds o ≡ true) o h refl refl) m
+  sign_passed o h e n m = token o a e n (of_update (λ o. is_read_kind o ≡ true) o h refl refl) m
 
   prefix_path : {r : Parser} (o : Kind) → one_of_kinds update_kinds o ≡ true → p.token.kind ≡ o → p.token.escaped ≡ false → Moved text f p q → (x : Answer text f (at Unary f) q r) → (t : Tree) → target_of x.label x.slots ≡ Some t → Path text f (after (at Update f)) (rule (at Update f)) p nothing r (tree (flagged_here update_expression (of o) prefix_flag p r) (tree t.label t.slots end))
   prefix_path o h e n m x t k = by_prefix a o h e ⟼ flagged_by a (prefix_edge f o p.prev_token_end) (sign_passed o h e n m ⟶ target_path (of_unary f) (prefix_heads f) x t k)

@@ -1,17 +1,15 @@
 -- YieldExpressions (ECMA-262, 15.5).
 use Rattle.std.proofs.Common.{ℕ, ◌≡◌, ◌⊎◌, inl, inr, Bool, true, false, not, ◌&&◌, ◌||◌, IsTrue, List, [], ◌∷◌, length, Some, None, refl, sym, ap, subst, ◌∙◌}
-use Rattle.std.proofs.lemmas.Bool.{false≢true, and_from, or_left, or_right}
+use Rattle.std.proofs.lemmas.Bool.{false≢true, and_from, or_left, or_right, not-true}
 use Rattle.js_base.specs.declared.kind.Kind.{Kind}
-use Rattle.js_base.specs.declared.kind.Kind.TheVariants.{PrivateIdentifier, RAngle, RCurly, RegExp, Star, Yield}
+use Rattle.js_base.specs.declared.kind.Kind.TheVariants.{RAngle, RCurly, RegExp, Star, Yield}
 use Rattle.js_base.specs.declared.span.Span.{Span}
 use Rattle.js_base.specs.Kinds.{same_kind, one_of_kinds}
-use Rattle.js_base.specs.Texts.{words}
 use Rattle.js_base.proofs.KindLemmas.{kind_of_same}
 use Rattle.js_grammar.specs.Trees.{Span as TreeSpan, Label, Slots, end, hole, tree, yield_expression, no_op}
 use Rattle.js_grammar.specs.Grammar.{Lexeme, Lexemes, Look, here, seen, exact, such, nothing, alt, empty_slot, Takes, is_seq, is_left, is_right, is_lexeme, is_look, is_such, is_empty_slot, ◌▸◌}
 use Rattle.js_grammar.specs.Insertion.{after_yield}
 use Rattle.js_grammar.specs.Lexed.{Lexes}
-use Rattle.js_grammar.specs.Lexemes.{is_word}
 use Rattle.js_grammar.specs.Parsing.{Test, plain, full, Admits, always, Goes, Fails, still}
 use Rattle.js_grammar.specs.Productions.{G, Flags, at, tok, mk, make, slot, no_newline, delegate_flag, Arrow', Assignment, Conditional, Target}
 use Rattle.js_grammar.specs.Productions.{sym as symbol, Yield as Yield'}
@@ -43,6 +41,7 @@ use Rattle.js_parsing_laws.proofs.NamedFirsts.{fails_at_yield}
 use Rattle.js_parsing_laws.proofs.Paths.{Path, angles, reads, ◌⟼◌, ◌⟶◌, ◌⟶✗◌, fails_at, token, last_called, noded_by, flagged_by, flagged_here, label_here, by_symbol_as}
 use Rattle.js_parsing_laws.proofs.Signs.{other_kind, plain_sign}
 use Rattle.js_parsing_laws.proofs.Tight.{plain_lex}
+use Rattle.js_parsing_laws.proofs.PlainSigns.{star_plain}
 use Rattle.js_operand_laws.proofs.Operands.{by_path}
 use Rattle.js_expression_laws.proofs.OnePlace.{brace_of, tail_of}
 use Rattle.js_pattern_laws.proofs.Bindings.{ended_by}
@@ -149,10 +148,6 @@ no_brace : apart an_argument a_brace ≡ true
 unfolding apart
 no_brace = refl
 
-not_so : (b : Bool) → not b ≡ true → b ≡ false
-not_so true h = absurd (false≢true h)
-not_so false h = refl
-
 -- the current token is none of an argument's, or stands on a new line
 abbrev Bare : Parser → Type 0
 Bare q = (q.token.is_on_new_line ≡ true) ⊎ (yields_argument q.token.kind ≡ false)
@@ -165,7 +160,7 @@ module _ {text : List ℕ} {f : Flags} {q : Parser} (b : At text f q) where
       go : (r : Bool) → one_of_kinds other_goals y.kind ≡ r → (t : Bool) → same_kind RegExp y.kind ≡ t → yields_argument y.kind ≡ true
       go true o true e = subst (λ (v : Kind). yields_argument v ≡ true) (kind_of_same RegExp y.kind e) refl
       go true o false e = absurd (false≢true (sym (ap yields_argument (brace_of y.kind q.token.kind o e (sign_here b y l o))) ∙ h))
-      go false o t e = subst (λ (v : Kind). yields_argument v ≡ true) (told_plain b (uncut b (not_so (same_kind RAngle q.token.kind) (covered an_argument no_argument_angle argument_whole q.token.kind false false h))) y o l).kind h
+      go false o t e = subst (λ (v : Kind). yields_argument v ≡ true) (told_plain b (uncut b (not-true (same_kind RAngle q.token.kind) (covered an_argument no_argument_angle argument_whole q.token.kind false false h))) y o l).kind h
 
   -- or none does
   no_argument_there : yields_argument q.token.kind ≡ false → (y : Lexeme) → Lex text q.prev_token_end y → yields_argument y.kind ≡ true → ⊥
@@ -211,7 +206,7 @@ module _ {text : List ℕ} {f : Flags} {q : Parser} (b : At text f q) where
   not_bare w h = record { no = λ ts vs k ls rest l d e. go ts vs l d e }
     where
       tight_there : (y : Lexeme) → Lex text q.prev_token_end y → IsTrue (seen (looser 2 f.in_ after_yield) y) → ⊥
-      tight_there y l e = false≢true (sym (not_so (looser 2 f.in_ after_yield y.kind y.newline y.escaped) (covered argued (too_tight f.in_) (argued_tight f.in_) y.kind y.newline y.escaped (and_from _ _ (ap not (newline_here b y l ∙ w)) (argument_there h y l)))) ∙ e)
+      tight_there y l e = false≢true (sym (not-true (looser 2 f.in_ after_yield y.kind y.newline y.escaped) (covered argued (too_tight f.in_) (argued_tight f.in_) y.kind y.newline y.escaped (and_from _ _ (ap not (newline_here b y l ∙ w)) (argument_there h y l)))) ∙ e)
 
       go : (ts vs : Slots) {k : ℕ} {ls rest : Lexemes} → Lexes (Lex text) q.prev_token_end ls → Takes rule empty_slot end ts q.prev_token_end ls vs k rest → Admits (behind_argument f) ts (here rest) → ⊥
       go ts end {ls = ls} l is_empty_slot e = tight_there (here ls) (here_at (Lex text) ls l) e.1
@@ -230,10 +225,6 @@ begun a y = sym (ap (λ (g : Flags). g.yield_) a.flags_are) ∙ y.yields
 pub yield_no_target : {text : List ℕ} {f : Flags} {p : Parser} → At text f p → BeginsYield p → NoTargetFrom text f p.prev_token_end
 unfolding apart
 yield_no_target a y = fails_at_yield a _ {X = plain goes_through} (λ g. symbol Target g) refl refl y.kind (begun a y)
-
-star_plain : (is_word Star || same_kind PrivateIdentifier Star) ≡ false
-unfolding words
-star_plain = refl
 
 module _ {text : List ℕ} {f : Flags} {p q : Parser} (a : At text f p) (y : BeginsYield p) (m : Moved text f p q) where
   to_yield : Goes rule (Lex text) (after (at Assignment f)) end (rule (at Assignment f)) p.prev_token_end (such (at Yield' f) always) p.prev_token_end (λ us. us) (still 0)

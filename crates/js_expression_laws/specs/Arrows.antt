@@ -1,5 +1,5 @@
 -- What the parse functions of arrow functions answer (ECMA-262, 15.3 and 15.9).
-use Rattle.std.specs.Prelude.{ℕ, ◌≡◌, ◌≤◌, ◌<◌, ◌+◌, ◌⊎◌, slice_index, Bool, true, false, not, IsTrue, List, Option, Some, None, length, Result, Ok, Err}
+use Rattle.std.specs.Prelude.{ℕ, ◌≡◌, ◌≤◌, ◌<◌, ◌+◌, ◌⊎◌, slice_index, Bool, true, false, not, ◌||◌, IsTrue, List, Option, Some, None, length, Result, Ok, Err}
 use Rattle.js_base.specs.Contexts.{bits_of}
 use Rattle.js_base.specs.declared.context.Context.{Context}
 use Rattle.js_base.specs.declared.diagnostic.Diagnostic.{Diagnostic}
@@ -7,14 +7,15 @@ use Rattle.js_base.specs.declared.diagnostic.DiagnosticKind.TheVariants.{Lineter
 use Rattle.js_base.specs.declared.kind.Kind.TheVariants.{Arrow, Async, LCurly, LParen}
 use Rattle.js_base.specs.declared.span.Span.{Span}
 use Rattle.js_base.specs.Kinds.{same_kind, one_of_kinds}
+use Rattle.js_base.specs.KindSets.{binding_identifier_kinds}
 use Rattle.js_grammar.specs.Trees.{Label, Slots, end as no_slots, tree, no_op, formal_parameters, formal_parameter, arrow_function_expression}
-use Rattle.js_grammar.specs.Grammar.{Lexeme, Lexemes, Takes, here, seen, empty_slot, nothing, such, ◌▸◌, ◌◇◌}
+use Rattle.js_grammar.specs.Insertion.{may_bind}
+use Rattle.js_grammar.specs.Grammar.{Lexeme, Lexemes, Takes, here, empty_slot, nothing, such, ◌▸◌, ◌◇◌}
 use Rattle.js_grammar.specs.Follow.{after}
 use Rattle.js_grammar.specs.Lexed.{Lexes}
 use Rattle.js_grammar.specs.Parsing.{plain, full, always, still, Fails, Goes}
 use Rattle.js_grammar.specs.Productions.{G, Flags, Symbol, at, sym, tok, mk, only, no_newline, flag, async_flag, generator_flag, Arrow', Assignment, BindingIdentifier, Body, Params, Short}
 use Rattle.js_grammar.specs.Table.{args, rule}
-use Rattle.js_grammar.proofs.Heads.{begins_head}
 use Rattle.js_tree.specs.declared.id.NodeId.{NodeId}
 use Rattle.js_tree.specs.declared.kind.NodeKind.TheVariants.{ParenthesizedExpression}
 use Rattle.js_tree.specs.Nodes.{node_at}
@@ -28,7 +29,7 @@ use Rattle.js_cursor.specs.declared.stop.Stop.TheVariants.{Fatal}
 use Rattle.js_parsing_laws.specs.Answers.{Answers, Grown, Outcome, Stops, Stretch, Underived}
 use Rattle.js_parsing_laws.specs.Contexts.{EntersAsyncHead, arrow_body, arrow_head, braced_body}
 use Rattle.js_parsing_laws.specs.Heads.{NoHead, NotedHeads, OnlyArrow}
-use Rattle.js_parsing_laws.specs.Lexemes.{Lex, Walked, name_kinds, spot}
+use Rattle.js_parsing_laws.specs.Lexemes.{Lex, Walked, spot}
 use Rattle.js_parsing_laws.specs.Moves.{Moved}
 use Rattle.js_parsing_laws.specs.Stands.{StandsHere}
 use Rattle.js_parsing_laws.specs.States.{At, Same, NodesLie, SpansLie}
@@ -229,7 +230,7 @@ ReadsHead p q (Err e) = NoAssignment p q e × NoOperandHere p
 
 -- a name or a parenthesis stands behind the place, on the same line
 abbrev pub BehindWord : List ℕ → ℕ → Type 0
-BehindWord text s = (y : Lexeme) → Lex text s y → (y.newline ≡ false) × IsTrue (seen begins_head y)
+BehindWord text s = (y : Lexeme) → Lex text s y → (y.newline ≡ false) × IsTrue (may_bind y.kind || same_kind LParen y.kind)
 
 -- whether `async` stands here with such behind it; if not, no arrow function begins with it
 abbrev pub AsyncHeadBegins : Parser → Parser → Bool → Type 0
@@ -247,7 +248,7 @@ NoHeadHere a p = (text : List ℕ) (f : Flags) → At text f p → NoHead text (
 -- Behind `async` parameters were read, and behind arguments `=>` stands; or a name was, with `=>` behind it.
 pub data AsyncHead (text : List ℕ) (f : Flags) (p q : Parser) (id : NodeId) : Type 0 where
   list_head : p.token.kind ≡ LParen → HeadRead text f (arrow_head true f) p q id → OnlyArrow text f p.prev_token_end → AsyncHead text f p q id
-  name_head : one_of_kinds name_kinds p.token.kind ≡ true → Head text f (arrow_head true f) p q id → ((y : Lexeme) → Lex text p.token.span.end y → y.kind ≡ Arrow) → AsyncHead text f p q id
+  name_head : one_of_kinds binding_identifier_kinds p.token.kind ≡ true → Head text f (arrow_head true f) p q id → ((y : Lexeme) → Lex text p.token.span.end y → y.kind ≡ Arrow) → AsyncHead text f p q id
 
 -- Behind `async` a head was read; or none stands there, and the parser went on.
 abbrev pub HeadBehindAsync : Parser → Parser → Option NodeId → Type 0

@@ -23,12 +23,12 @@ here_at Lex (next x ls) l = l.0
 pub ends : {N : Type 0} {rule : N → Grammar N} {ks vs us : Slots} {i j : ℕ} {ls rest : Lexemes} → Takes rule nothing ks us i ls vs j rest → (us ≡ vs) × (i ≡ j) × (ls ≡ rest)
 ends is_nothing = (refl, refl, refl)
 
-label_in : Label → Slots → Label
+pub label_in : Label → Slots → Label
 label_in l end = l
 label_in l (hole us) = l
 label_in l (tree m ds us) = m
 
-slots_in : Slots → Slots
+pub slots_in : Slots → Slots
 slots_in end = end
 slots_in (hole us) = end
 slots_in (tree m ds us) = ds

@@ -1,6 +1,6 @@
 -- In core texts the two rules for leaving a semicolon out say the same: an expression ends with `++` or `--` exactly where its right edge is a postfix operator.
 use Rattle.std.proofs.Common.{ℕ, zero, suc, ◌≡◌, ◌≤◌, Bool, true, false, not, cond, ◌&&◌, ◌||◌, [], ◌∷◌, refl, sym, ◌∙◌, subst, arith}
-use Rattle.std.proofs.lemmas.Bool.{false≢true, and_parts, and_from}
+use Rattle.std.proofs.lemmas.Bool.{false≢true, and_parts, and_from, false_from_ne_true}
 use Rattle.js_base.specs.declared.kind.Kind.TheVariants.{LParen, LBrack, Semicolon, Comma, Dot, Arrow, Question, QuestionDot, Plus2, Minus2, Eof}
 use Rattle.js_base.specs.Kinds.{same_kind, one_of_kinds}
 use Rattle.js_grammar.specs.Trees.{Label, Slots, end, tree, append}
@@ -118,10 +118,6 @@ at_symbol plain n h = holds _ _ (plainly n.name n.flags) h
 at_symbol operator n h = absurd (false≢true h)
 at_symbol told n h = holds _ _ (telling n.name n.flags) h
 
-not_true : (b : Bool) → (b ≡ true → ⊥) → b ≡ false
-not_true true f = absurd (f refl)
-not_true false f = refl
-
 -- what the ending tells of the last lexeme and of the right edge
 abbrev Told : Ending → Slots → Slots → Lexeme → Type 0
 Told plain ts us x = seen postfix x ≡ false
@@ -175,7 +171,7 @@ of_tree operator l cs us x = x
 of_tree told l cs us x = (x.0, x.1, λ q o none. subst (λ v. edge o none (tree l cs v) ≡ cond (seen postfix x.0) after_postfix after_expression) (sym q) (x.2 refl o none))
 
 at_last_lexeme : (m : Ending) (p : Look) (x : Lexeme) (ts : Slots) {ls : Lexemes} → seen p x ≡ true → at_lexeme m p ≡ true → Ended m ts ts (next x ls) ls
-at_last_lexeme plain p x ts h e = (x, at_last, not_true (seen postfix x) (not_both p postfix e x.kind x.newline x.escaped h))
+at_last_lexeme plain p x ts h e = (x, at_last, false_from_ne_true (seen postfix x) (not_both p postfix e x.kind x.newline x.escaped h))
 at_last_lexeme operator p x ts h e = (x, at_last, covered p postfix e x.kind x.newline x.escaped h)
 at_last_lexeme told p x ts h e = absurd (false≢true e)
 

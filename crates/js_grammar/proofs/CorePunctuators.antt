@@ -1,5 +1,6 @@
 -- A core punctuator is the longest lexeme of the whole language, too.
 use Rattle.std.proofs.Common.{◌≡◌, ℕ, ◌==◌, Bool, true, false, List, [], ◌∷◌, ◌++◌, refl, sym, ap, subst, ◌∙◌, not, ◌&&◌, ◌||◌, Some}
+use Rattle.std.proofs.lemmas.Bool.{and_left}
 use Rattle.std.specs.Prelude.{is_some, bytes_eq, nat_eq}
 use Rattle.std.specs.List.{list_all, find}
 use Rattle.js_base.specs.declared.kind.Kind.{Kind}
@@ -24,9 +25,6 @@ core_find : (test : Kind → Bool) → test LCurly ≡ false → test RCurly ≡
 unfolding punctuators core_punctuators
 core_find test a b c d e = rw (a, b, c, d, e) refl
 
-and-left : (a b : Bool) → a ≡ false → (a && b) ≡ false
-and-left a b h = rw h refl
-
 abbrev pub strange : List ℕ
 strange = 92 ∷ 47 ∷ 96 ∷ 35 ∷ 64 ∷ 123 ∷ 125 ∷ []
 
@@ -41,9 +39,9 @@ core_kinds c v more h =
     let n4 = neither-right (64 == c) (one_of (123 ∷ 125 ∷ []) c) n3 in
     let left : (123 == c) ≡ false = neither-left (123 == c) (one_of (125 ∷ []) c) n4 in
     let right : (125 == c) ≡ false = neither-left (125 == c) false (neither-right (123 == c) (one_of (125 ∷ []) c) n4) in
-    let fails : (k : Kind) → bytes_eq (text_of k) (c ∷ v) ≡ false → (bytes_eq (text_of k) (c ∷ v) && may_precede k more) ≡ false = λ k e. and-left (bytes_eq (text_of k) (c ∷ v)) (may_precede k more) e in
+    let fails : (k : Kind) → bytes_eq (text_of k) (c ∷ v) ≡ false → (bytes_eq (text_of k) (c ∷ v) && may_precede k more) ≡ false = λ k e. and_left (bytes_eq (text_of k) (c ∷ v)) (may_precede k more) e in
     core_find (λ k. bytes_eq (text_of k) (c ∷ v) && may_precede k more)
-    (fails LCurly (and-left (123 == c) (bytes_eq [] v) left)) (fails RCurly (and-left (125 == c) (bytes_eq [] v) right)) (fails At (and-left (64 == c) (bytes_eq [] v) at)) (fails Slash (and-left (47 == c) (bytes_eq [] v) slash)) (fails SlashEq (and-left (47 == c) (bytes_eq (61 ∷ []) v) slash))
+    (fails LCurly (and_left (123 == c) (bytes_eq [] v) left)) (fails RCurly (and_left (125 == c) (bytes_eq [] v) right)) (fails At (and_left (64 == c) (bytes_eq [] v) at)) (fails Slash (and_left (47 == c) (bytes_eq [] v) slash)) (fails SlashEq (and_left (47 == c) (bytes_eq (61 ∷ []) v) slash))
 
 abbrev pub opening_of : List ℕ → Opening
 opening_of [] = a_punctuator
@@ -92,5 +90,5 @@ plain_punctuator c cs rest h n g =
       apart = no_number_apart m.kind rest (found-all (λ k. bytes_eq (text_of k) (c ∷ cs) && may_precede k rest) (λ k. not (is_number_code (code k))) core_punctuators m.kind m.listed refl);
       inside = found-all (λ k. bytes_eq (text_of k) (c ∷ cs) && may_precede k rest) (λ k. not (one_of (code Eof ∷ code RegExp ∷ []) (code k))) core_punctuators m.kind m.listed refl;
       core = found-all (λ k. bytes_eq (text_of k) (c ∷ cs) && may_precede k rest) (one_of_kinds kinds_of_core) core_punctuators m.kind m.listed refl;
-      unescaped = and-left (is_word m.kind || same_kind PrivateIdentifier m.kind) (has_backslash (c ∷ cs)) (not-true (is_word m.kind || same_kind PrivateIdentifier m.kind) (found-all (λ k. bytes_eq (text_of k) (c ∷ cs) && may_precede k rest) (λ k. not (is_word k || same_kind PrivateIdentifier k)) core_punctuators m.kind m.listed refl));
+      unescaped = and_left (is_word m.kind || same_kind PrivateIdentifier m.kind) (has_backslash (c ∷ cs)) (not-true (is_word m.kind || same_kind PrivateIdentifier m.kind) (found-all (λ k. bytes_eq (text_of k) (c ∷ cs) && may_precede k rest) (λ k. not (is_word k || same_kind PrivateIdentifier k)) core_punctuators m.kind m.listed refl));
     }

@@ -2,7 +2,7 @@
 use Rattle.std.proofs.Common.{◌≡◌, ◌<◌, ◌≤◌, ℕ, zero, suc, ◌+◌, ◌-◌, ◌==◌, Bool, true, false, List, [], ◌∷◌, ◌++◌, refl, sym, ap, subst, ◌∙◌, not, ◌&&◌, ◌||◌, Option, Some, None, ◌⊎◌, inl, inr, append_assoc, take, drop, length, arith}
 use Rattle.std.specs.Prelude.{is_some}
 use Rattle.std.specs.List.{list_all}
-use Rattle.std.proofs.lemmas.Bool.{eqb-true}
+use Rattle.std.proofs.lemmas.Bool.{eqb-true, and_right, and_left, not_from_false}
 use Rattle.js_base.specs.declared.kind.Kind.TheVariants.{Str}
 use Rattle.js_text.specs.Characters.{one_of, is_decimal}
 use Rattle.js_base.specs.Texts.{words}
@@ -72,14 +72,11 @@ closes-run : (q : ℕ) (body ys : List ℕ) → list_all (plain_in q) body ≡ t
 closes-run q [] ys h = rw (eq-self q, closes_string) refl
 closes-run q (c ∷ body) ys h = closes-step q c (body ++ q ∷ ys) (plain-of q c (both-left (plain_in q c) (list_all (plain_in q) body) h)) ∙ closes-run q body ys (both-right (plain_in q c) (list_all (plain_in q) body) h)
 
-not-from : (b : Bool) → b ≡ false → not b ≡ true
-not-from b h = rw h refl
-
 no_cr : (q : ℕ) (body : List ℕ) → list_all (plain_in q) body ≡ true → list_all no_return body ≡ true
-no_cr q body h = all-mono (plain_in q) no_return body (λ c p. not-from (c == 13) (plain-of q c p).cr) h
+no_cr q body h = all-mono (plain_in q) no_return body (λ c p. not_from_false (c == 13) (plain-of q c p).cr) h
 
 no_slash : (q : ℕ) (body : List ℕ) → list_all (plain_in q) body ≡ true → list_all no_backslash body ≡ true
-no_slash q body h = all-mono (plain_in q) no_backslash body (λ c p. not-from (c == 92) (plain-of q c p).slash) h
+no_slash q body h = all-mono (plain_in q) no_backslash body (λ c p. not_from_false (c == 92) (plain-of q c p).slash) h
 
 -- the quote's line ends
 quote-feeds : (q : ℕ) (ys : List ℕ) → (q == 13) ≡ false → line_feeds (q ∷ ys) ≡ q ∷ line_feeds ys
@@ -115,20 +112,13 @@ string-itself q body o h =
     (both (one_of (34 ∷ 39 ∷ []) q) (closes_string q false (line_feeds (body ++ q ∷ [])) && is_some (string_points (string_inside (q ∷ body ++ q ∷ [])))) o
     (both (closes_string q false (line_feeds (body ++ q ∷ []))) (is_some (string_points (string_inside (q ∷ body ++ q ∷ [])))) c (ap is_some p)))
 
-and-false : (a b : Bool) → b ≡ false → (a && b) ≡ false
-and-false true b e = e
-and-false false b e = refl
-
-and-left : (a b : Bool) → a ≡ false → (a && b) ≡ false
-and-left a b h = rw h refl
-
 string-longer : (q : ℕ) (body : List ℕ) (d : ℕ) (ys : List ℕ) → one_of (34 ∷ 39 ∷ []) q ≡ true → list_all (plain_in q) body ≡ true → string_kind (q ∷ body ++ q ∷ d ∷ ys) ≡ None
 string-longer q body d ys o h =
     let f : line_feeds (body ++ q ∷ d ∷ ys) ≡ body ++ q ∷ line_feeds (d ∷ ys) = feeds-append body (q ∷ d ∷ ys) (no_cr q body h) ∙ ap (λ (v : List ℕ). body ++ v) (quote-feeds q (d ∷ ys) (quote_no_return q o)) in
     let c : closes_string q false (line_feeds (body ++ q ∷ d ∷ ys)) ≡ false = ap (λ (v : List ℕ). closes_string q false v) f ∙ closes-run q body (line_feeds (d ∷ ys)) h ∙ something_left d ys in
     ap (λ (b : Bool). elim b [ true ↦ Some Str | false ↦ None ])
-    (and-false (one_of (34 ∷ 39 ∷ []) q) (closes_string q false (line_feeds (body ++ q ∷ d ∷ ys)) && is_some (string_points (string_inside (q ∷ body ++ q ∷ d ∷ ys))))
-    (and-left (closes_string q false (line_feeds (body ++ q ∷ d ∷ ys))) (is_some (string_points (string_inside (q ∷ body ++ q ∷ d ∷ ys)))) c))
+    (and_right (one_of (34 ∷ 39 ∷ []) q) (closes_string q false (line_feeds (body ++ q ∷ d ∷ ys)) && is_some (string_points (string_inside (q ∷ body ++ q ∷ d ∷ ys))))
+    (and_left (closes_string q false (line_feeds (body ++ q ∷ d ∷ ys))) (is_some (string_points (string_inside (q ∷ body ++ q ∷ d ∷ ys)))) c))
 
 quote_opens : (q : ℕ) (digit : Bool) → one_of (34 ∷ 39 ∷ []) q ≡ true → opening q digit ≡ a_string
 quote_opens q true h = opens-same _ _ (member (λ c. opens (opening c true) a_string) (34 ∷ 39 ∷ []) q h refl)

@@ -1,6 +1,6 @@
 -- No early error is in a tree that the core grammar derives, none of its nodes adds to the record of a module, and none is marked as pure.
 use Rattle.std.proofs.Common.{ℕ, ◌≡◌, ◌+◌, ◌/◌, ◌%◌, ◌-◌, ◌++◌, ◌∷◌, Bool, true, false, not, cond, ◌&&◌, List, [], map, refl, sym, subst, ap, ◌∙◌, rules, arith, nat_eq}
-use Rattle.std.proofs.lemmas.Bool.{false≢true, and_parts, and_from}
+use Rattle.std.proofs.lemmas.Bool.{false≢true, and_parts, and_from, not-true}
 use Rattle.js_grammar.specs.Trees.{NodeKind, switch_statement, try_statement, reg_exp_literal, template_literal, with_clause, method_definition, property_definition, accessor_property, import_declaration, export_all_declaration, export_from_declaration, export_named_declaration, export_declaration, export_default_declaration, import_expression, import_meta, function_expression, arrow_function_expression, Op, Span, Label, Slots, end, hole, tree, Tree, append}
 use Rattle.js_grammar.specs.Grammar.{Lexemes, ahead, seq, alt, when, many, commas, such, marked, node, ended, keep, label_of, Takes, Derives, is_nothing, is_lexeme, is_look, is_text, is_ahead, is_empty_slot, is_seq, is_left, is_right, is_when, is_many, is_commas, is_such, is_marked, is_node, is_ended, is_keep, is_kept}
 use Rattle.js_grammar.specs.Productions.{Flags, Name, Symbol, G, Property, Element, Program, pure_flag, has_flag, with_pife}
@@ -134,17 +134,13 @@ derived_spared n t e d = sym (marked_spared (tree t.label t.slots end)) ∙ kind
 abbrev Spares : Rule → Type 0
 Spares r = (k : NodeKind) (o : Op) (n : ℕ) (s : Span) (cs : Slots) → told k ≡ false → r (record { kind = k; op = o; flags = n; span = s }) cs ≡ true
 
-not_told : (b : Bool) → not b ≡ true → b ≡ false
-not_told true h = absurd (false≢true h)
-not_told false h = refl
-
 all_spared : (r : Rule) → Spares r → (us : Slots) → everywhere spared_label us ≡ true → everywhere r us ≡ true
 all_spared r f end h = refl
 all_spared r f (hole us) h = all_spared r f us h
 all_spared r f (tree l cs us) h =
     let x = and_parts (spared_label l cs) _ h in
     let y = and_parts (everywhere spared_label cs) _ x.1 in
-    and_from _ _ (f l.kind l.op l.flags l.span cs (not_told (told l.kind) x.0)) (and_from _ _ (all_spared r f cs y.0) (all_spared r f us y.1))
+    and_from _ _ (f l.kind l.op l.flags l.span cs (not-true (told l.kind) x.0)) (and_from _ _ (all_spared r f cs y.0) (all_spared r f us y.1))
 
 default_spared : Spares one_default
 default_spared switch_statement o n s cs h = absurd (false≢true (sym h))
@@ -196,7 +192,7 @@ all_cooked text (hole us) h p = all_cooked text us h p
 all_cooked text (tree l cs us) h p =
     let x = and_parts (spared_label l cs) _ h in
     let y = and_parts (everywhere spared_label cs) _ x.1 in
-    no_template text p l.kind l.op l.flags l.span cs us (not_told (told l.kind) x.0) (all_cooked text cs y.0) (all_cooked text us y.1)
+    no_template text p l.kind l.op l.flags l.span cs us (not-true (told l.kind) x.0) (all_cooked text cs y.0) (all_cooked text us y.1)
 
 pub early_spared : (text : List ℕ) (t : Tree) → everywhere spared_label (tree t.label t.slots end) ≡ true → EarlyOk text t
 early_spared text t h = let us = tree t.label t.slots end in record {
@@ -221,7 +217,7 @@ none_found (hole us) h = none_found us h
 none_found (tree l cs us) h =
     let x = and_parts (spared_label l cs) _ h in
     let y = and_parts (everywhere spared_label cs) _ x.1 in
-    λ i. none_found cs y.0 i ++ (cond (adds_nothing l.kind (not_told (told l.kind) x.0) i) (record { label = l; slots = cs } ∷ []) [] ++ none_found us y.1 i)
+    λ i. none_found cs y.0 i ++ (cond (adds_nothing l.kind (not-true (told l.kind) x.0) i) (record { label = l; slots = cs } ∷ []) [] ++ none_found us y.1 i)
 
 pub record_spared : (text : List ℕ) (t : Tree) → everywhere spared_label (tree t.label t.slots end) ≡ true → record_errors text t ≡ []
 record_spared text t h = ap (λ (ts : List Tree). errors_of_parts (map (part_of text) (in_order_of_ends ts))) (none_found (tree t.label t.slots end) h)

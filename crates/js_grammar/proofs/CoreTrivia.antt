@@ -1,5 +1,6 @@
 -- The trivia of a core text, and the lexeme behind it.
 use Rattle.std.proofs.Common.{◌≡◌, ◌<◌, ℕ, ◌==◌, Bool, true, false, List, [], ◌∷◌, ◌++◌, refl, sym, ap, subst, ◌∙◌, not, ◌&&◌, ◌||◌, length, arith, nat_lt}
+use Rattle.std.proofs.lemmas.Bool.{and_right, and_left}
 use Rattle.std.specs.Prelude.{codes, bytes_eq}
 use Rattle.std.specs.List.{list_all}
 use Rattle.js_base.specs.Kinds.{one_of_kinds}
@@ -22,13 +23,6 @@ use Rattle.js_grammar.proofs.CoreNumbers.{nothing-nil, plain_number}
 use Rattle.js_grammar.proofs.CorePunctuators.{plain_punctuator}
 use Rattle.js_grammar.proofs.CoreStrings.{plain_string}
 
-and-left : (a b : Bool) → a ≡ false → (a && b) ≡ false
-and-left a b h = rw h refl
-
-and-false : (a b : Bool) → b ≡ false → (a && b) ≡ false
-and-false true b e = e
-and-false false b e = refl
-
 abbrev pub blanks : List ℕ
 blanks = 32 ∷ 9 ∷ 13 ∷ 10 ∷ []
 
@@ -39,12 +33,12 @@ blank_longer first c d x more h =
     let less : (60 == c) ≡ false = not-true (60 == c) (member (λ a. not (60 == a)) blanks c h refl) in
     let minus : (45 == c) ≡ false = not-true (45 == c) (member (λ a. not (45 == a)) blanks c h refl) in
     neither (is_single_line_comment (c ∷ d ∷ x)) (is_multi_line_comment (c ∷ d ∷ x) || (is_html_open (c ∷ d ∷ x) || (first && is_html_close (c ∷ d ∷ x))))
-    (and-left (47 == c) (after (47 ∷ []) within_line (d ∷ x)) slash)
+    (and_left (47 == c) (after (47 ∷ []) within_line (d ∷ x)) slash)
     (neither (is_multi_line_comment (c ∷ d ∷ x)) (is_html_open (c ∷ d ∷ x) || (first && is_html_close (c ∷ d ∷ x)))
-    (and-left (47 == c) (after (42 ∷ []) (closes_comment false) (d ∷ x)) slash)
+    (and_left (47 == c) (after (42 ∷ []) (closes_comment false) (d ∷ x)) slash)
     (neither (is_html_open (c ∷ d ∷ x)) (first && is_html_close (c ∷ d ∷ x))
-    (and-left (60 == c) (after (codes "!--") within_line (d ∷ x)) less)
-    (and-false first (is_html_close (c ∷ d ∷ x)) (and-left (45 == c) (after (codes "->") within_line (d ∷ x)) minus))))
+    (and_left (60 == c) (after (codes "!--") within_line (d ∷ x)) less)
+    (and_right first (is_html_close (c ∷ d ∷ x)) (and_left (45 == c) (after (codes "->") within_line (d ∷ x)) minus))))
 
 pub blank_piece : (first : Bool) (c : ℕ) (rest : List ℕ) → one_of blanks c ≡ true → longest (is_trivia_piece first) (c ∷ []) rest ≡ true
 blank_piece first c rest h =
@@ -57,14 +51,14 @@ pub blank_no_html : (c : ℕ) → one_of blanks c ≡ true → is_html_comment (
 blank_no_html c h =
     let less : (60 == c) ≡ false = not-true (60 == c) (member (λ a. not (60 == a)) blanks c h refl) in
     let minus : (45 == c) ≡ false = not-true (45 == c) (member (λ a. not (45 == a)) blanks c h refl) in
-    neither (is_html_open (c ∷ [])) (is_html_close (c ∷ [])) (and-left (60 == c) (after (codes "!--") within_line []) less) (and-left (45 == c) (after (codes "->") within_line []) minus)
+    neither (is_html_open (c ∷ [])) (is_html_close (c ∷ [])) (and_left (60 == c) (after (codes "!--") within_line []) less) (and_left (45 == c) (after (codes "->") within_line []) minus)
 
 -- what a lexeme of a core text begins with
 abbrev pub is_lexeme_first : ℕ → Bool
 is_lexeme_first c = is_core_first c && not (is_white_space c || is_line_terminator c)
 
 -- a beginning of a beginning
-after-starts : (a w more : List ℕ) (p : List ℕ → Bool) → after a p w ≡ true → starts a (w ++ more) ≡ true
+pub after-starts : (a w more : List ℕ) (p : List ℕ → Bool) → after a p w ≡ true → starts a (w ++ more) ≡ true
 after-starts [] w more p h = refl
 after-starts (x ∷ a) [] more p h = cc
 after-starts (x ∷ a) (c ∷ w) more p h = both (x == c) (starts a (w ++ more)) (both-left (x == c) (after a p w) h) (after-starts a w more p (both-right (x == c) (after a p w) h))
@@ -86,12 +80,12 @@ no_trivia first c cs h o k = none_longer-from (is_trivia_piece first) [] (c ∷ 
     neither (is_blank (d ∷ x)) (is_single_line_comment (d ∷ x) || (is_multi_line_comment (d ∷ x) || (is_html_open (d ∷ x) || (first && is_html_close (d ∷ x)))))
     (blank_of d x w)
     (neither (is_single_line_comment (d ∷ x)) (is_multi_line_comment (d ∷ x) || (is_html_open (d ∷ x) || (first && is_html_close (d ∷ x))))
-    (and-left (47 == d) (after (47 ∷ []) within_line x) slash)
+    (and_left (47 == d) (after (47 ∷ []) within_line x) slash)
     (neither (is_multi_line_comment (d ∷ x)) (is_html_open (d ∷ x) || (first && is_html_close (d ∷ x)))
-    (and-left (47 == d) (after (42 ∷ []) (closes_comment false) x) slash)
+    (and_left (47 == d) (after (42 ∷ []) (closes_comment false) x) slash)
     (neither (is_html_open (d ∷ x)) (first && is_html_close (d ∷ x))
     (not_after (codes "<!--") (d ∷ x) more (c ∷ cs) within_line e o)
-    (and-false first (is_html_close (d ∷ x)) (not_after (codes "-->") (d ∷ x) more (c ∷ cs) within_line e k))))))
+    (and_right first (is_html_close (d ∷ x)) (not_after (codes "-->") (d ∷ x) more (c ∷ cs) within_line e k))))))
   where
     blank_of : (d : ℕ) (x : List ℕ) → (is_white_space d || is_line_terminator d) ≡ false → is_blank (d ∷ x) ≡ false
     blank_of d [] w = w
@@ -137,7 +131,7 @@ before_pieces glued ((c ∷ cs) ∷ ps) h d r e = let s : c ≡ d = cc in subst 
 not_name : (c : ℕ) (cs : List ℕ) → is_decimal c ≡ true → is_ascii_name (c ∷ cs) ≡ false
 not_name c cs h =
     let s : is_identifier_start c ≡ false = not-true (is_identifier_start c) (ascii is_decimal (λ a. not (is_identifier_start a)) c refl (decimal-ascii c h) h) in
-    and-left (is_plain_name (c ∷ cs)) (list_all (λ d. nat_lt d 128) (c ∷ cs)) (and-left (is_identifier_start c) (list_all Rattle.js_grammar.specs.Characters.is_identifier_part cs) s)
+    and_left (is_plain_name (c ∷ cs)) (list_all (λ d. nat_lt d 128) (c ∷ cs)) (and_left (is_identifier_start c) (list_all Rattle.js_grammar.specs.Characters.is_identifier_part cs) s)
 
 use_number : (glued : Bool) (c : ℕ) (cs rest : List ℕ) → is_core_number (c ∷ cs) ≡ true → is_core_use glued (c ∷ cs) rest ≡ true → (not glued && not (begins is_glue rest)) ≡ true
 use_number glued c cs rest n u =

@@ -1,6 +1,6 @@
 -- A name, or what stands in parentheses, with `=>` behind it: no operand takes that arrow.
 use Rattle.std.proofs.Common.{ℕ, ◌≡◌, ◌⊎◌, inl, inr, Bool, true, false, not, cond, ◌&&◌, ◌||◌, List, [], ◌∷◌, ◌++◌, IsTrue, nat_eq, Some, None, refl, sym, ap, subst, ◌∙◌}
-use Rattle.std.proofs.lemmas.Bool.{false≢true, and_parts, or_right}
+use Rattle.std.proofs.lemmas.Bool.{false≢true, and_parts, or_right, false_from_ne_true}
 use Rattle.js_base.specs.declared.kind.Kind.{Kind}
 use Rattle.js_base.specs.declared.kind.Kind.TheVariants.{LParen, RParen, Arrow}
 use Rattle.js_base.specs.Kinds.{same_kind}
@@ -18,6 +18,7 @@ use Rattle.js_grammar.proofs.Matched.{Effect, leaves, effect, balance, Meets, br
 use Rattle.js_grammar.proofs.BracketClaims.{rule_matches}
 use Rattle.js_grammar.proofs.First.{starts, starting}
 use Rattle.js_grammar.proofs.FirstClaims.{firsts}
+use Rattle.js_grammar.proofs.Finding.{either}
 
 -- With these brackets open: the lexemes up to the one behind which none is open, the place there, and what stands behind it.
 pub data One : List ℕ → Lexemes → ℕ → Lexemes → Type 0 where
@@ -56,10 +57,6 @@ takes_no_arrow kept = true
 abbrev NoArrow : Lexemes → Type 0
 NoArrow ls = same_kind Arrow (here ls).kind ≡ false
 
-falsely : (b : Bool) → (b ≡ true → ⊥) → b ≡ false
-falsely true n = absurd (n refl)
-falsely false n = refl
-
 then_along : {ls mid rest : Lexemes} → (mid ≡ ls) ⊎ NoArrow ls → (rest ≡ mid) ⊎ NoArrow mid → (rest ≡ ls) ⊎ NoArrow ls
 then_along (inr n) y = inr n
 then_along (inl e) (inl f) = inl (f ∙ e)
@@ -68,7 +65,7 @@ then_along (inl e) (inr n) = inr (subst (λ (v : Lexemes). NoArrow v) e n)
 -- nothing was taken, or what was taken first is no arrow
 along : {g : G} {ks ts us : Slots} {i j : ℕ} {ls rest : Lexemes} → Takes rule g ks ts i ls us j rest → takes_no_arrow g ≡ true → (rest ≡ ls) ⊎ NoArrow ls
 along is_nothing h = inl refl
-along (is_lexeme {p = p} {x = x} q) h = inr (falsely _ (λ e. not_both p an_arrow h x.kind x.newline x.escaped q e))
+along (is_lexeme {p = p} {x = x} q) h = inr (false_from_ne_true _ (λ e. not_both p an_arrow h x.kind x.newline x.escaped q e))
 along (is_look q) h = inl refl
 along (is_text q) h = inl refl
 along (is_ahead d) h = inl refl
@@ -80,8 +77,8 @@ along (is_when q d) h = along d h
 along (is_many (is_right is_nothing)) h = inl refl
 along (is_many (is_left (is_seq d e))) h = then_along (along d h) (along e h)
 along (is_commas d) h = absurd (false≢true h)
-along (is_such {n = n} {ls = ls} d c) h = inr (falsely _ (λ e. not_both (first n) an_arrow h (here ls).kind (here ls).newline (here ls).escaped (covered (starts firsts.first (rule n) full) (first n) (firsts.claims n) _ _ _ (starting firsts full d refl)) e))
-along (is_marked {n = n} {ls = ls} d) h = inr (falsely _ (λ e. not_both (first n) an_arrow h (here ls).kind (here ls).newline (here ls).escaped (covered (starts firsts.first (rule n) full) (first n) (firsts.claims n) _ _ _ (starting firsts full d refl)) e))
+along (is_such {n = n} {ls = ls} d c) h = inr (false_from_ne_true _ (λ e. not_both (first n) an_arrow h (here ls).kind (here ls).newline (here ls).escaped (covered (starts firsts.first (rule n) full) (first n) (firsts.claims n) _ _ _ (starting firsts full d refl)) e))
+along (is_marked {n = n} {ls = ls} d) h = inr (false_from_ne_true _ (λ e. not_both (first n) an_arrow h (here ls).kind (here ls).newline (here ls).escaped (covered (starts firsts.first (rule n) full) (first n) (firsts.claims n) _ _ _ (starting firsts full d refl)) e))
 along (is_node d) h = along d h
 along (is_ended q d e) h = absurd (false≢true h)
 along (is_keep {a = a} {b = b} d e) h = let z = and_parts (takes_no_arrow a) (takes_no_arrow b) h in then_along (along d z.0) (along e z.1)
@@ -247,10 +244,6 @@ unfolding rule_of apart covers
 lines_go_on Program f = refl
 lines_go_on n f = refl
 
-either : (a b : Bool) → (a || b) ≡ true → (a ≡ true) ⊎ (b ≡ true)
-either true b h = inl refl
-either false b h = inr h
-
 line_goes_on : (n : Symbol) → of_operands n.name ≡ true → (goes_on (rule n) ≡ true) × (may_be_empty (rule n) ≡ false)
 unfolding rule
 line_goes_on n h = go (of_operands n.name) h (goes_on (rule_of n.name n.flags)) (may_be_empty (rule_of n.name n.flags)) (lines_go_on n.name n.flags)
@@ -306,7 +299,7 @@ begins_along : {g : G} {ks ts us : Slots} {i j : ℕ} {ls rest : Lexemes} → Ta
 begins_along {g} {ls = ls} {rest = rest} d h = go (either (begins_no_arrow g) (takes_no_arrow g) h)
   where
     go : (begins_no_arrow g ≡ true) ⊎ (takes_no_arrow g ≡ true) → (rest ≡ ls) ⊎ NoArrow ls
-    go (inl e) = inr (falsely _ (λ q. not_both (starts first g full) an_arrow e (here ls).kind (here ls).newline (here ls).escaped (starting firsts full d refl) q))
+    go (inl e) = inr (false_from_ne_true _ (λ q. not_both (starts first g full) an_arrow e (here ls).kind (here ls).newline (here ls).escaped (starting firsts full d refl) q))
     go (inr e) = along d e
 
 no_head : {g : G} {ks ts us : Slots} {i j : ℕ} {ls rest : Lexemes} → Takes rule g ks ts i ls us j rest → cant_begin g ≡ true → IsTrue (seen begins_head (here ls)) → ⊥
@@ -333,7 +326,7 @@ by_symbol n ls rest h s q f = by (either (of_operands n.name) _ h)
 -- of whatever goes on so
 pub heads : {g : G} {ks ts us : Slots} {i j : ℕ} {ls rest : Lexemes} → Takes rule g ks ts i ls us j rest → goes_on g ≡ true → IsTrue (seen begins_head (here ls)) → Taken (may_be_empty g) ls rest
 heads is_nothing h b = none_taken refl refl
-heads (is_lexeme {p = p} {x = x} {ls = ls} q) h b = taken x.to ls (the_last (one_name x ls b (falsely _ (λ e. not_both p a_paren h x.kind x.newline x.escaped q e)))) (inl refl)
+heads (is_lexeme {p = p} {x = x} {ls = ls} q) h b = taken x.to ls (the_last (one_name x ls b (false_from_ne_true _ (λ e. not_both p a_paren h x.kind x.newline x.escaped q e)))) (inl refl)
 heads (is_look q) h b = none_taken refl refl
 heads (is_text q) h b = none_taken refl refl
 heads (is_ahead d) h b = none_taken refl refl

@@ -1,5 +1,6 @@
 -- The longest front of a class is one alone.
 use Rattle.std.proofs.Common.{◌≡◌, ℕ, Bool, true, false, List, [], ◌∷◌, ◌++◌, refl, sym, ap, subst, not, ◌&&◌, append_assoc, ◌⊎◌, inl, inr}
+pub use Rattle.std.proofs.lemmas.Bool.{not-true}
 use Rattle.js_grammar.specs.Longest.{Class, longest, none_longer}
 
 pub both-left : (a b : Bool) → (a && b) ≡ true → a ≡ true
@@ -12,10 +13,6 @@ both-right false b h = cc
 
 pub both : (a b : Bool) → a ≡ true → b ≡ true → (a && b) ≡ true
 both a b h k = rw (h, k) refl
-
-pub not-true : (a : Bool) → not a ≡ true → a ≡ false
-not-true true h = sym h
-not-true false h = refl
 
 pub append-nil : (w : List ℕ) → w ++ [] ≡ w
 append-nil [] = refl

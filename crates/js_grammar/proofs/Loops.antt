@@ -10,8 +10,8 @@ use Rattle.js_grammar.specs.Lexed.{Lexes}
 use Rattle.js_grammar.proofs.Looks.{none, either, covers, covered, some_of, some_at}
 use Rattle.js_grammar.proofs.First.{FirstSets, starts, starting}
 use Rattle.js_grammar.specs.Parsing.{always, full, Reaches, Way, joined, Passes, Test, plain, Admits, Reads, Fails}
-use Rattle.js_grammar.proofs.Calculus.{Heads, Within, On, weaken_fails, fails_never, here_at, a_far, b_far, passes_both}
-use Rattle.js_grammar.proofs.Towers.{Link, link, linked_label, Among, of_left, of_right, Links, one, two, guarded, none_at_all, Tower, Foot, topmost, of_level, Tail, tail_none, tail_more, an_link, under, unroll, roll, on_foot, foot_high, foot_low, Same, chain, level_tower, branches, operation, operation_link, of_operations, to_operations, same_label, same_slots, OneOf, head, later}
+use Rattle.js_grammar.proofs.Calculus.{label_is, slots_are, Heads, Within, On, weaken_fails, fails_never, here_at, a_far, b_far, passes_both}
+use Rattle.js_grammar.proofs.Towers.{Link, link, linked_label, Among, of_left, of_right, Links, one, two, guarded, none_at_all, Tower, Foot, topmost, of_level, Tail, tail_none, tail_more, an_link, under, unroll, roll, on_foot, foot_high, foot_low, Same, chain, level_tower, branches, operation, operation_link, of_operations, to_operations, OneOf, head, later}
 
 -- Of the symbol of the level m, read from s on, where X stands behind it, a node of the level c has been read, up to s'; what remains is the parts behind it. The symbol's first lexeme begins at `from`.
 pub record Around {N : Type 0} {rule : N → Grammar N} (Lex : ℕ → Lexeme → Type 0) (X : Test) (w : Tower rule) (m s from c : ℕ) (l : Label) (cs : Slots) (s' : ℕ) (way : Way) : Type 0 where
@@ -134,7 +134,7 @@ module _ {N : Type 0} {rule : N → Grammar N} (C : FirstSets rule) where
             → (ls' : Lexemes) × Lexes Lex s' ls' × Tail w m from c l cs s' ls' m' ds k rest × (ls ≡ rn.pass ls')
         by_foot l' cs' j mid c' g' m' ds k ls rest (inl q) v i d u e =
             let x = r.only (tree l' cs' end) end j ls mid i (subst (λ z. Takes rule z end (tree l' cs' end) s ls end j mid) q.1 d) (starting_tail X X' (tree l' cs' end) u e (follows_less v f) (p (tree l' cs' end) (here mid))) in
-            (x.1, x.3, subst (λ z. Tail w m from z l cs s' x.1 m' ds k rest) q.0 (renamed (b (here ls) (here_at Lex ls i)) (same_label x.2) (same_slots x.2) (moved x.4 u)), x.5)
+            (x.1, x.3, subst (λ z. Tail w m from z l cs s' x.1 m' ds k rest) q.0 (renamed (b (here ls) (here_at Lex ls i)) (label_is x.2) (slots_are x.2) (moved x.4 u)), x.5)
         by_foot l' cs' j mid c' g' m' ds k ls rest (inr n) v i d u e = absurd (n.no (tree l' cs' end) end j ls mid i d (starting_tail X X' (tree l' cs' end) u e (follows_less v f) (p (tree l' cs' end) (here mid))))
 
     -- no foot can be read

@@ -1,5 +1,6 @@
 -- Whether no longer front is a lexeme or a piece of trivia, by the next character alone where that is enough. What these tests say yes to holds.
 use Rattle.std.proofs.Common.{ℕ, ◌≡◌, ◌==◌, Bool, true, false, not, ◌&&◌, ◌||◌, List, [], ◌∷◌, ◌++◌, Option, Some, None, refl, sym, ap, subst, ◌∙◌, append_assoc}
+use Rattle.std.proofs.lemmas.Bool.{and_right, and_left}
 use Rattle.std.specs.Prelude.{codes, bytes_eq, is_some, cond}
 use Rattle.std.specs.List.{list_all, find}
 use Rattle.js_base.specs.declared.kind.Kind.{Kind}
@@ -23,13 +24,7 @@ use Rattle.js_grammar.proofs.CoreLemmas.{none_longer-from, plain_of, opens, open
 use Rattle.js_grammar.proofs.CorePlain.{no_backslash, no_return, feeds-append}
 use Rattle.js_grammar.proofs.CoreNames.{longer_name, parts_stop}
 use Rattle.js_grammar.proofs.CoreNumbers.{Ends, number-longer, number-opens}
-
-and-left : (a b : Bool) → a ≡ false → (a && b) ≡ false
-and-left a b h = rw h refl
-
-and-right : (a b : Bool) → b ≡ false → (a && b) ≡ false
-and-right true b e = e
-and-right false b e = refl
+use Rattle.js_grammar.proofs.CoreTrivia.{after-starts}
 
 -- the first characters of two equal lists
 head : {c d : ℕ} {xs ys : List ℕ} → c ∷ xs ≡ d ∷ ys → c ≡ d
@@ -109,7 +104,7 @@ closed_longer q e (c ∷ xs) d ys h = go (not e && (c == q)) h (λ k. closed_lon
     go : (b : Bool) → elim b [ true ↦ nothing_left xs | false ↦ (e || not (c == 10)) && closes_string q (not e && (c == 92)) xs ] ≡ true → (closes_string q (not e && (c == 92)) xs ≡ true → closes_string q (not e && (c == 92)) (xs ++ d ∷ ys) ≡ false)
         → elim b [ true ↦ nothing_left (xs ++ d ∷ ys) | false ↦ (e || not (c == 10)) && closes_string q (not e && (c == 92)) (xs ++ d ∷ ys) ] ≡ false
     go true k r = something_left xs d ys
-    go false k r = and-right (e || not (c == 10)) (closes_string q (not e && (c == 92)) (xs ++ d ∷ ys)) (r (both-right (e || not (c == 10)) (closes_string q (not e && (c == 92)) xs) k))
+    go false k r = and_right (e || not (c == 10)) (closes_string q (not e && (c == 92)) (xs ++ d ∷ ys)) (r (both-right (e || not (c == 10)) (closes_string q (not e && (c == 92)) xs) k))
 
 -- a string without CR, closed
 abbrev pub ends_string : ℕ → List ℕ → Bool
@@ -123,7 +118,7 @@ string_longer c cs d x more h =
     let shut : closes_string c false (line_feeds (cs ++ d ∷ x)) ≡ false = ap (λ (v : List ℕ). closes_string c false v) (feeds-append cs (d ∷ x) r) ∙ go s (d == 13) in
     ap is_some (
     plain_of a_string c (cs ++ d ∷ x) more (always_opens a_string c (begins is_decimal (cs ++ d ∷ x)) (both-left (always a_string c) (ends_string c cs) h))
-    ∙ ap (λ (b : Bool). elim b [ true ↦ Some Str | false ↦ None ]) (and-right (one_of (34 ∷ 39 ∷ []) c) _ (and-left (closes_string c false (line_feeds (cs ++ d ∷ x))) (is_some (string_points (string_inside (c ∷ cs ++ d ∷ x)))) shut)))
+    ∙ ap (λ (b : Bool). elim b [ true ↦ Some Str | false ↦ None ]) (and_right (one_of (34 ∷ 39 ∷ []) c) _ (and_left (closes_string c false (line_feeds (cs ++ d ∷ x))) (is_some (string_points (string_inside (c ∷ cs ++ d ∷ x)))) shut)))
   where
     go : closes_string c false cs ≡ true → (b : Bool) → closes_string c false (cs ++ elim b [ true ↦ 10 ∷ line_feeds_after true x | false ↦ d ∷ line_feeds_after false x ]) ≡ false
     go s true = closed_longer c false cs 10 (line_feeds_after true x) s
@@ -212,7 +207,7 @@ not_text u x t h = go (bytes_eq t (u ++ x)) refl
 none_found : (ks : List Kind) (u x more : List ℕ) → begins_none u ks ≡ true → find (λ k. bytes_eq (text_of k) (u ++ x) && may_precede k more) ks ≡ None
 none_found [] u x more h = refl
 none_found (k ∷ ks) u x more h =
-    ap (λ (b : Bool). cond b (Some k) (find (λ j. bytes_eq (text_of j) (u ++ x) && may_precede j more) ks)) (and-left (bytes_eq (text_of k) (u ++ x)) (may_precede k more) (not_text u x (text_of k) (not-true (starts u (text_of k)) (both-left (not (starts u (text_of k))) (begins_none u ks) h))))
+    ap (λ (b : Bool). cond b (Some k) (find (λ j. bytes_eq (text_of j) (u ++ x) && may_precede j more) ks)) (and_left (bytes_eq (text_of k) (u ++ x)) (may_precede k more) (not_text u x (text_of k) (not-true (starts u (text_of k)) (both-left (not (starts u (text_of k))) (begins_none u ks) h))))
     ∙ none_found ks u x more (both-right (not (starts u (text_of k))) (begins_none u ks) h)
 
 punctuator_longer : (c : ℕ) (cs : List ℕ) (d : ℕ) (x more : List ℕ) → (opens (opening c (begins is_decimal (cs ++ d ∷ []))) a_punctuator && begins_none (c ∷ cs ++ d ∷ []) punctuators) ≡ true → lexemes_in division (c ∷ cs ++ d ∷ x) more ≡ false
@@ -278,18 +273,12 @@ none_goes_on-is g w (d ∷ rest) h = go (stops g w d) refl h
 
 -- Trivia.
 
--- a comment that doesn't begin here
-after_starts : (a w more : List ℕ) (p : List ℕ → Bool) → after a p w ≡ true → starts a (w ++ more) ≡ true
-after_starts [] w more p h = refl
-after_starts (x ∷ a) [] more p h = cc
-after_starts (x ∷ a) (c ∷ w) more p h = both (x == c) (starts a (w ++ more)) (both-left (x == c) (after a p w) h) (after_starts a w more p (both-right (x == c) (after a p w) h))
-
 not_after : (a w more rest : List ℕ) (p : List ℕ → Bool) → rest ≡ w ++ more → not (starts a rest) ≡ true → after a p w ≡ false
 not_after a w more rest p e n = go (after a p w) refl
   where
     go : (b : Bool) → after a p w ≡ b → after a p w ≡ false
     go false f = f
-    go true f = let s = after_starts a w more p f in let t : starts a (w ++ more) ≡ false = subst (λ (v : List ℕ). starts a v ≡ false) e (not-true (starts a rest) n) in cc
+    go true f = let s = after-starts a w more p f in let t : starts a (w ++ more) ≡ false = subst (λ (v : List ℕ). starts a v ≡ false) e (not-true (starts a rest) n) in cc
 
 abbrev pub blank : ℕ → Bool
 blank c = is_white_space c || is_line_terminator c
@@ -318,7 +307,7 @@ no_trivia-is first (c ∷ cs) h =
     (neither (is_single_line_comment (d ∷ x)) _ (not_after (codes "//") (d ∷ x) more (c ∷ cs) within_line e s1)
     (neither (is_multi_line_comment (d ∷ x)) _ (not_after (codes "/*") (d ∷ x) more (c ∷ cs) (closes_comment false) e s2)
     (neither (is_html_open (d ∷ x)) (first && is_html_close (d ∷ x)) (not_after (codes "<!--") (d ∷ x) more (c ∷ cs) within_line e s3)
-    (and-right first (is_html_close (d ∷ x)) (not_after (codes "-->") (d ∷ x) more (c ∷ cs) within_line e s4))))))
+    (and_right first (is_html_close (d ∷ x)) (not_after (codes "-->") (d ∷ x) more (c ∷ cs) within_line e s4))))))
 
 -- one character that is a piece, and no other begins with it
 abbrev pub is_single : List ℕ → Bool
@@ -339,10 +328,10 @@ single_piece first (c ∷ []) rest h =
     both (is_trivia_piece first (c ∷ []) rest) (none_longer (is_trivia_piece first) (c ∷ []) rest)
     (ap (λ (a : Bool). a || (is_single_line_comment (c ∷ []) || (is_multi_line_comment (c ∷ []) || (is_html_open (c ∷ []) || (first && is_html_close (c ∷ [])))))) b)
     (none_longer-from (is_trivia_piece first) (c ∷ []) rest (λ d x more e.
-    neither (is_single_line_comment (c ∷ d ∷ x)) _ (and-left (47 == c) (after (47 ∷ []) within_line (d ∷ x)) slash)
-    (neither (is_multi_line_comment (c ∷ d ∷ x)) _ (and-left (47 == c) (after (42 ∷ []) (closes_comment false) (d ∷ x)) slash)
-    (neither (is_html_open (c ∷ d ∷ x)) (first && is_html_close (c ∷ d ∷ x)) (and-left (60 == c) (after (codes "!--") within_line (d ∷ x)) less)
-    (and-right first (is_html_close (c ∷ d ∷ x)) (and-left (45 == c) (after (codes "->") within_line (d ∷ x)) minus))))))
+    neither (is_single_line_comment (c ∷ d ∷ x)) _ (and_left (47 == c) (after (47 ∷ []) within_line (d ∷ x)) slash)
+    (neither (is_multi_line_comment (c ∷ d ∷ x)) _ (and_left (47 == c) (after (42 ∷ []) (closes_comment false) (d ∷ x)) slash)
+    (neither (is_html_open (c ∷ d ∷ x)) (first && is_html_close (c ∷ d ∷ x)) (and_left (60 == c) (after (codes "!--") within_line (d ∷ x)) less)
+    (and_right first (is_html_close (c ∷ d ∷ x)) (and_left (45 == c) (after (codes "->") within_line (d ∷ x)) minus))))))
 
 abbrev pub trivia_stands : Bool → List (List ℕ) → List ℕ → Bool
 trivia_stands first [] rest = elim (no_trivia rest) [ true ↦ true | false ↦ none_begins (is_trivia_piece first) rest ]

@@ -1,5 +1,6 @@
 -- Left-recursive symbols, one above the other, and the loop that reads them: what a symbol takes is what a foot takes, with parts behind it. For any grammar.
-use Rattle.std.proofs.Common.{ℕ, zero, suc, ◌≡◌, ◌≤◌, ◌+◌, ◌-◌, Bool, IsTrue, List, [], ◌∷◌, refl, ap, sym, subst, arith, ◌↔◌, nat_eq, cond}
+use Rattle.std.proofs.Common.{ℕ, zero, suc, ◌≡◌, ◌≤◌, ◌+◌, ◌-◌, Bool, IsTrue, List, [], ◌∷◌, refl, sym, subst, arith, ◌↔◌, nat_eq, cond}
+use Rattle.js_grammar.proofs.Calculus.{label_is, slots_are}
 use Rattle.js_base.specs.declared.kind.Kind.{Kind}
 use Rattle.js_grammar.specs.Trees.{NodeKind, Op, of, Label, Slots, end, hole, tree}
 use Rattle.js_grammar.specs.Grammar.{here, Lexemes, Make, exact, Grammar, never, lexeme, is, seq, alt, when, such, node, Takes, is_seq, is_left, is_right, is_when, is_such, is_node}
@@ -58,24 +59,6 @@ pub data Tail {N : Type 0} {rule : N → Grammar N} (w : Tower rule) (m from : �
   tail_none : {c : ℕ} {l : Label} {cs : Slots} {i : ℕ} {ls : Lexemes} → Tail w m from c l cs i ls l cs i ls
   tail_more : {c q : ℕ} {x : Link N} {l l' : Label} {cs ds cs' : Slots} {i j k : ℕ} {ls mid rest : Lexemes} → m ≤ q → q ≤ c → q ≤ w.top → Among (w.level q) (w.steps q) x → Takes rule x.part end ds i ls end j mid
       → Tail w m from q (linked_label x from j) (tree l cs ds) j mid l' cs' k rest → Tail w m from c l cs i ls l' cs' k rest
-
-first_label : Label → Slots → Label
-first_label l end = l
-first_label l (hole us) = l
-first_label l (tree m ds us) = m
-
-first_slots : Slots → Slots
-first_slots end = end
-first_slots (hole us) = end
-first_slots (tree m ds us) = ds
-
-pub same_label : {l m : Label} {cs ds us vs : Slots} → tree l cs us ≡ tree m ds vs → l ≡ m
-unfolding first_label
-same_label {l} q = ap (first_label l) q
-
-pub same_slots : {l m : Label} {cs ds us vs : Slots} → tree l cs us ≡ tree m ds vs → cs ≡ ds
-unfolding first_slots
-same_slots q = ap first_slots q
 
 module _ {N : Type 0} {rule : N → Grammar N} where
   -- the slots behind a symbol's node are any
@@ -151,8 +134,8 @@ module _ {N : Type 0} {rule : N → Grammar N} where
     by_choice {m} {i} {j} {ls} {rest} l cs h t up (is_left (is_right d)) = (l, cs, j, rest, m, w.feet m, of_level (omega arith) t, d, tail_none)
     by_choice {m} {i} {j} {ls} {rest} l cs h t up (is_right d) =
         let y = split (w.linked m t) d in
-        let q = sym (same_slots y.3) in
-        subst (λ v. Postfix m v cs i ls j rest) (sym (same_label y.3)) (behind cs h t y.2 (subst (λ v. Takes rule (seq (such (w.level m) always) y.0.part) end v i ls end j rest) q y.4))
+        let q = sym (slots_are y.3) in
+        subst (λ v. Postfix m v cs i ls j rest) (sym (label_is y.3)) (behind cs h t y.2 (subst (λ v. Takes rule (seq (such (w.level m) always) y.0.part) end v i ls end j rest) q y.4))
 
     of_such : {n : N} {l : Label} {cs : Slots} {i j : ℕ} {ls rest : Lexemes} → Takes rule (such n always) end (tree l cs end) i ls end j rest → Takes rule (rule n) end (tree l cs end) i ls end j rest
     of_such (is_such d c) = d

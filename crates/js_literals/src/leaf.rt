@@ -1,12 +1,13 @@
 //! Operands of one lexeme, and the end of parentheses (ECMA-262, sections 12.7, 12.9 and 13.2).
 
 ghost use Rattle.std.specs.Prelude.{◌≡◌, true, false, MatchResult};
+ghost use Rattle.js_base.specs.Kinds.{one_of_kinds};
+ghost use Rattle.js_base.specs.KindSets.{identifier_name_kinds};
 ghost use Rattle.js_base.specs.declared.kind.Kind.TheVariants.{RParen, Str};
 ghost use Rattle.js_cursor.specs.Moves.{OnlyMemory, Opened};
 ghost use Rattle.js_grammar.specs.Productions.{at, IdentifierName};
 ghost use Rattle.js_operand_laws.specs.Numbers.{node_of_number, op_of_number};
 ghost use Rattle.js_parsing_laws.specs.Answers.{Answers};
-ghost use Rattle.js_parsing_laws.specs.Lexemes.{read_word};
 ghost use Rattle.js_parsing_laws.specs.Moves.{IsWholeHere, Passes, TakesLeaf};
 ghost use Rattle.js_parsing_laws.specs.NodeTexts.{is_name_node, is_textual};
 ghost use Rattle.js_parsing_laws.specs.States.{Standing};
@@ -16,7 +17,7 @@ ghost use Rattle.js_tree.specs.declared.op.Op.TheVariants as op;
 use js_base::{Kind, Span};
 use js_cursor::{ParserImpl, Stop};
 use js_lex::ParserConfig;
-use js_parsing::lexemes::{advance, is_read_word};
+use js_parsing::lexemes::advance;
 use js_parsing::nodes::{make_leaf, make_name, make_string};
 use js_tree::{BigintBase, NodeId, NodeKind, NumberBase, Op};
 
@@ -26,7 +27,7 @@ pub fn parse_identifier_name<C: ParserConfig>(p: &mut ParserImpl<'_, C>) -> Resu
     requires { Standing p.old }
     ensures { Answers (at IdentifierName) p.old p.new result }
 {
-    if !is_read_word(p.cur_kind()) {
+    if !p.cur_kind().is_identifier_name() {
         return Err(p.set_unexpected());
     }
     parse_name(p, NodeKind::IdentifierName)
@@ -57,7 +58,7 @@ pub fn parse_name<C: ParserConfig>(
     requires at { Standing p.old }
     requires whole { IsWholeHere p.old }
     requires kind { is_name_node kind ≡ true }
-    requires word { read_word p.old.token.kind ≡ true }
+    requires word { one_of_kinds identifier_name_kinds p.old.token.kind ≡ true }
     ensures { MatchResult result (λ id. TakesLeaf kind op.None p.old p.new id) OnlyMemory }
 {
     let token = p.cur_token();

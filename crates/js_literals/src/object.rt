@@ -3,6 +3,7 @@
 ghost use Rattle.std.specs.Prelude.{not, ◌&&◌, ◌≡◌, ◌+◌, ◌≤◌, ◌∷◌, [], true, false, MatchResult, IfOk, None, Some};
 ghost use Rattle.js_base.specs.Contexts.{has_flag, yield_flag, await_flag};
 ghost use Rattle.js_base.specs.Kinds.{one_of_kinds};
+ghost use Rattle.js_base.specs.KindSets.{identifier_name_kinds};
 ghost use Rattle.js_base.specs.declared.kind.Kind.TheVariants.{Colon, Comma, Dot3, Eq, LCurly, LParen, RBrack, RCurly, RParen, Star};
 ghost use Rattle.js_cursor.specs.Moves.{Opened};
 ghost use Rattle.js_grammar.specs.Productions.{at, computed_flag, flag, method_flag, shorthand_flag, Primary, Property};
@@ -10,7 +11,7 @@ ghost use Rattle.js_tree.specs.Labels.{number_of};
 ghost use Rattle.js_tree.specs.declared.op.PropertyKind.TheVariants.{Init};
 ghost use Rattle.js_operand_laws.specs.Objects.{NoProperties, Properties, ReadsAccessor, ReadsAsyncMethod, ReadsBehindName, begins_async, ReadsMethod, ReadsShorthand, ReadsValue, TakesProperty, ends_name_kinds, flags_of_form, form_of, function_label, kind_of_form, method_left, property_label};
 ghost use Rattle.js_parsing_laws.specs.Answers.{Answers};
-ghost use Rattle.js_parsing_laws.specs.Lexemes.{may_name, read_word};
+ghost use Rattle.js_parsing_laws.specs.Lexemes.{may_name};
 ghost use Rattle.js_parsing_laws.specs.Lists.{ReadsItem};
 ghost use Rattle.js_parsing_laws.specs.Methods.{ReadsWhole};
 ghost use Rattle.js_parsing_laws.specs.Moves.{MadeHere};
@@ -28,7 +29,7 @@ use js_lex::ParserConfig;
 use js_memory::NoMemory;
 use js_operand_laws::forms::PropertyName;
 use js_parsing::context::{assignment_with_in, body_of_function, parameters_in_method};
-use js_parsing::lexemes::{advance, is_name_here, is_read_word, keyword_of, stands};
+use js_parsing::lexemes::{advance, is_name_here, keyword_of, stands};
 use js_parsing::nodes::{make_list, make_name};
 use js_parsing_laws::nested::{MethodForm, Nested};
 use js_tree::{NodeFlags, NodeId, NodeKind, Op, PropertyKind};
@@ -100,7 +101,7 @@ fn parse_property<C: ParserConfig, N: Nested<C>>(
     requires nests { CanNest (N.can nested.now) (room p.old + 1) }
     ensures { ReadsItem (at Property) p.old p.new result }
 {
-    if is_read_word(p.cur_kind()) {
+    if p.cur_kind().is_identifier_name() {
         return parse_word_property(p, nested);
     }
     match p.cur_kind() {
@@ -117,7 +118,7 @@ fn parse_other_property<C: ParserConfig, N: Nested<C>>(
 ) -> Result<NodeId, Stop>
     requires at { Standing p.old }
     requires nests { CanNest (N.can nested.now) (room p.old + 1) }
-    requires no_word { read_word p.old.token.kind ≡ false }
+    requires no_word { one_of_kinds identifier_name_kinds p.old.token.kind ≡ false }
     requires no_sign { one_of_kinds (Dot3 ∷ Star ∷ []) p.old.token.kind ≡ false }
     ensures { ReadsItem (at Property) p.old p.new result }
 {
@@ -168,7 +169,7 @@ fn parse_word_property<C: ParserConfig, N: Nested<C>>(
 ) -> Result<NodeId, Stop>
     requires at { Standing p.old }
     requires nests { CanNest (N.can nested.now) (room p.old + 1) }
-    requires word { read_word p.old.token.kind ≡ true }
+    requires word { one_of_kinds identifier_name_kinds p.old.token.kind ≡ true }
     ensures { ReadsItem (at Property) p.old p.new result }
 {
     let word = p.cur_token();

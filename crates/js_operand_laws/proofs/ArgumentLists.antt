@@ -1,17 +1,14 @@
 -- Arguments: what is left of the list behind each of its items.
-use Rattle.std.proofs.Common.{ℕ, ◌≡◌, ◌≤◌, ◌<◌, ◌⊎◌, inl, inr, max, List, [], ◌∷◌, ◌++◌, length, Option, Some, Bool, true, false, not, ◌||◌, IsTrue, refl, sym, ap, subst, arith, ◌∙◌}
+use Rattle.std.proofs.Common.{ℕ, ◌≡◌, ◌≤◌, ◌<◌, ◌⊎◌, inl, inr, max, List, [], ◌∷◌, ◌++◌, length, Option, Some, Bool, true, false, not, IsTrue, refl, sym, ap, subst, arith, ◌∙◌}
 use Rattle.std.specs.Prelude.{Result, Ok}
-use Rattle.std.proofs.lemmas.Bool.{and_parts, and_from, or_left}
+use Rattle.std.proofs.lemmas.Bool.{and_from, or_left}
 use Rattle.js_base.specs.declared.diagnostic.Diagnostic.{Diagnostic}
 use Rattle.js_base.specs.declared.kind.Kind.{Kind}
-use Rattle.js_base.specs.declared.kind.Kind.TheVariants.{RCurly, RAngle, LParen, RParen, LBrack, RBrack, LCurly, Comma, PrivateIdentifier}
+use Rattle.js_base.specs.declared.kind.Kind.TheVariants.{RCurly, RAngle, LParen, RParen, LBrack, RBrack, LCurly, Comma}
 use Rattle.js_base.specs.declared.span.Span.{Span}
 use Rattle.js_base.specs.Kinds.{same_kind, one_of_kinds}
-use Rattle.js_base.proofs.KindLemmas.{kind_of_same}
 use Rattle.js_grammar.specs.Trees.{Slots, end, tree, Label, append}
 use Rattle.js_grammar.specs.Grammar.{Lexeme, Lexemes, seen, is, next, seq, such, nothing}
-use Rattle.js_grammar.specs.Lexemes.{is_word}
-use Rattle.js_base.specs.Texts.{words}
 use Rattle.js_grammar.specs.Marks.{LexemeAt, opens, a_lexeme}
 use Rattle.js_grammar.specs.Parsing.{plain, full, always, passing, Goes, Fails}
 use Rattle.js_grammar.specs.Productions.{G, Flags, at, tok}
@@ -38,7 +35,7 @@ use Rattle.js_cursor.specs.declared.stop.Stop.{Stop}
 use Rattle.js_cursor.specs.declared.stop.Stop.TheVariants.{Fatal, NoMemory}
 use Rattle.js_parsing_laws.proofs.Giving.{gives_up}
 use Rattle.js_parsing_laws.specs.Lexemes.{Lex, nowhere, signs}
-use Rattle.js_parsing_laws.specs.States.{At, Same, Standing, flags_of}
+use Rattle.js_parsing_laws.specs.States.{At, Standing, flags_of}
 use Rattle.js_parsing_laws.specs.Nesting.{room}
 use Rattle.js_parsing_laws.specs.Moves.{Moved, Moves, unpassable}
 use Rattle.js_parsing_laws.specs.Answers.{Verdict, clean, Stretch, Stops}
@@ -54,12 +51,14 @@ use Rattle.js_parsing_laws.proofs.Paths.{walked_both, walked_one, one_read, pass
 use Rattle.js_parsing_laws.proofs.Verdicts.{verdict_of, either_way, and_then}
 use Rattle.js_parsing_laws.proofs.Verdicts.{after as grown_behind}
 use Rattle.js_parsing_laws.proofs.Classes.{here_ends}
+use Rattle.js_parsing_laws.proofs.PlainSigns.{comma_plain, paren_plain, closing_paren_plain}
+use Rattle.js_parsing_laws.proofs.Bracketed.{opened_later}
 use Rattle.js_base.specs.declared.diagnostic.DiagnosticKind.TheVariants.{ExpectClosingOrSeparator}
 
 pub is_that : (k : Kind) (y : Lexeme) → (y.kind ≡ k) × (y.escaped ≡ false) → IsTrue (seen (is k) y)
 is_that k y z = and_from (same_kind k y.kind) (not y.escaped) (subst (λ v. same_kind k v ≡ true) (sym z.0) (same_self k)) (ap not z.1)
 
-is_one : {text : List ℕ} {s : ℕ} {j k : Kind} → AllAre text s k → (k ≡ j → ⊥) → NoneIs text s j
+pub is_one : {text : List ℕ} {s : ℕ} {j k : Kind} → AllAre text s k → (k ≡ j → ⊥) → NoneIs text s j
 is_one a n y l e w = n (sym (a y l).0 ∙ e)
 
 -- ---- items
@@ -118,18 +117,6 @@ module _ {text : List ℕ} (f : Flags) where
     item_fails n = part_fails (fails_commas n (by_first firsts (by_plain (λ k w e. one_of_kinds (Comma ∷ RParen ∷ RBrack ∷ RCurly ∷ []) k)) (item_ends i f))) (by_first firsts (by_plain (is RParen)) refl)
 
 -- ---- a step of the list
-
-comma_plain : (is_word Comma || same_kind PrivateIdentifier Comma) ≡ false
-unfolding words
-comma_plain = refl
-
-paren_plain : (is_word RParen || same_kind PrivateIdentifier RParen) ≡ false
-unfolding words
-paren_plain = refl
-
-open_plain : (is_word LParen || same_kind PrivateIdentifier LParen) ≡ false
-unfolding words
-open_plain = refl
 
 one_same : (k : Kind) → one_of_kinds (k ∷ []) k ≡ true
 one_same k = or_left (same_kind k k) false (same_self k)
@@ -203,7 +190,7 @@ module _ {text : List ℕ} {f : Flags} (i : Bool) where
     puts = λ us. refl;
     pass = λ ls. next m.lexeme ls;
     walked = walked_one m;
-    verdict = clean m.kept (record { reach = 0; near = omega arith; goes = skips a LParen k (plain_sign LParen a k refl refl open_plain) refl m });
+    verdict = clean m.kept (record { reach = 0; near = omega arith; goes = skips a LParen k (plain_sign LParen a k refl refl paren_plain) refl m });
     holds = λ lo us h. subst (λ (vs : Slots). HoldsAll q.nodes lo (length q.nodes) ids vs) (sym (append_end us)) (subst (λ (ns : List Node). HoldsAll ns lo (length ns) ids us) (sym m.nodes) h);
     keeps = subst (λ (ns : List Node). Keeps p.nodes ns) (sym m.nodes) (Keeps-refl p.nodes);
   }
@@ -256,7 +243,7 @@ module _ {text : List ℕ} {f : Flags} (i : Bool) where
       puts = x.puts;
       pass = λ ls. x.pass (next m.lexeme ls);
       walked = walked_both x.walked (walked_one m);
-      verdict = subst (λ (ds : List Diagnostic). Verdict (f.wide ≡ true) o.errors ds (Stretch text (plain full) g o.prev_token_end nothing q.prev_token_end x.slots (λ ls. x.pass (next m.lexeme ls))) (Fails rule (Lex text) (plain full) end g o.prev_token_end)) (sym m.kept) (verdict_of x.verdict (λ y. stretches y (record { reach = 0; near = omega arith; goes = passes x.at RParen k (plain_sign RParen x.at k refl refl paren_plain) refl m }) further) (λ n. n));
+      verdict = subst (λ (ds : List Diagnostic). Verdict (f.wide ≡ true) o.errors ds (Stretch text (plain full) g o.prev_token_end nothing q.prev_token_end x.slots (λ ls. x.pass (next m.lexeme ls))) (Fails rule (Lex text) (plain full) end g o.prev_token_end)) (sym m.kept) (verdict_of x.verdict (λ y. stretches y (record { reach = 0; near = omega arith; goes = passes x.at RParen k (plain_sign RParen x.at k refl refl closing_paren_plain) refl m }) further) (λ n. n));
       holds = λ lo us h. subst (λ (ns : List Node). HoldsAll ns lo (length ns) js (append us (x.slots end))) (sym m.nodes) (x.holds lo us h);
       keeps = subst (λ (ns : List Node). Keeps o.nodes ns) (sym m.nodes) x.keeps;
     }
@@ -284,12 +271,6 @@ paren_opened {p} {q} {s} e a k m = subst (Opened q) (sym e) (record {
   before = let a = m.tells.end in let b = m.ends in omega arith;
 })
 
-still_opened : {p q : Parser} {s : Span} → Same p q → p.prev_token_end ≤ q.prev_token_end → Opened p s → Opened q s
-still_opened {p} {q} {s} m l o = record {
-  bracket = subst (λ (g : Goal). LexemeAt opens g q.text s) (sym (ap goal_of m.follows.source_type)) (subst (λ (t : List ℕ). LexemeAt opens (goal p) t s) (sym m.follows.text) o.bracket);
-  before = let b = o.before in omega arith;
-}
-
 pub record ArgumentLoop (i : Bool) (opening : Span) (first : Bool) (ids js : List (Option NodeId)) (p q : Parser) : Type 0 where
   pub at : Standing q
   pub opened : Opened q opening
@@ -308,7 +289,7 @@ loop_start i ids e a k m = record {
 pub due_found : {i : Bool} {s : Span} {first due : Bool} {ids js : List (Option NodeId)} {p q r : Parser} → ArgumentLoop i s first ids js p q → FindsDue first q r (Ok due) → (Standing r) × (Opened r s) × (room r < room p)
 due_found l d =
     let x = d _ _ l.at in
-    (standing x.at, still_opened x.same x.forward l.opened, let a = later_room x.forward x.same in let b = l.less in omega arith)
+    (standing x.at, opened_later x.same x.forward l.opened, let a = later_room x.forward x.same in let b = l.less in omega arith)
 
 pub loop_item : {i : Bool} {s : Span} {first : Bool} {ids js ks : List (Option NodeId)} {p q r v : Parser} {id : NodeId} → ArgumentLoop i s first ids js p q → FindsDue first q r (Ok true) → TakesItem i r v (Ok id) → ks ≡ js ++ Some id ∷ [] → ArgumentLoop i s false ids ks p v
 loop_item {i} {r = r} {v = v} l d y e =
@@ -317,7 +298,7 @@ loop_item {i} {r = r} {v = v} l d y e =
     let further : r.prev_token_end ≤ v.prev_token_end = (let a = z.0.behind in let b = x.further in omega arith) in
     record {
       at = standing x.at;
-      opened = still_opened x.same further z.1;
+      opened = opened_later x.same further z.1;
       less = let a = later_room further x.same in let b = z.2 in omega arith;
       goes = λ text f a. let u = part_due i (l.goes text f a) (d text f (l.goes text f a).at) in part_item i u (y text f u.at) e;
     }

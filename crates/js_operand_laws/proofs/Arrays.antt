@@ -1,18 +1,15 @@
 -- Array literals (ECMA-262, 13.2.4): what is left of the list behind each of its elements and gaps.
-use Rattle.std.proofs.Common.{ℕ, ◌≡◌, ◌≤◌, ◌<◌, inl, inr, List, [], ◌∷◌, ◌++◌, length, Option, Some, false, ◌||◌, refl, sym, ap, subst, arith, ◌∙◌}
+use Rattle.std.proofs.Common.{ℕ, ◌≡◌, ◌≤◌, ◌<◌, inl, inr, List, [], ◌∷◌, ◌++◌, length, Option, Some, false, refl, sym, ap, subst, arith, ◌∙◌}
 use Rattle.std.specs.Prelude.{Result, Ok, Err, MatchResult}
-use Rattle.std.proofs.lemmas.Bool.{false≢true, and_parts}
+use Rattle.std.proofs.lemmas.Bool.{false≢true}
 use Rattle.js_base.specs.declared.diagnostic.Diagnostic.{Diagnostic}
-use Rattle.js_base.specs.declared.kind.Kind.TheVariants.{RCurly, RAngle, LParen, LBrack, RBrack, RParen, LCurly, Comma, PrivateIdentifier}
+use Rattle.js_base.specs.declared.kind.Kind.TheVariants.{RCurly, RAngle, LParen, LBrack, RBrack, RParen, LCurly, Comma}
 use Rattle.js_base.specs.declared.span.Span.{Span}
 use Rattle.js_base.specs.Kinds.{same_kind, one_of_kinds}
-use Rattle.js_base.specs.Texts.{words}
-use Rattle.js_grammar.specs.Lexemes.{is_word}
 use Rattle.js_grammar.specs.Trees.{Slots, end, tree, Label, no_op, elision, array_expression}
 use Rattle.js_grammar.specs.Grammar.{Lexemes, last, next, Look, alt, seq, nothing, never, Takes, is_nothing, is_seq, is_left, is_right, is_many}
 use Rattle.js_grammar.specs.Parsing.{Test, plain, full, still, Reaches, Goes, Fails}
 use Rattle.js_grammar.specs.Lexed.{Lexes}
-use Rattle.js_base.proofs.KindLemmas.{kind_of_same}
 use Rattle.js_grammar.specs.Productions.{G, Flags, Symbol, at, tok, mk, items, Argument, Primary}
 use Rattle.js_grammar.specs.Productions.{sym as symbol}
 use Rattle.js_grammar.specs.Table.{rule, rule_of}
@@ -59,6 +56,7 @@ use Rattle.js_parsing_laws.proofs.Paths.{◌⟼◌, at_kind, last_token, noded, 
 use Rattle.js_parsing_laws.proofs.Verdicts.{verdict_of}
 use Rattle.js_parsing_laws.proofs.Verdicts.{after as grown_behind}
 use Rattle.js_parsing_laws.proofs.Classes.{here_ends}
+use Rattle.js_parsing_laws.proofs.PlainSigns.{comma_plain, bracket_plain, closing_bracket_plain}
 use Rattle.js_base.specs.declared.diagnostic.DiagnosticKind.TheVariants.{ExpectClosingOrSeparator}
 
 -- ---- items with commas between, by the first of them
@@ -105,18 +103,6 @@ choice f = by_first_item gap (element f) never (tok RBrack)
 
 abbrev next_kinds : Look
 next_kinds k w e = one_of_kinds (Comma ∷ RParen ∷ RBrack ∷ RCurly ∷ []) k
-
-comma_plain : (is_word Comma || same_kind PrivateIdentifier Comma) ≡ false
-unfolding words
-comma_plain = refl
-
-bracket_plain : (is_word LBrack || same_kind PrivateIdentifier LBrack) ≡ false
-unfolding words
-bracket_plain = refl
-
-closing_plain : (is_word RBrack || same_kind PrivateIdentifier RBrack) ≡ false
-unfolding words
-closing_plain = refl
 
 -- there and back again, at one place
 pub turned : {text : List ℕ} {g g' : G} {s : ℕ} → Goes rule (Lex text) (plain full) end g s g' s (λ us. us) (still 0) → Goes rule (Lex text) (plain full) end g' s g s (λ us. us) (still 0)
@@ -174,7 +160,7 @@ module _ {text : List ℕ} {f : Flags} {p : Parser} (a : At text f p) where
     rest_closes = at_kind a {X = plain full} {g = rest f} RBrack k refl ▹ turned closes
 
     pub elements_end : {q : Parser} (ids : List (Option NodeId)) → Moved text f p q → Partway text f (elements f) nothing p q ids ids
-    elements_end ids m = part_from closes (part_last RBrack a k (plain_sign RBrack a k refl refl closing_plain) refl m)
+    elements_end ids m = part_from closes (part_last RBrack a k (plain_sign RBrack a k refl refl closing_bracket_plain) refl m)
 
   -- a comma stands here
   module _ (k : p.token.kind ≡ Comma) where

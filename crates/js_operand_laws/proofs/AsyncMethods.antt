@@ -3,12 +3,11 @@ use Rattle.std.proofs.Common.{ℕ, ◌≡◌, ◌≤◌, Bool, true, false, not,
 use Rattle.std.specs.Prelude.{if◌then◌else◌}
 use Rattle.std.proofs.lemmas.Bool.{false≢true}
 use Rattle.js_base.specs.Kinds.{same_kind, one_of_kinds}
-use Rattle.js_base.specs.Texts.{words}
+use Rattle.js_base.specs.KindSets.{identifier_name_kinds}
 use Rattle.js_base.specs.declared.kind.Kind.{Kind}
-use Rattle.js_base.specs.declared.kind.Kind.TheVariants.{Async, Colon, LParen, PrivateIdentifier, Star}
+use Rattle.js_base.specs.declared.kind.Kind.TheVariants.{Async, Colon, LParen, Star}
 use Rattle.js_base.specs.declared.token.Token.{Token}
 use Rattle.js_base.proofs.KindLemmas.{kind_of_same}
-use Rattle.js_grammar.specs.Lexemes.{is_word}
 use Rattle.js_grammar.specs.Trees.{end}
 use Rattle.js_grammar.specs.Grammar.{nothing, ◌▸◌}
 use Rattle.js_grammar.specs.Parsing.{plain, full, still, Goes, Fails}
@@ -21,27 +20,23 @@ use Rattle.js_cursor.specs.Moves.{Eats}
 use Rattle.js_cursor.specs.Parsers.{Parser}
 use Rattle.js_parsing_laws.specs.declared.nested.MethodForm.TheVariants.{Method}
 use Rattle.js_parsing_laws.specs.Arguments.{Partway, behind_item}
-use Rattle.js_parsing_laws.specs.Lexemes.{Lex, read_word}
+use Rattle.js_parsing_laws.specs.Lexemes.{Lex}
 use Rattle.js_parsing_laws.specs.Moves.{Moved}
 use Rattle.js_parsing_laws.specs.States.{At, Same}
 use Rattle.js_parsing_laws.specs.Nesting.{room}
 use Rattle.js_operand_laws.specs.Objects.{async_line, begins_async, ends_name_kinds, method_left, methods, with_method}
 use Rattle.js_operand_laws.specs.PropertyNames.{NameRead, NoName, NoNames}
-use Rattle.js_parsing_laws.proofs.Escapes.{unescaped_word}
 use Rattle.js_parsing_laws.proofs.Moving.{moves, same_itself}
 use Rattle.js_parsing_laws.proofs.Nesting.{nested_room}
 use Rattle.js_parsing_laws.proofs.Parts.{part_from, part_goes, part_path_fails, part_sign, parts}
 use Rattle.js_parsing_laws.proofs.Paths.{fails_at}
 use Rattle.js_parsing_laws.proofs.Signs.{other_kind, plain_sign, whole_sign}
+use Rattle.js_parsing_laws.proofs.PlainSigns.{star_plain}
 use Rattle.js_operand_laws.proofs.AsyncWords.{part_within, same_line}
 use Rattle.js_operand_laws.proofs.Methods.{no_first}
 use Rattle.js_operand_laws.proofs.Properties.{behind_shorthand, name_part, no_name_begins, property_name_kinds}
 use Rattle.js_operand_laws.proofs.PropertyForms.{no_kind_of}
 use Rattle.js_operand_laws.proofs.WordProperties.{no_plain}
-
-star_plain : (is_word Star || same_kind PrivateIdentifier Star) ≡ false
-unfolding words
-star_plain = refl
 
 -- ---- a star that was passed, or not
 
@@ -88,7 +83,7 @@ module _ {text : List ℕ} {f : Flags} {p q : Parser} (a : At text f p) (k : p.t
   plain_line : (c s : Bool) → Fails rule (Lex text) (plain full) end (nothing ▸ only s (tok Star) ▸ nothing ▸ name c false f ▸ method_left Method false s f) p.prev_token_end
   unfolding covers apart
   plain_line c true = done ▹✗ no_first (fails_at a (tok Star) (Star ∷ []) refl (ap (one_of_kinds (Star ∷ [])) k))
-  plain_line c false = done ▹✗ (done ▹✗ (done ▹✗ no_plain a (ap read_word k) m (no_kind_of Colon LParen q.token.kind behind_shorthand z).1 c))
+  plain_line c false = done ▹✗ (done ▹✗ (done ▹✗ no_plain a (ap (one_of_kinds identifier_name_kinds) k) m (no_kind_of Colon LParen q.token.kind behind_shorthand z).1 c))
 
   only_line : (s : Bool) (r : Parser) → Eats Star q r s → (c : Bool) → Goes rule (Lex text) (plain full) end (plain_method nothing c false f) p.prev_token_end (async_line c s f) p.prev_token_end (λ us. us) (still 0)
   only_line true r h c = right (fails_alt (plain_line c false) (plain_line c true)) ▹ right (other_line true r h c)

@@ -1,12 +1,13 @@
 -- `async` and what stands behind it: `function` on its line, or something else (ECMA-262, 15.6, 15.8).
 use Rattle.std.proofs.Common.{ℕ, ◌≡◌, ◌⊎◌, inl, inr, List, [], ◌∷◌, Bool, true, false, not, ◌||◌, IsTrue, Option, refl, sym, ap, subst, ◌∙◌}
 use Rattle.std.specs.Prelude.{Result, Ok, Err, MatchResult}
-use Rattle.std.proofs.lemmas.Bool.{false≢true, and_parts}
+use Rattle.std.proofs.lemmas.Bool.{false≢true, and_parts, not-true}
 use Rattle.js_base.specs.declared.diagnostic.Diagnostic.{Diagnostic}
 use Rattle.js_base.specs.declared.kind.Kind.{Kind}
 use Rattle.js_base.specs.declared.kind.Kind.TheVariants.{Async, Function, RAngle, Undetermined}
 use Rattle.js_base.specs.declared.token.Token.{Token}
 use Rattle.js_base.specs.Kinds.{same_kind, one_of_kinds}
+use Rattle.js_base.specs.KindSets.{binding_identifier_kinds}
 use Rattle.js_base.proofs.KindLemmas.{kind_of_same}
 use Rattle.js_grammar.specs.Trees.{Slots, end}
 use Rattle.js_grammar.specs.Grammar.{Lexeme, Lexemes, here, seen, is, Takes, is_lexeme, is_node, is_such, ◌▸◌}
@@ -28,7 +29,7 @@ use Rattle.js_cursor.specs.Parsers.{Parser}
 use Rattle.js_tree.specs.declared.id.NodeId.{NodeId}
 use Rattle.js_parsing_laws.proofs.Giving.{fails_unescaped}
 use Rattle.js_parsing_laws.specs.Arguments.{Partway}
-use Rattle.js_parsing_laws.specs.Lexemes.{Lex, escaped_word, name_kinds, other_goals, signs}
+use Rattle.js_parsing_laws.specs.Lexemes.{Lex, other_goals, signs}
 use Rattle.js_parsing_laws.specs.Moves.{Moved}
 use Rattle.js_parsing_laws.specs.Stands.{StandsHere}
 use Rattle.js_parsing_laws.specs.States.{At}
@@ -40,7 +41,6 @@ use Rattle.js_parsing_laws.proofs.NameKinds.{name_apart}
 use Rattle.js_parsing_laws.proofs.Parts.{part_path_fails, part_sign}
 use Rattle.js_parsing_laws.proofs.Paths.{fails_at, read_of}
 use Rattle.js_parsing_laws.proofs.Signs.{other_kind}
-use Rattle.js_parsing_laws.proofs.Escapes.{plain_word, read_plain}
 use Rattle.js_parsing_laws.proofs.Verdicts.{verdict_of}
 
 -- ---- what stands behind the current lexeme, as a peek tells it
@@ -127,11 +127,6 @@ part_within x = record {
 
 -- ---- what isn't derived
 
--- where `function` stands, nothing else does
-is_not : (b : Bool) → not b ≡ true → b ≡ false
-is_not true h = absurd (false≢true h)
-is_not false h = refl
-
 pub one_function : {text : List ℕ} {s : ℕ} {y z : Lexeme} → Lex text s y → y.kind ≡ Function → Lex text s z → z ≡ y
 one_function {z = z} l k j =
     let w = plain_there j in
@@ -168,7 +163,7 @@ module _ {text : List ℕ} {f : Flags} {p : Parser} (a : At text f p) where
       where
         behind : FunctionNext p false → (w : Bool) → q.token.is_on_new_line ≡ w → Fails rule (Lex text) (plain full) end (no_newline ▸ tok Function ▸ g) q.prev_token_end
         behind n true w = no_same_line m.at w
-        behind n false w = same_line m.at w ▹✗ part_fails {X' = plain full} (fails_lexeme (is Function) (λ y l h. let z = and_parts (same_kind Function y.kind) (not y.escaped) h in n text f a y (subst (λ (v : ℕ). Lex text v y) (sym (m.tells.end ∙ m.ends)) l) (sym (kind_of_same Function y.kind z.0)) (is_not y.escaped z.1) (newline_here m.at y l ∙ w))) any_between
+        behind n false w = same_line m.at w ▹✗ part_fails {X' = plain full} (fails_lexeme (is Function) (λ y l h. let z = and_parts (same_kind Function y.kind) (not y.escaped) h in n text f a y (subst (λ (v : ℕ). Lex text v y) (sym (m.tells.end ∙ m.ends)) l) (sym (kind_of_same Function y.kind z.0)) (not-true y.escaped z.1) (newline_here m.at y l ∙ w))) any_between
 
         elsewhere : one_of_kinds (Async ∷ []) p.token.kind ≡ false → Fails rule (Lex text) (plain full) end ((tok Async ▸ no_newline) ▸ tok Function ▸ g) p.prev_token_end
         elsewhere k = part_fails {X' = plain full} (part_fails {X' = plain full} (fails_at a (tok Async) (Async ∷ []) refl k) any_between) any_between
@@ -190,7 +185,7 @@ module _ {text : List ℕ} {f : Flags} {p : Parser} (a : At text f p) where
         by (inr n) = at_async n (same_kind Async p.token.kind) p.token.escaped refl refl
 
     -- nor is a function expression derived at a name
-    pub no_expression : one_of_kinds name_kinds p.token.kind ≡ true → Fails rule (Lex text) (after (at Primary f)) end (symbol FuncExpr f) p.prev_token_end
+    pub no_expression : one_of_kinds binding_identifier_kinds p.token.kind ≡ true → Fails rule (Lex text) (after (at Primary f)) end (symbol FuncExpr f) p.prev_token_end
     unfolding rule rule_of covers apart
     no_expression k = fails_rule {X' = plain full} (λ l cs vs y d. (refl, refl)) (fails_alt (fails_alt (plainly_none false) (plainly_none true)) (fails_alt (none_so false) (none_so true)))
       where

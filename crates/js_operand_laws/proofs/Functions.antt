@@ -1,13 +1,12 @@
 -- Functions (ECMA-262, 15.2, 15.5, 15.6, 15.8), part by part.
-use Rattle.std.proofs.Common.{ℕ, ◌≡◌, ◌+◌, ◌<◌, max, List, [], ◌∷◌, ◌++◌, length, Option, Some, None, Bool, true, false, not, ◌||◌, refl, sym, ap, subst, arith, ◌∙◌, inl, inr}
+use Rattle.std.proofs.Common.{ℕ, ◌≡◌, ◌+◌, ◌<◌, max, List, [], ◌∷◌, ◌++◌, length, Option, Some, None, Bool, true, false, not, refl, sym, ap, subst, arith, ◌∙◌, inl, inr}
 use Rattle.std.specs.Prelude.{Ok, Err}
 use Rattle.std.proofs.lemmas.Bool.{or_left}
 use Rattle.js_base.specs.declared.kind.Kind.{Kind}
-use Rattle.js_base.specs.declared.kind.Kind.TheVariants.{Function, LParen, PrivateIdentifier, RAngle, Star, Async}
+use Rattle.js_base.specs.declared.kind.Kind.TheVariants.{Function, LParen, RAngle, Star, Async}
 use Rattle.js_base.specs.declared.span.Span.{Span}
 use Rattle.js_base.specs.Kinds.{same_kind, one_of_kinds}
-use Rattle.js_base.specs.Texts.{words}
-use Rattle.js_grammar.specs.Lexemes.{is_word}
+use Rattle.js_base.specs.KindSets.{binding_identifier_kinds, identifier_name_kinds}
 use Rattle.js_grammar.specs.Trees.{Slots, end, hole, tree, append, Label, no_op, binding_identifier, function_expression}
 use Rattle.js_grammar.specs.Grammar.{Look, here, nothing, such, ◌▸◌, ◌◇◌}
 use Rattle.js_grammar.specs.Lexed.{Lex as StandsBehind, all_faults}
@@ -36,7 +35,7 @@ use Rattle.js_cursor.specs.declared.stop.Stop.{Stop}
 use Rattle.js_cursor.specs.declared.stop.Stop.TheVariants.{Fatal, NoMemory}
 use Rattle.js_parsing_laws.specs.Answers.{Numbered, Stops, Stretch, Underived, Verdict, unclean}
 use Rattle.js_parsing_laws.specs.Arguments.{Partway}
-use Rattle.js_parsing_laws.specs.Lexemes.{Lex, escaped_word, may_name, name_kinds, read_word, spot}
+use Rattle.js_parsing_laws.specs.Lexemes.{Lex, may_name, spot}
 use Rattle.js_parsing_laws.specs.Moves.{LeafTaken, Moved, MadeHere, plain_label}
 use Rattle.js_parsing_laws.specs.Nesting.{room}
 use Rattle.js_parsing_laws.specs.Stands.{NameUnder, StandsHere}
@@ -58,12 +57,9 @@ use Rattle.js_parsing_laws.proofs.Signs.{other_kind, plain_sign, whole_sign}
 use Rattle.js_parsing_laws.proofs.Told.{told_at, told_same}
 use Rattle.js_parsing_laws.proofs.Verdicts.{after as grown_behind, verdict_of}
 use Rattle.js_operand_laws.proofs.Operands.{behind_primary, by_path, one_path, name_signless, name_signless}
-use Rattle.js_parsing_laws.proofs.Escapes.{read_as, read_plain}
+use Rattle.js_parsing_laws.proofs.Escapes.{read_as}
+use Rattle.js_parsing_laws.proofs.PlainSigns.{star_plain}
 use Rattle.js_operand_laws.proofs.AsyncWords.{any_between, function_here, no_reference, part_within, same_line}
-
-star_plain : (is_word Star || same_kind PrivateIdentifier Star) ≡ false
-unfolding words
-star_plain = refl
 
 -- ---- parts with an empty slot, and the last part
 
@@ -201,8 +197,8 @@ module _ {text : List ℕ} {f : Flags} {p o q : Parser} (form : FunctionForm) (a
 
   no_star_part : q.token.kind ≡ Star → (form : FunctionForm) → Fails rule (Lex text) (plain full) end (behind_star form n false f) q.prev_token_end
   unfolding covers apart
-  no_star_part k Declaration = fails_at m.at (behind_star Declaration n false f) (LParen ∷ name_kinds) refl (ap (one_of_kinds (LParen ∷ name_kinds)) k)
-  no_star_part k Expression = fails_at m.at (behind_star Expression n false f) (LParen ∷ name_kinds) refl (ap (one_of_kinds (LParen ∷ name_kinds)) k)
+  no_star_part k Declaration = fails_at m.at (behind_star Declaration n false f) (LParen ∷ binding_identifier_kinds) refl (ap (one_of_kinds (LParen ∷ binding_identifier_kinds)) k)
+  no_star_part k Expression = fails_at m.at (behind_star Expression n false f) (LParen ∷ binding_identifier_kinds) refl (ap (one_of_kinds (LParen ∷ binding_identifier_kinds)) k)
 
   -- so the line without it, or with it, isn't derived
   other_line : (s : Bool) (r : Parser) → Eats Star q r s → Fails rule (Lex text) (plain full) end (function_line form n (not s) f) p.prev_token_end
@@ -376,7 +372,7 @@ pub names_so : (form : FunctionForm) (n s : Bool) (p : Parser) {b r : Bool} → 
 names_so form n s p e h = subst (λ (c : Bool). NamesFunction form n s p c) e h
 
 -- a name of a function is a word
-pub names_word : (form : FunctionForm) (n s : Bool) (p : Parser) → NamesFunction form n s p true → read_word p.token.kind ≡ true
+pub names_word : (form : FunctionForm) (n s : Bool) (p : Parser) → NamesFunction form n s p true → one_of_kinds identifier_name_kinds p.token.kind ≡ true
 names_word Declaration n s p h = name_word p.token.kind (listed_here p h)
 names_word Expression n s p h = name_word p.token.kind (listed_name s n p.token.kind h)
 

@@ -1,10 +1,7 @@
 -- Calls of V8, from what their name and their arguments answer.
-use Rattle.std.proofs.Common.{ℕ, ◌≡◌, ◌≤◌, List, length, Bool, true, false, refl, sym, ap, subst, arith, ◌∙◌}
+use Rattle.std.proofs.Common.{ℕ, ◌≡◌, ◌≤◌, List, length, Bool, true, false, refl, ap, subst, arith, ◌∙◌}
 use Rattle.js_base.specs.declared.diagnostic.Diagnostic.{Diagnostic}
-use Rattle.js_base.specs.declared.kind.Kind.TheVariants.{Percent, PrivateIdentifier, LParen}
-use Rattle.js_base.specs.Kinds.{same_kind}
-use Rattle.js_base.specs.Texts.{words}
-use Rattle.js_grammar.specs.Lexemes.{is_word}
+use Rattle.js_base.specs.declared.kind.Kind.TheVariants.{Percent, LParen}
 use Rattle.js_grammar.specs.Trees.{Slots, end, tree, no_op, v8_intrinsic_expression}
 use Rattle.js_grammar.specs.Grammar.{seq, such, nothing}
 use Rattle.js_grammar.specs.Parsing.{plain, full, always, Fails}
@@ -15,8 +12,6 @@ use Rattle.js_grammar.proofs.Looks.{covers}
 use Rattle.js_grammar.proofs.Calculus.{◌▹✗◌, inside_full, where_true, fails_node, fails_under, fails_when, weaken_fails}
 use Rattle.js_grammar.proofs.FirstClaims.{firsts}
 use Rattle.js_grammar.proofs.FirstRules.{fails_here, fails_part}
-use Rattle.js_base.proofs.KindLemmas.{kind_of_same}
-use Rattle.std.proofs.lemmas.Bool.{and_parts}
 use Rattle.js_parsing_laws.proofs.Signs.{none_seen, NoneIs}
 use Rattle.js_grammar.proofs.FollowLaws.{fails_by}
 use Rattle.js_tree.specs.declared.id.NodeId.{NodeId}
@@ -44,11 +39,8 @@ use Rattle.js_operand_laws.proofs.Operands.{by_path, behind_primary}
 use Rattle.js_parsing_laws.proofs.Paths.{Path, ◌⟼◌, ◌⟶◌, ◌⟶✗◌, at_kind, token, called, noded, label_here}
 use Rattle.js_parsing_laws.proofs.Verdicts.{grown_then}
 use Rattle.js_parsing_laws.proofs.Verdicts.{after as grown_behind}
-use Rattle.std.specs.Prelude.{Result, Ok, Err, ◌||◌}
-
-percent_plain : (is_word Percent || same_kind PrivateIdentifier Percent) ≡ false
-unfolding words
-percent_plain = refl
+use Rattle.js_parsing_laws.proofs.PlainSigns.{percent_plain}
+use Rattle.std.specs.Prelude.{Result, Ok, Err}
 
 abbrev name_and_list : Flags → G
 name_and_list f = seq (such (at IdentifierName f) always) (list_of (item_of false f))

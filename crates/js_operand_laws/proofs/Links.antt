@@ -1,14 +1,15 @@
 -- The loops over links behind members and in optional chains: their starts, steps, ends and failures, over the lexemes that are read.
 use Rattle.js_parsing_laws.proofs.Signs.{none_seen, AllAre, NoneIs}
-use Rattle.std.proofs.Common.{ℕ, ◌≡◌, ◌≤◌, ◌⊎◌, inl, inr, max, Bool, true, false, not, ◌&&◌, IsTrue, List, [], ◌∷◌, refl, sym, ap, subst, arith, ◌∙◌, ◌||◌}
+use Rattle.std.proofs.Common.{ℕ, ◌≡◌, ◌≤◌, ◌⊎◌, inl, inr, max, Bool, true, false, not, ◌&&◌, List, [], ◌∷◌, refl, sym, ap, subst, arith, ◌∙◌, ◌||◌}
 use Rattle.std.proofs.lemmas.Bool.{false≢true, and_parts, and_from}
+use Rattle.js_operand_laws.proofs.ArgumentLists.{is_one}
 use Rattle.js_base.specs.declared.kind.Kind.{Kind}
 use Rattle.js_base.specs.declared.kind.Kind.TheVariants.{Dot, QuestionDot, New, LParen, LBrack, NoSubstitutionTemplate, TemplateHead, Function, Super as super_kind, PrivateIdentifier}
 use Rattle.js_base.specs.Kinds.{same_kind, one_of_kinds}
 use Rattle.js_base.proofs.KindLemmas.{kind_of_same}
 use Rattle.js_grammar.specs.FirstSets.{any_word}
 use Rattle.js_grammar.specs.Trees.{Slots, end, tree, Label, no_op, call_expression, new_expression, new_target_expression, tagged_template_expression}
-use Rattle.js_grammar.specs.Grammar.{Lexeme, Lexemes, Look, here, is, seen, such, alt, never, node, seq, nothing, when}
+use Rattle.js_grammar.specs.Grammar.{Lexeme, Lexemes, Look, here, is, such, alt, never, node, seq, nothing, when}
 use Rattle.js_grammar.specs.Parsing.{Test, plain, full, always, still, joined, Goes, Reads, Fails, Admits}
 use Rattle.js_grammar.specs.Productions.{G, Flags, Symbol, at, tok, optional_flag, Primary, Member, Call, Chain, Links, Super, LeftHandSide, Template}
 use Rattle.js_grammar.specs.Productions.{New as new_symbol}
@@ -136,9 +137,6 @@ NotCall text f s = Fails rule (Lex text) (after (at LeftHandSide f)) end (such (
 
 parens_differ : LParen ≡ QuestionDot → ⊥
 parens_differ e = cc
-
-another : {text : List ℕ} {s : ℕ} {j k : Kind} → AllAre text s k → (k ≡ j → ⊥) → NoneIs text s j
-another a n y l e w = n (sym (a y l).0 ∙ e)
 
 -- a tagged template
 abbrev pub tagged : Flags → Link Symbol
@@ -334,7 +332,7 @@ module _ {text : List ℕ} (f : Flags) where
   -- the member alone is no callee before `?.`
   pub member_before_chain : {s s' : ℕ} {l : Label} {cs : Slots} {pass : Lexemes → Lexemes} → Stretch text (after (at Member f)) (such (at Member f) always) s nothing s' (tree l cs) pass → AllAre text s' LParen → Fails rule (Lex text) before_chain end (such (at Member f) always) s
   unfolding covers
-  member_before_chain x z = unfollowed x.goes (record { admits = λ ts vs k ls rest d e. admits (at Member f) ts (here rest) (covered (is QuestionDot) behind_member refl (here rest).kind (here rest).newline (here rest).escaped e.0) }) (λ us y i e. none_seen (another z parens_differ) y i e.0)
+  member_before_chain x z = unfollowed x.goes (record { admits = λ ts vs k ls rest d e. admits (at Member f) ts (here rest) (covered (is QuestionDot) behind_member refl (here rest).kind (here rest).newline (here rest).escaped e.0) }) (λ us y i e. none_seen (is_one z parens_differ) y i e.0)
 
   call_foot : {X : Test} {s : ℕ} → Goes rule (Lex text) X end (base_of is_call Call f) s (first_call f) s (λ us. us) (still 0)
   call_foot {X} {s} = subst (λ (g : G). Goes rule (Lex text) X end (base_of is_call Call f) s g s (λ us. us) (still 0)) (call_left f) (lives (base_of is_call Call f))
@@ -457,7 +455,7 @@ module _ {text : List ℕ} (f : Flags) where
   -- what stands before the first `?.`: a member, or a call
   pub base_member : {s s' : ℕ} {l : Label} {cs : Slots} {pass : Lexemes → Lexemes} → Stretch text (after (at Member f)) (such (at Member f) always) s nothing s' (tree l cs) pass → NoSuperCall text f s → AllAre text s' QuestionDot → Stretch text before_chain (bases f) s nothing s' (tree l cs) pass
   unfolding covers
-  base_member x u z = record { reach = max 0 x.reach; near = let i = x.near in omega arith; goes = left (fails_alt (no_call_behind x u (no_arguments_part (another z (λ e. cc)))) fails_never) ▹ weaken x.goes (λ ts y e. admits (at Member f) ts y (covered (is QuestionDot) behind_member refl y.kind y.newline y.escaped e.0)) }
+  base_member x u z = record { reach = max 0 x.reach; near = let i = x.near in omega arith; goes = left (fails_alt (no_call_behind x u (no_arguments_part (is_one z (λ e. cc)))) fails_never) ▹ weaken x.goes (λ ts y e. admits (at Member f) ts y (covered (is QuestionDot) behind_member refl y.kind y.newline y.escaped e.0)) }
 
   pub base_call : {s s' : ℕ} {l : Label} {cs : Slots} {pass : Lexemes → Lexemes} → Stretch text (after (at Call f)) (such (at Call f) always) s nothing s' (tree l cs) pass → Fails rule (Lex text) before_chain end (such (at Member f) always) s → Stretch text before_chain (bases f) s nothing s' (tree l cs) pass
   unfolding covers

@@ -1,5 +1,5 @@
 -- Nodes of a kind that is no name and no string, made with flags.
-use Rattle.std.proofs.Common.{◌≡◌, false, List, [], Option, None, refl, subst}
+use Rattle.std.proofs.Common.{◌≡◌, false, List, Option, None, refl, subst}
 use Rattle.std.specs.Prelude.{Result, Ok, Err, IfOk, chars}
 use Rattle.js_memory.specs.declared.no_memory.NoMemory.{NoMemory}
 use Rattle.js_base.specs.declared.span.Span.{Span}

@@ -9,7 +9,7 @@ use Rattle.js_base.specs.declared.kind.Kind.{Kind}
 use Rattle.js_base.specs.declared.kind.Kind.TheVariants.{RAngle, New, Dot, QuestionDot, LParen, LBrack, NoSubstitutionTemplate, RBrack, PrivateIdentifier, Super as super_kind, TemplateHead}
 use Rattle.js_base.specs.declared.span.Span.{Span}
 use Rattle.js_base.specs.Kinds.{same_kind, one_of_kinds}
-use Rattle.js_base.specs.KindSets.{identifier_name_kinds}
+use Rattle.js_base.specs.KindSets.{identifier_name_kinds, binding_identifier_kinds}
 use Rattle.js_base.proofs.KindLemmas.{kind_of_same}
 use Rattle.js_grammar.specs.Trees.{Slots, end, tree, Label, no_op, identifier_name, new_expression, chain_expression}
 use Rattle.js_grammar.specs.Grammar.{Lexeme, Lexemes, Look, next, seen, exact, seq, such, nothing, ◌▸◌}
@@ -47,7 +47,7 @@ use Rattle.js_cursor.specs.Moves.{Enters, GivesUp, Leaves, MovesOn, OnlyMemory, 
 use Rattle.js_cursor.specs.declared.stop.Stop.{Stop}
 use Rattle.js_cursor.specs.declared.stop.Stop.TheVariants.{Fatal, NoMemory}
 use Rattle.js_cursor.proofs.Later.{follows_on}
-use Rattle.js_parsing_laws.specs.Lexemes.{Lex, escaped_word, is_read, read_kinds, read_word, name_kinds, other_goals, signs, Plain}
+use Rattle.js_parsing_laws.specs.Lexemes.{Lex, is_read, other_goals, signs, Plain, is_read_kind}
 use Rattle.js_parsing_laws.specs.States.{At, Same, Standing}
 use Rattle.js_parsing_laws.specs.Nesting.{room}
 use Rattle.js_parsing_laws.proofs.Nesting.{nested_room, later_room}
@@ -87,7 +87,7 @@ use Rattle.js_parsing_laws.proofs.Tight.{plain_is_read, plain_lex}
 -- ---- which lexeme stands here
 
 -- of these kinds none stands here
-none_of : {text : List ℕ} {s : ℕ} (ks : List Kind) → every_kind (λ k. not (read_word k)) ks ≡ true → ((k : Kind) → one_of_kinds ks k ≡ true → NoneIs text s k) → (y : Lexeme) → Lex text s y → one_of_kinds ks y.kind ≡ false
+none_of : {text : List ℕ} {s : ℕ} (ks : List Kind) → every_kind (λ k. not (one_of_kinds identifier_name_kinds k)) ks ≡ true → ((k : Kind) → one_of_kinds ks k ≡ true → NoneIs text s k) → (y : Lexeme) → Lex text s y → one_of_kinds ks y.kind ≡ false
 none_of ks c n y l = go (one_of_kinds ks y.kind) refl
   where
     go : (b : Bool) → one_of_kinds ks y.kind ≡ b → b ≡ false
@@ -120,7 +120,7 @@ abbrev any_word : Look
 any_word k w e = is_word k
 
 abbrev read_words : Look
-read_words k w e = read_word k
+read_words k w e = one_of_kinds identifier_name_kinds k
 
 abbrev angles : Look
 angles k w e = is_right_angle k
@@ -129,7 +129,7 @@ words_read : covers (λ k w e. reads k w e && is_word k) read_words ≡ true
 unfolding covers
 words_read = refl
 
-read_are : covers read_words (λ k w e. one_of_kinds read_kinds k && (is_word k && (not (unpassable k) && not (same_kind RAngle k)))) ≡ true
+read_are : covers read_words (λ k w e. is_read_kind k && (is_word k && (not (unpassable k) && not (same_kind RAngle k)))) ≡ true
 unfolding covers
 read_are = refl
 
@@ -142,17 +142,17 @@ words_signless : apart read_words (λ k w e. one_of_kinds signs k) ≡ true
 unfolding apart
 words_signless = refl
 
-pub word_signless : (k : Kind) → read_word k ≡ true → one_of_kinds signs k ≡ false
+pub word_signless : (k : Kind) → one_of_kinds identifier_name_kinds k ≡ true → one_of_kinds signs k ≡ false
 word_signless k r = go (one_of_kinds signs k) refl
   where
     go : (b : Bool) → one_of_kinds signs k ≡ b → one_of_kinds signs k ≡ false
     go true h = absurd (not_both read_words (λ k w e. one_of_kinds signs k) words_signless k false false r h)
     go false h = h
 
-pub word_whole : {text : List ℕ} {f : Flags} {p : Parser} → At text f p → read_word p.token.kind ≡ true → IsWholeHere p
+pub word_whole : {text : List ℕ} {f : Flags} {p : Parser} → At text f p → one_of_kinds identifier_name_kinds p.token.kind ≡ true → IsWholeHere p
 word_whole {p = p} a r =
-    let z = covered read_words (λ k w e. one_of_kinds read_kinds k && (is_word k && (not (unpassable k) && not (same_kind RAngle k)))) read_are p.token.kind false false r in
-    let x = and_parts (not (unpassable p.token.kind)) (not (same_kind RAngle p.token.kind)) (and_parts (is_word p.token.kind) _ (and_parts (one_of_kinds read_kinds p.token.kind) _ z).1).1 in
+    let z = covered read_words (λ k w e. is_read_kind k && (is_word k && (not (unpassable k) && not (same_kind RAngle k)))) read_are p.token.kind false false r in
+    let x = and_parts (not (unpassable p.token.kind)) (not (same_kind RAngle p.token.kind)) (and_parts (is_word p.token.kind) _ (and_parts (is_read_kind p.token.kind) _ z).1).1 in
     (uncut_here (no (same_kind RAngle p.token.kind) x.1), no (unpassable p.token.kind) x.0)
   where
     no : (b : Bool) → not b ≡ true → b ≡ false
@@ -166,16 +166,16 @@ no_others : apart any_word (λ k w e. one_of_kinds other_goals k) ≡ true
 unfolding apart
 no_others = refl
 
-pub name_of : (text : List ℕ) (f : Flags) (p q : Parser) → At text f p → read_word p.token.kind ≡ true → (s : Moved text f p q) → Path text f (after (at IdentifierName f)) (rule (at IdentifierName f)) p nothing q (tree (label_here identifier_name no_op p q) end)
+pub name_of : (text : List ℕ) (f : Flags) (p q : Parser) → At text f p → one_of_kinds identifier_name_kinds p.token.kind ≡ true → (s : Moved text f p q) → Path text f (after (at IdentifierName f)) (rule (at IdentifierName f)) p nothing q (tree (label_here identifier_name no_op p q) end)
 unfolding rule rule_of
 name_of text f p q a r s =
-    let z = covered read_words (λ k w e. one_of_kinds read_kinds k && (is_word k && (not (unpassable k) && not (same_kind RAngle k)))) read_are p.token.kind false false r in
-    let x = and_parts (one_of_kinds read_kinds p.token.kind) (is_word p.token.kind && (not (unpassable p.token.kind) && not (same_kind RAngle p.token.kind))) z in
+    let z = covered read_words (λ k w e. is_read_kind k && (is_word k && (not (unpassable k) && not (same_kind RAngle k)))) read_are p.token.kind false false r in
+    let x = and_parts (is_read_kind p.token.kind) (is_word p.token.kind && (not (unpassable p.token.kind) && not (same_kind RAngle p.token.kind))) z in
     let w = (and_parts (is_word p.token.kind) (not (unpassable p.token.kind) && not (same_kind RAngle p.token.kind)) x.1).0 in
     let l : IsTrue (is_read s.lexeme) = read_as s.lexeme s.tells x.0 in
     noded a (record { at = s.at; further = s.further; pass = _; walked = walked_one s; verdict = clean s.kept (record { reach = 0; near = omega arith; goes = passes_test a any_word (word_signless p.token.kind r) s l (subst (λ k. is_word k ≡ true) s.tells.kind w) }) })
 
-pub name_taken : (text : List ℕ) (f : Flags) (p q : Parser) (r : Result NodeId Stop) → At text f p → read_word p.token.kind ≡ true → MatchResult r (λ id. TakesLeaf node.IdentifierName op.None p q id) OnlyMemory → Outcome text f (at IdentifierName f) p q r
+pub name_taken : (text : List ℕ) (f : Flags) (p q : Parser) (r : Result NodeId Stop) → At text f p → one_of_kinds identifier_name_kinds p.token.kind ≡ true → MatchResult r (λ id. TakesLeaf node.IdentifierName op.None p q id) OnlyMemory → Outcome text f (at IdentifierName f) p q r
 name_taken text f p q (Ok id) a r m =
     let t = m text f a in
     let l : plain_label node.IdentifierName op.None p.token.span ≡ label_here identifier_name no_op p t.mid = ap (λ (v : ℕ). record { kind = identifier_name; op = no_op; flags = 0; span = record { from = p.token.span.start; to = v } }) (t.moved.tells.end ∙ t.moved.ends) in
@@ -189,15 +189,15 @@ heads_no_words : apart (λ k w e. one_of_kinds heads k) read_words ≡ true
 unfolding apart
 heads_no_words = refl
 
-head_word : (k : Kind) → one_of_kinds heads k ≡ true → read_word k ≡ false
-head_word k h = go (read_word k) refl
+head_word : (k : Kind) → one_of_kinds heads k ≡ true → one_of_kinds identifier_name_kinds k ≡ false
+head_word k h = go (one_of_kinds identifier_name_kinds k) refl
   where
-    go : (b : Bool) → read_word k ≡ b → read_word k ≡ false
+    go : (b : Bool) → one_of_kinds identifier_name_kinds k ≡ b → one_of_kinds identifier_name_kinds k ≡ false
     go true e = absurd (not_both (λ k w e. one_of_kinds heads k) read_words heads_no_words k false false h e)
     go false e = e
 
 -- no word that is read
-pub no_name : {text : List ℕ} {f : Flags} {p : Parser} → At text f p → read_word p.token.kind ≡ false → Underived text (at IdentifierName f) p.prev_token_end
+pub no_name : {text : List ℕ} {f : Flags} {p : Parser} → At text f p → one_of_kinds identifier_name_kinds p.token.kind ≡ false → Underived text (at IdentifierName f) p.prev_token_end
 unfolding rule rule_of
 no_name {text} {f} {p} a r = fails_by (fails_node inside_full (fails_lexeme any_word (λ y l h. go p.cut refl y l h)))
   where
@@ -210,7 +210,7 @@ no_name {text} {f} {p} a r = fails_by (fails_node inside_full (fails_lexeme any_
 
     go : (b : Bool) → p.cut ≡ b → (y : Lexeme) → Lex text p.prev_token_end y → is_word y.kind ≡ true → ⊥
     go true c y l h = not_both angles any_word no_angles y.kind y.newline y.escaped (angled a c y l) h
-    go false c y l h = false≢true (sym r ∙ subst (λ k. read_word k ≡ true) (sym (told_plain a c y (no_other_word y h) l).kind) (covered (λ k w e. reads k w e && is_word k) read_words words_read y.kind y.newline y.escaped (and_from _ _ l.1 h)))
+    go false c y l h = false≢true (sym r ∙ subst (λ k. one_of_kinds identifier_name_kinds k ≡ true) (sym (told_plain a c y (no_other_word y h) l).kind) (covered (λ k w e. reads k w e && is_word k) read_words words_read y.kind y.newline y.escaped (and_from _ _ l.1 h)))
 
 -- ---- what was taken
 
@@ -265,7 +265,7 @@ wrap_taken {text} {f} {C} {D} {A} {B} {o} {p} {w} {left} {id} {l} x n i r good b
 taken_out : {text : List ℕ} {f : Flags} {C : Label → Slots → (Lexemes → Lexemes) → ℕ → Type 0} {A : Type 0} {p q : Parser} {id : NodeId} (k j : ℕ) → j ≡ p.depth → IsAt p → Taken text f (record p { depth = k }) q id C A → Taken text f p (record q { depth = j }) id C A
 taken_out {p = p} {q = q} k j e a x = record {
   at = elsewhere q.nodes j x.at;
-  same = record { follows = follows_on (at_depth k a) (follows_on x.same.follows (at_depth j x.at.at)); options = x.same.options; ctx = x.same.ctx; depth = e; visits = x.same.visits; early = x.same.early; lies = x.same.lies; meets = x.same.meets };
+  same = record { follows = follows_on (at_depth k a) (follows_on x.same.follows (at_depth j x.at.at)); options = x.same.options; ctx = x.same.ctx; depth = e; visits = x.same.visits; early = x.same.early; lies = x.same.lies };
   further = x.further;
   label = x.label;
   slots = x.slots;
@@ -402,7 +402,7 @@ member_closed {text} {f} {o} {p} x (no_link g, n) =
     (retake x (λ l cs pass c. a_member (member_end f c.0 none) c.1) (λ n. n), none)
 
 -- a lexeme stands here
-pub lexeme_there : {text : List ℕ} {f : Flags} {p : Parser} {k : Kind} → At text f p → StandsHere p k true → same_kind RAngle k ≡ false → is_last k ≡ false → one_of_kinds read_kinds k ≡ true → (y : Lexeme) × Lex text p.prev_token_end y × (y.kind ≡ k)
+pub lexeme_there : {text : List ℕ} {f : Flags} {p : Parser} {k : Kind} → At text f p → StandsHere p k true → same_kind RAngle k ≡ false → is_last k ≡ false → is_read_kind k ≡ true → (y : Lexeme) × Lex text p.prev_token_end y × (y.kind ≡ k)
 lexeme_there {k = k} a s n l r =
     let z = found a (uncut a (ap (same_kind RAngle) s.0 ∙ n)) (ap is_last s.0 ∙ l) in
     (z.0, (z.1, read_of z.0 (sym z.2.kind ∙ s.0) r), sym z.2.kind ∙ s.0)
@@ -443,7 +443,7 @@ no_arguments_here f n = fails_here firsts (none_seen n)
 
 module _ {text : List ℕ} {f : Flags} {p q : Parser} (a : At text f p) (k : p.token.kind ≡ New) (n : p.token.escaped ≡ false) (m : Moved text f p q) where
   pub no_primary : Underived text (at Primary f) p.prev_token_end
-  no_primary = primary_fails a (no_listed_name f.yield_ f.await_ p.token.kind (subst (λ v. one_of_kinds name_kinds v ≡ false) (sym k) refl)) (subst (λ v. one_of_kinds primary_kinds v ≡ false) (sym k) refl)
+  no_primary = primary_fails a (no_listed_name f.yield_ f.await_ p.token.kind (subst (λ v. one_of_kinds binding_identifier_kinds v ≡ false) (sym k) refl)) (subst (λ v. one_of_kinds primary_kinds v ≡ false) (sym k) refl)
 
   pub bare_fails : Underived text (at new_symbol f) q.prev_token_end → NoBareNew text f p.prev_token_end
   bare_fails z = fails_node (new_edge f p.prev_token_end) (token New a k n refl m ⟶✗ z)
@@ -922,8 +922,8 @@ module _ {text : List ℕ} {f : Flags} {p : Parser} (a : At text f p) where
   pub index_link : {q : Parser} {id left : NodeId} {start : ℕ} → StandsHere p LBrack true → WithIndex false start left p q id → Linked text f start left p q id
   index_link s y = record { form = by_index; optional = false; sign = s; only = bracket_only f (stands_there a s.0 refl); behind = y.behind; children = y.children; part = y.part text f a; made = y.made }
 
-  no_word : {q : Parser} {k : Kind} → read_word k ≡ false → At text f q → StandsHere q k true → Underived text (at IdentifierName f) q.prev_token_end
-  no_word h b s = no_name b (ap read_word s.0 ∙ h)
+  no_word : {q : Parser} {k : Kind} → one_of_kinds identifier_name_kinds k ≡ false → At text f q → StandsHere q k true → Underived text (at IdentifierName f) q.prev_token_end
+  no_word h b s = no_name b (ap (one_of_kinds identifier_name_kinds) s.0 ∙ h)
 
   pub no_call_link : (q : Parser) (e : Stop) → StandsHere p LParen true → Stops p q e (Fails rule (Lex text) (plain full) end (args f) p.prev_token_end) → Stops p q e ((c : LinkForm) (o : Bool) → NoLink text f p.prev_token_end c o)
   no_call_link q e s z = stops_so p q e (λ n. none_of_links by_call false (paren_only f (stands_there a s.0 refl)) n) z
@@ -1246,18 +1246,6 @@ sign_marked {text} {f} {p} k s t a h e =
       stands = t p.token.span (record { lexeme = y.0; of_text = a_lexeme a.at.reached (subst (λ (t : List ℕ). StandsBehind all_faults t p.prev_token_end y.0) (sym a.text_is) y.1); is = (sym y.2.start, sym y.2.end); passes = and_from (one_of_kinds (QuestionDot ∷ []) y.0.kind) (not y.0.escaped) (subst (λ (v : Kind). one_of_kinds (QuestionDot ∷ []) v ≡ true) (sym (sym y.2.kind ∙ h.0)) refl) (ap not (sym y.2.escaped ∙ h.1)) });
     } in
     subst (λ (v : Span). Mark (goal p) p.text (record { kind = k; span = v; first = None; second = None })) (sym e) m
-
--- a word that is read may be any name's
-read_names : covers (λ k w e. read_word k) (λ k w e. one_of_kinds identifier_name_kinds k) ≡ true
-unfolding covers
-read_names = refl
-
-pub no_word_read : (k : Kind) → one_of_kinds identifier_name_kinds k ≡ false → read_word k ≡ false
-no_word_read k n = go (read_word k) refl
-  where
-    go : (b : Bool) → read_word k ≡ b → b ≡ false
-    go true e = absurd (false≢true (sym n ∙ covered (λ k w e. read_word k) (λ k w e. one_of_kinds identifier_name_kinds k) read_names k false false e))
-    go false e = refl
 
 -- and so it is behind it
 pub link_marked : {text : List ℕ} {f : Flags} {p q : Parser} (s : Span) → At text f p → StandsHere p QuestionDot true → s ≡ p.token.span → Moved text f p q → Mark (goal q) q.text (no_link_behind s)

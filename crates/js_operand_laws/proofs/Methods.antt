@@ -1,9 +1,7 @@
 -- Methods of object literals (ECMA-262, 15.4, 15.5): the function behind a name, and the property that it makes.
-use Rattle.std.proofs.Common.{ℕ, ◌≡◌, ◌+◌, Bool, true, false, List, [], ◌∷◌, ◌||◌, length, Option, Some, None, refl, sym, ap, subst, arith, ◌∙◌}
-use Rattle.js_base.specs.declared.kind.Kind.TheVariants.{Colon, Comma, RParen, RBrack, RCurly, PrivateIdentifier}
-use Rattle.js_base.specs.Kinds.{same_kind, one_of_kinds}
-use Rattle.js_base.specs.Texts.{words}
-use Rattle.js_grammar.specs.Lexemes.{is_word}
+use Rattle.std.proofs.Common.{ℕ, ◌≡◌, ◌+◌, Bool, true, false, List, [], ◌∷◌, length, Option, Some, None, refl, sym, ap, subst, arith, ◌∙◌}
+use Rattle.js_base.specs.declared.kind.Kind.TheVariants.{Colon, Comma, RParen, RBrack, RCurly}
+use Rattle.js_base.specs.Kinds.{one_of_kinds}
 use Rattle.js_grammar.specs.Trees.{Label, Op, Slots, end, tree, no_op, init, object_property, function_expression}
 use Rattle.js_grammar.specs.Grammar.{Look, here, nothing, empty_slot, ◌▸◌}
 use Rattle.js_grammar.specs.Parsing.{plain, full, Fails}
@@ -37,6 +35,7 @@ use Rattle.js_parsing_laws.proofs.Paths.{Path, ◌⟶◌, ◌⟶✗◌, flagged_
 use Rattle.js_parsing_laws.proofs.Signs.{plain_sign}
 use Rattle.js_parsing_laws.proofs.Verdicts.{grown_then}
 use Rattle.js_parsing_laws.proofs.Verdicts.{after as grown_behind}
+use Rattle.js_parsing_laws.proofs.PlainSigns.{colon_plain}
 use Rattle.js_operand_laws.proofs.Spreads.{ends_there}
 use Rattle.js_operand_laws.proofs.Wholes.{part_answers, part_under, whole_answers, whole_behind_hole, whole_last, whole_of}
 
@@ -87,10 +86,6 @@ method_made first {q} {w} {ids} {id} {start} {fl} {k} form c e h n = subst (λ (
 
 abbrev next_kinds : Look
 next_kinds k w e = one_of_kinds (Comma ∷ RParen ∷ RBrack ∷ RCurly ∷ []) k
-
-colon_plain : (is_word Colon || same_kind PrivateIdentifier Colon) ≡ false
-unfolding words
-colon_plain = refl
 
 module _ {text : List ℕ} {f : Flags} {g g' : G} {first p : Parser} {key : NodeId} (a : At text f first) (o : Op) (fl : ℕ) where
   -- with a method

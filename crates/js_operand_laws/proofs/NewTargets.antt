@@ -1,7 +1,7 @@
 -- `new.target` (ECMA-262, 13.3.12): what is derived of it, and what is told where it, or another word, stands behind `new` and a dot.
 use Rattle.std.proofs.Common.{ℕ, ◌≡◌, ◌≤◌, ◌<◌, inl, inr, List, [], ◌∷◌, Bool, true, false, not, ◌&&◌, ◌||◌, IsTrue, IsCharBoundary, refl, sym, ap, subst, arith, ◌∙◌}
 use Rattle.std.specs.Prelude.{Ok}
-use Rattle.std.proofs.lemmas.Bool.{false≢true, and_from, and_parts, or_left, or_right}
+use Rattle.std.proofs.lemmas.Bool.{false≢true, and_from, and_parts, or_left, or_right, not-true}
 use Rattle.js_base.specs.Kinds.{same_kind, one_of_kinds}
 use Rattle.js_base.specs.KindSets.{identifier_name_kinds}
 use Rattle.js_base.specs.Diagnostics.{class_of}
@@ -125,16 +125,12 @@ words_whole : covers words whole_words ≡ true
 unfolding covers
 words_whole = refl
 
-is_not : (b : Bool) → not b ≡ true → b ≡ false
-is_not true h = absurd (false≢true h)
-is_not false h = refl
-
 module _ {text : List ℕ} {f : Flags} {q : Parser} {start : ℕ} (b : BehindDot start q) (a : At text f q) (n : StandsHere q Target false) (w : one_of_kinds identifier_name_kinds q.token.kind ≡ true) where
   whole : (not (is_last q.token.kind) ≡ true) × (not (same_kind RAngle q.token.kind) ≡ true)
   whole = and_parts (not (is_last q.token.kind)) (not (same_kind RAngle q.token.kind)) (covered words whole_words words_whole q.token.kind false false w)
 
   another : (y : Lexeme) × StandsBehind all_faults text q.prev_token_end y × Tells y q.token
-  another = found a (uncut a (is_not (same_kind RAngle q.token.kind) whole.1)) (is_not (is_last q.token.kind) whole.0)
+  another = found a (uncut a (not-true (same_kind RAngle q.token.kind) whole.1)) (not-true (is_last q.token.kind) whole.0)
 
   is_another : IsTrue (not (of_kinds (Target ∷ []) another.0))
   is_another = by (same_kind Target another.0.kind) another.0.escaped refl refl

@@ -1,12 +1,12 @@
 -- Names, literals, and what a unary operator stands before.
 use Rattle.std.proofs.Common.{ℕ, ◌≡◌, List, [], ◌∷◌, length, Bool, true, false, not, ◌&&◌, ◌||◌, IsTrue, Some, refl, sym, ap, subst, arith, ◌∙◌}
 use Rattle.std.specs.Prelude.{Result, Ok, Err, MatchResult, Option, is_some, if◌then◌else◌}
-use Rattle.std.proofs.lemmas.Bool.{false≢true}
+use Rattle.std.proofs.lemmas.Bool.{false≢true, not-true}
 use Rattle.js_base.specs.declared.kind.Kind.{Kind}
 use Rattle.js_base.specs.declared.kind.Kind.TheVariants.{This, Null, True, False, Decimal, Float, Binary, Octal, Hex, PositiveExponential, NegativeExponential, DecimalBigInt, BinaryBigInt, OctalBigInt, HexBigInt, Str, RegExp, Slash, SlashEq, NoSubstitutionTemplate, TemplateHead, LParen, LBrack, LCurly, Percent, Minus, Plus, Bang, Tilde, Typeof, Void, Delete, Function, RAngle}
 use Rattle.js_base.specs.declared.operator.UnaryOperator.{UnaryOperator}
 use Rattle.js_base.specs.Kinds.{same_kind, one_of_kinds}
-use Rattle.js_base.specs.KindSets.{number_kinds}
+use Rattle.js_base.specs.KindSets.{number_kinds, binding_identifier_kinds}
 use Rattle.js_base.proofs.KindLemmas.{kind_of_same}
 use Rattle.js_base.specs.Operators.{row_of as row_in, unary_operators}
 use Rattle.js_grammar.specs.Trees.{Slots, end, tree, Label, Op, NodeKind, no_op, of, identifier_reference, this_expression, null_literal, boolean_literal, string_literal, unary_expression}
@@ -36,7 +36,7 @@ use Rattle.js_cursor.specs.Parsers.{Parser}
 use Rattle.js_cursor.specs.Moves.{OnlyMemory}
 use Rattle.js_cursor.specs.declared.stop.Stop.{Stop}
 use Rattle.js_cursor.specs.declared.stop.Stop.TheVariants.{Fatal, NoMemory}
-use Rattle.js_parsing_laws.specs.Lexemes.{Plain, escaped_word, is_read, may_name, name_kinds, read_kinds, signs}
+use Rattle.js_parsing_laws.specs.Lexemes.{Plain, escaped_word, is_read, may_name, signs, is_read_kind}
 use Rattle.js_parsing_laws.specs.States.{At, Same, NodesLie}
 use Rattle.js_parsing_laws.specs.Moves.{Moved, MadeHere, LeafTaken, TakesLeaf, plain_label, unpassable}
 use Rattle.js_parsing_laws.specs.Answers.{Underived, Answer, Numbered, Outcome, beside}
@@ -125,7 +125,7 @@ unary_fails text f k h = of_unary (NoOperand text f) k h
 pub one_path : {text : List ℕ} {f : Flags} {X : Test} {p q : Parser} (test : Look) → At text f p → one_of_kinds signs p.token.kind ≡ false → (s : Moved text f p q) → IsTrue (is_read s.lexeme) → IsTrue (seen test s.lexeme) → Path text f X (lexeme test) p nothing q (λ us. us)
 one_path test a u s r h = record { at = s.at; further = s.further; pass = _; walked = walked_one s; verdict = clean s.kept (record { reach = 0; near = omega arith; goes = passes_test a test u s r h }) }
 
-pub plain_leaf : {text : List ℕ} {f : Flags} {p q : Parser} (k : Kind) → p.token.kind ≡ k → p.token.escaped ≡ false → one_of_kinds read_kinds k ≡ true → (s : Moved text f p q) → IsTrue (is_read s.lexeme)
+pub plain_leaf : {text : List ℕ} {f : Flags} {p q : Parser} (k : Kind) → p.token.kind ≡ k → p.token.escaped ≡ false → is_read_kind k ≡ true → (s : Moved text f p q) → IsTrue (is_read s.lexeme)
 plain_leaf k e n r s = read_of s.lexeme (sym s.tells.kind ∙ e) r
 
 abbrev pub LeafUnder : List ℕ → Flags → NodeKind → Op → Kind → Type 0
@@ -189,7 +189,7 @@ unfolding rule rule_of covers
 string_path text f p q a e n s = at_kind a Str e refl ⟼ noded a (last_token Str a e n refl s)
 
 -- no name is a sign with which a lexeme of another goal begins
-pub name_signless : (k : Kind) → one_of_kinds name_kinds k ≡ true → one_of_kinds signs k ≡ false
+pub name_signless : (k : Kind) → one_of_kinds binding_identifier_kinds k ≡ true → one_of_kinds signs k ≡ false
 unfolding apart
 name_signless k h = name_apart signs refl k h
 
@@ -269,14 +269,10 @@ none_of_these k b c d e f x y z v w g j o u h n = not_same This k _ b ∙ (not_s
 abbrev numbers : Look
 numbers k w e = one_of_kinds number_kinds k
 
-is_not : (b : Bool) → not b ≡ true → b ≡ false
-is_not true h = absurd (false≢true h)
-is_not false h = refl
-
 -- a number may be passed
 pub number_passable : (k : Kind) → one_of_kinds number_kinds k ≡ true → (same_kind RAngle k ≡ false) × (unpassable k ≡ false)
 unfolding covers
-number_passable k h = (is_not (same_kind RAngle k) (covered numbers (λ k w e. not (same_kind RAngle k)) refl k false false h), is_not (unpassable k) (covered numbers (λ k w e. not (unpassable k)) refl k false false h))
+number_passable k h = (not-true (same_kind RAngle k) (covered numbers (λ k w e. not (same_kind RAngle k)) refl k false false h), not-true (unpassable k) (covered numbers (λ k w e. not (unpassable k)) refl k false false h))
 
 -- a number, read so
 pub number_outcome : (text : List ℕ) (f : Flags) (p q : Parser) (nk : NodeKindMade) (o : OpMade) (k : Kind) (r : Result NodeId Stop) → one_of_kinds number_kinds p.token.kind ≡ true → k ≡ p.token.kind → nk ≡ node_of_number k → o ≡ op_of_number k → At text f p → p.token.escaped ≡ false → MatchResult r (λ id. TakesLeaf nk o p q id) OnlyMemory → Outcome text f (at Primary f) p q r

@@ -1,6 +1,6 @@
 -- The line of a property (ECMA-262, 13.2.5): which of its forms is left, by what stands where it begins and behind its name.
 use Rattle.std.proofs.Common.{ℕ, ◌≡◌, Bool, true, false, not, List, [], ◌∷◌, ◌++◌, Some, refl, ap, subst}
-use Rattle.js_base.specs.KindSets.{number_kinds}
+use Rattle.js_base.specs.KindSets.{number_kinds, binding_identifier_kinds, identifier_name_kinds}
 use Rattle.js_base.specs.Kinds.{one_of_kinds}
 use Rattle.js_base.specs.declared.kind.Kind.{Kind}
 use Rattle.js_base.specs.declared.kind.Kind.TheVariants.{Async, Await, Break, Case, Catch, Class, Colon, Comma, Const, Continue, Debugger, Default, Delete, Do, Dot3, Else, Enum, Eq, Export, Extends, False, Finally, For, Function, Get, If, Import, In, Instanceof, LBrack, LParen, New, Null, RBrack, RCurly, RParen, Return, Set, Star, Str, Super, Switch, Target, This, Throw, True, Try, Typeof, Var, Void, While, With, Yield}
@@ -19,7 +19,7 @@ use Rattle.js_operand_laws.specs.PropertyNames.{NameRead, NoName}
 use Rattle.js_operand_laws.specs.Spreads.{spread}
 use Rattle.js_parsing_laws.specs.declared.nested.MethodForm.TheVariants.{Method, Getter, Setter}
 use Rattle.js_parsing_laws.specs.Arguments.{Partway, behind_item}
-use Rattle.js_parsing_laws.specs.Lexemes.{Lex, may_name, name_kinds, read_word}
+use Rattle.js_parsing_laws.specs.Lexemes.{Lex, may_name}
 use Rattle.js_parsing_laws.proofs.NamedFirsts.{fails_unnamed}
 use Rattle.js_parsing_laws.specs.Methods.{WholeTaken}
 use Rattle.js_parsing_laws.specs.States.{At}
@@ -107,9 +107,9 @@ kinds_apart ks ls d k h = go (one_of_kinds ls k) refl
     go false e = e
 
 abbrev read_words : Look
-read_words k w e = read_word k
+read_words k w e = one_of_kinds identifier_name_kinds k
 
-pub word_apart : (ls : List Kind) → apart read_words (λ k w e. one_of_kinds ls k) ≡ true → (k : Kind) → read_word k ≡ true → one_of_kinds ls k ≡ false
+pub word_apart : (ls : List Kind) → apart read_words (λ k w e. one_of_kinds ls k) ≡ true → (k : Kind) → one_of_kinds identifier_name_kinds k ≡ true → one_of_kinds ls k ≡ false
 word_apart ls d k h = go (one_of_kinds ls k) refl
   where
     go : (b : Bool) → one_of_kinds ls k ≡ b → one_of_kinds ls k ≡ false
@@ -118,7 +118,7 @@ word_apart ls d k h = go (one_of_kinds ls k) refl
 
 -- what the name of a property begins with, of what is read
 abbrev pub property_name_kinds : List Kind
-property_name_kinds = LBrack ∷ Str ∷ This ∷ Null ∷ True ∷ False ∷ Typeof ∷ Void ∷ Delete ∷ In ∷ Instanceof ∷ New ∷ Break ∷ Continue ∷ Debugger ∷ Throw ∷ If ∷ Else ∷ While ∷ Do ∷ With ∷ Var ∷ Const ∷ Case ∷ Catch ∷ Class ∷ Default ∷ Enum ∷ Export ∷ Extends ∷ Finally ∷ For ∷ Function ∷ Import ∷ Return ∷ Super ∷ Switch ∷ Try ∷ Yield ∷ Await ∷ Async ∷ Target ∷ number_kinds ++ name_kinds
+property_name_kinds = LBrack ∷ Str ∷ This ∷ Null ∷ True ∷ False ∷ Typeof ∷ Void ∷ Delete ∷ In ∷ Instanceof ∷ New ∷ Break ∷ Continue ∷ Debugger ∷ Throw ∷ If ∷ Else ∷ While ∷ Do ∷ With ∷ Var ∷ Const ∷ Case ∷ Catch ∷ Class ∷ Default ∷ Enum ∷ Export ∷ Extends ∷ Finally ∷ For ∷ Function ∷ Import ∷ Return ∷ Super ∷ Switch ∷ Try ∷ Yield ∷ Await ∷ Async ∷ Target ∷ number_kinds ++ binding_identifier_kinds
 
 abbrev next_kinds : Look
 next_kinds k w e = one_of_kinds (Comma ∷ RParen ∷ RBrack ∷ RCurly ∷ []) k
@@ -138,9 +138,9 @@ module _ {text : List ℕ} {f : Flags} {p : Parser} (a : At text f p) where
   no_name_begins true n = fails_at a (name true false f) property_name_kinds refl n
   no_name_begins false n = fails_at a (name false false f) property_name_kinds refl n
 
-  pub no_shorthand : one_of_kinds name_kinds p.token.kind ≡ false → Fails rule (Lex text) behind_item end (shorthand f) p.prev_token_end
+  pub no_shorthand : one_of_kinds binding_identifier_kinds p.token.kind ≡ false → Fails rule (Lex text) behind_item end (shorthand f) p.prev_token_end
   unfolding covers apart
-  no_shorthand n = fails_at a (shorthand f) name_kinds refl n
+  no_shorthand n = fails_at a (shorthand f) binding_identifier_kinds refl n
 
   -- nor where a word stands that is no name by the parameters in force
   pub no_named_shorthand : may_name f.yield_ f.await_ p.token.kind ≡ false → Fails rule (Lex text) behind_item end (shorthand f) p.prev_token_end

@@ -1,13 +1,13 @@
 -- Which form of a property stands here (ECMA-262, 13.2.5), and how it is read from its beginning.
 use Rattle.std.proofs.Common.{ℕ, ◌≡◌, Bool, true, false, not, ◌&&◌, ◌||◌, List, [], ◌∷◌, Some, None, refl, sym, ap, subst, ◌∙◌}
 use Rattle.std.specs.Prelude.{Result, Ok}
-use Rattle.std.proofs.lemmas.Bool.{false≢true}
+use Rattle.std.proofs.lemmas.Bool.{false≢true, or_parts}
 use Rattle.js_base.specs.Kinds.{same_kind, one_of_kinds}
+use Rattle.js_base.specs.KindSets.{binding_identifier_kinds, identifier_name_kinds}
 use Rattle.js_base.specs.Texts.{words}
 use Rattle.js_base.specs.declared.kind.Kind.{Kind}
-use Rattle.js_base.specs.declared.kind.Kind.TheVariants.{Async, Colon, Dot3, Get, LBrack, LParen, PrivateIdentifier, Set, Star}
+use Rattle.js_base.specs.declared.kind.Kind.TheVariants.{Async, Colon, Dot3, Get, LBrack, LParen, Set, Star}
 use Rattle.js_base.specs.declared.token.Token.{Token}
-use Rattle.js_grammar.specs.Lexemes.{is_word}
 use Rattle.js_grammar.specs.Grammar.{Look, nothing}
 use Rattle.js_grammar.specs.Parsing.{still, Goes, Fails}
 use Rattle.js_grammar.specs.Productions.{Flags, at, Property}
@@ -27,7 +27,7 @@ use Rattle.js_parsing_laws.proofs.Escapes.{keyword_is}
 use Rattle.js_parsing_laws.specs.declared.nested.MethodForm.{MethodForm}
 use Rattle.js_parsing_laws.specs.declared.nested.MethodForm.TheVariants.{Method, Getter, Setter}
 use Rattle.js_parsing_laws.specs.Arguments.{NoItem, Partway, behind_item}
-use Rattle.js_parsing_laws.specs.Lexemes.{Lex, may_name, name_kinds, read_word, keyword_kind}
+use Rattle.js_parsing_laws.specs.Lexemes.{Lex, may_name, keyword_kind}
 use Rattle.js_parsing_laws.specs.Moves.{LeafTaken, MadeHere, Moved, Moves, plain_label}
 use Rattle.js_parsing_laws.specs.Nesting.{room}
 use Rattle.js_base.specs.declared.span.Span.{Span}
@@ -36,7 +36,7 @@ use Rattle.js_tree.specs.declared.op.Op.TheVariants as op_made
 use Rattle.js_operand_laws.proofs.Members.{name_taken}
 use Rattle.js_operand_laws.proofs.PropertyNames.{literal_kinds, word_outcome}
 use Rattle.js_parsing_laws.specs.States.{At}
-use Rattle.js_parsing_laws.proofs.Moving.{beside_nodes, neither}
+use Rattle.js_parsing_laws.proofs.Moving.{beside_nodes}
 use Rattle.js_parsing_laws.proofs.Parts.{part_from, part_sign, parts}
 use Rattle.js_parsing_laws.proofs.Paths.{◌⟶✗◌, token}
 use Rattle.js_parsing_laws.proofs.Signs.{plain_sign}
@@ -46,14 +46,10 @@ use Rattle.js_operand_laws.proofs.Properties.{behind_shorthand, forms, kinds_apa
 use Rattle.js_operand_laws.proofs.WordProperties.{name_async, no_accessor, no_dots, no_methods, no_star, no_values, not_alone, one_begins}
 
 abbrev read_words : Look
-read_words k w e = read_word k
-
-star_plain : (is_word Star || same_kind PrivateIdentifier Star) ≡ false
-unfolding words
-star_plain = refl
+read_words k w e = one_of_kinds identifier_name_kinds k
 
 -- no word that is read is none of these
-no_word_of : (ls : List Kind) → covers (λ k w e. one_of_kinds ls k) read_words ≡ true → (k : Kind) → read_word k ≡ false → one_of_kinds ls k ≡ false
+no_word_of : (ls : List Kind) → covers (λ k w e. one_of_kinds ls k) read_words ≡ true → (k : Kind) → one_of_kinds identifier_name_kinds k ≡ false → one_of_kinds ls k ≡ false
 no_word_of ls d k h = go (one_of_kinds ls k) refl
   where
     go : (b : Bool) → one_of_kinds ls k ≡ b → one_of_kinds ls k ≡ false
@@ -62,10 +58,10 @@ no_word_of ls d k h = go (one_of_kinds ls k) refl
 
 -- what isn't of a longer list
 no_sign_of : (a b k : Kind) → one_of_kinds (a ∷ b ∷ []) k ≡ false → (one_of_kinds (a ∷ []) k ≡ false) × (one_of_kinds (b ∷ []) k ≡ false)
-no_sign_of a b k h = let z = neither (same_kind a k) (same_kind b k || false) h in (ap (λ (x : Bool). x || false) z.0, z.1)
+no_sign_of a b k h = let z = or_parts (same_kind a k) (same_kind b k || false) h in (ap (λ (x : Bool). x || false) z.0, z.1)
 
 pub no_kind_of : (a b k : Kind) (ks : List Kind) → one_of_kinds (a ∷ b ∷ ks) k ≡ false → (one_of_kinds (a ∷ []) k ≡ false) × (one_of_kinds (b ∷ []) k ≡ false) × (one_of_kinds ks k ≡ false)
-no_kind_of a b k ks h = let z = neither (same_kind a k) _ h in let y = neither (same_kind b k) _ z.1 in (ap (λ (x : Bool). x || false) z.0, ap (λ (x : Bool). x || false) y.0, y.1)
+no_kind_of a b k ks h = let z = or_parts (same_kind a k) _ h in let y = or_parts (same_kind b k) _ z.1 in (ap (λ (x : Bool). x || false) z.0, ap (λ (x : Bool). x || false) y.0, y.1)
 
 module _ {text : List ℕ} {f : Flags} {p : Parser} (a : At text f p) where
   pub dots_stand : p.token.kind ≡ Dot3 → StandsHere p Dot3 true
@@ -81,13 +77,13 @@ module _ {text : List ℕ} {f : Flags} {p : Parser} (a : At text f p) where
   dots_only k =
       let i = ap (one_of_kinds property_name_kinds) k in
       let s = ap (one_of_kinds (Star ∷ [])) k in
-      only_spread f (no_shorthand a (ap (one_of_kinds name_kinds) k)) (λ c. no_forms f c (no_value a c (no_name_begins a c i)) (no_method a c s (no_async_line a c (ap (one_of_kinds (Async ∷ [])) k)) (no_name_begins a c i)) (no_getter a c (ap (one_of_kinds (Get ∷ [])) k)) (no_setter a c (ap (one_of_kinds (Set ∷ [])) k)))
+      only_spread f (no_shorthand a (ap (one_of_kinds binding_identifier_kinds) k)) (λ c. no_forms f c (no_value a c (no_name_begins a c i)) (no_method a c s (no_async_line a c (ap (one_of_kinds (Async ∷ [])) k)) (no_name_begins a c i)) (no_getter a c (ap (one_of_kinds (Get ∷ [])) k)) (no_setter a c (ap (one_of_kinds (Set ∷ [])) k)))
 
   -- a name that is no word
-  module _ (w : read_word p.token.kind ≡ false) (h : one_of_kinds (Dot3 ∷ Star ∷ []) p.token.kind ≡ false) where
-    no_reference : one_of_kinds name_kinds p.token.kind ≡ false
+  module _ (w : one_of_kinds identifier_name_kinds p.token.kind ≡ false) (h : one_of_kinds (Dot3 ∷ Star ∷ []) p.token.kind ≡ false) where
+    no_reference : one_of_kinds binding_identifier_kinds p.token.kind ≡ false
     unfolding covers
-    no_reference = no_word_of name_kinds refl p.token.kind w
+    no_reference = no_word_of binding_identifier_kinds refl p.token.kind w
 
     no_get : one_of_kinds (Get ∷ []) p.token.kind ≡ false
     unfolding covers
@@ -128,14 +124,14 @@ module _ {text : List ℕ} {f : Flags} {p : Parser} (a : At text f p) where
     starred_part c x = part_from (with_star a c k) (parts (part_sign Star a k e refl m) (part_from done (name_part m.at c x)))
 
     pub starred_only : {r : Parser} {id : NodeId} (c : Bool) → NameRead text f c q r id → Goes rule (Lex text) behind_item end (rule (at Property f)) p.prev_token_end (with_method c f) p.prev_token_end (λ us. us) (still 0)
-    starred_only c x = only_method f c (no_shorthand a (ap (one_of_kinds name_kinds) k)) (no_spread a (ap (one_of_kinds (Dot3 ∷ [])) k)) (λ d. no_value a d (no_first_name d)) (λ d. no_getter a d (ap (one_of_kinds (Get ∷ [])) k)) (λ d. no_setter a d (ap (one_of_kinds (Set ∷ [])) k)) (no_starred (not c) x.other)
+    starred_only c x = only_method f c (no_shorthand a (ap (one_of_kinds binding_identifier_kinds) k)) (no_spread a (ap (one_of_kinds (Dot3 ∷ [])) k)) (λ d. no_value a d (no_first_name d)) (λ d. no_getter a d (ap (one_of_kinds (Get ∷ [])) k)) (λ d. no_setter a d (ap (one_of_kinds (Set ∷ [])) k)) (no_starred (not c) x.other)
 
     pub no_starred_name : NoNames text f q.prev_token_end → NoItem text (at Property f) p.prev_token_end
-    no_starred_name n = fails_rule {X' = behind_item} (λ l cs vs y d. d) (none_of_line f (no_shorthand a (ap (one_of_kinds name_kinds) k)) (λ c. no_forms f c (no_value a c (no_first_name c)) (no_starred c (n c)) (no_getter a c (ap (one_of_kinds (Get ∷ [])) k)) (no_setter a c (ap (one_of_kinds (Set ∷ [])) k))) (no_spread a (ap (one_of_kinds (Dot3 ∷ [])) k)))
+    no_starred_name n = fails_rule {X' = behind_item} (λ l cs vs y d. d) (none_of_line f (no_shorthand a (ap (one_of_kinds binding_identifier_kinds) k)) (λ c. no_forms f c (no_value a c (no_first_name c)) (no_starred c (n c)) (no_getter a c (ap (one_of_kinds (Get ∷ [])) k)) (no_setter a c (ap (one_of_kinds (Set ∷ [])) k))) (no_spread a (ap (one_of_kinds (Dot3 ∷ [])) k)))
 
   -- ---- a word
 
-  module _ {q : Parser} (r : read_word p.token.kind ≡ true) (m : Moved text f p q) where
+  module _ {q : Parser} (r : one_of_kinds identifier_name_kinds p.token.kind ≡ true) (m : Moved text f p q) where
     -- an accessor
     no_shorthand_so : one_of_kinds behind_shorthand q.token.kind ≡ false → Fails rule (Lex text) behind_item end (shorthand f) p.prev_token_end
     no_shorthand_so h = go (may_name f.yield_ f.await_ p.token.kind) refl
@@ -236,7 +232,7 @@ pub no_shorthand_here : (y t : Bool) {w b k j : Kind} → w ≡ k → b ≡ j �
 no_shorthand_here y t {w} {b} {k} {j} e h n = subst (λ (x : Kind). (may_name y t x && not (one_of_kinds (Colon ∷ LParen ∷ []) j)) ≡ false) e (subst (λ (x : Kind). (may_name y t w && not (one_of_kinds (Colon ∷ LParen ∷ []) x)) ≡ false) h n)
 
 -- a word that was passed, and its node
-module _ {text : List ℕ} {f : Flags} {p q : Parser} (a : At text f p) (r : read_word p.token.kind ≡ true) (ms : Moves p q) where
+module _ {text : List ℕ} {f : Flags} {p q : Parser} (a : At text f p) (r : one_of_kinds identifier_name_kinds p.token.kind ≡ true) (ms : Moves p q) where
   pub word_name : {u : Parser} {id : NodeId} {s : Span} → s ≡ p.token.span → MadeHere (plain_label node.IdentifierName op_made.None s) [] q u id → NameRead text f false p u id
   unfolding apart
   word_name {u} {id} {s} h n = word_outcome a (λ k d. bracket_is (sym (word_apart (LBrack ∷ []) refl p.token.kind r) ∙ ap (one_of_kinds (LBrack ∷ [])) k)) (word_apart literal_kinds refl p.token.kind r) u (Ok id) (name_taken text f p u (Ok id) a r (λ t g b. leaf t g b))

@@ -1,18 +1,14 @@
 -- Object literals (ECMA-262, 13.2.5): what is left of the list behind each of its properties.
-use Rattle.std.proofs.Common.{ℕ, ◌≡◌, ◌≤◌, ◌<◌, inl, inr, max, IsTrue, true, List, [], ◌∷◌, ◌++◌, length, Option, Some, false, ◌||◌, refl, sym, ap, subst, arith, ◌∙◌}
+use Rattle.std.proofs.Common.{ℕ, ◌≡◌, ◌≤◌, ◌<◌, inl, inr, max, true, List, [], ◌∷◌, ◌++◌, length, Option, Some, false, refl, sym, ap, subst, arith, ◌∙◌}
 use Rattle.std.specs.Prelude.{Ok, Err}
-use Rattle.std.proofs.lemmas.Bool.{false≢true, and_parts}
+use Rattle.std.proofs.lemmas.Bool.{false≢true}
 use Rattle.js_base.specs.declared.diagnostic.Diagnostic.{Diagnostic}
-use Rattle.js_base.specs.declared.kind.Kind.{Kind}
-use Rattle.js_base.specs.declared.kind.Kind.TheVariants.{RCurly, RAngle, LParen, LBrack, RBrack, RParen, LCurly, Comma, PrivateIdentifier}
+use Rattle.js_base.specs.declared.kind.Kind.TheVariants.{RCurly, RAngle, LParen, LBrack, RBrack, RParen, LCurly, Comma}
 use Rattle.js_base.specs.declared.span.Span.{Span}
 use Rattle.js_base.specs.Kinds.{same_kind, one_of_kinds}
-use Rattle.js_base.specs.Texts.{words}
-use Rattle.js_grammar.specs.Lexemes.{is_word}
 use Rattle.js_grammar.specs.Trees.{Slots, end, tree, Label, no_op, object_expression}
-use Rattle.js_grammar.specs.Grammar.{Lexeme, Lexemes, Look, commas, is, seen, seq, nothing, Takes, is_seq}
+use Rattle.js_grammar.specs.Grammar.{Lexemes, Look, commas, is, seq, nothing, Takes, is_seq}
 use Rattle.js_grammar.specs.Parsing.{plain, full, still, Goes, Fails}
-use Rattle.js_base.proofs.KindLemmas.{kind_of_same}
 use Rattle.js_grammar.specs.Productions.{G, Flags, Symbol, at, tok, Object, Primary, Property}
 use Rattle.js_grammar.specs.Productions.{sym as symbol}
 use Rattle.js_grammar.specs.Table.{rule, rule_of}
@@ -42,7 +38,7 @@ use Rattle.js_operand_laws.specs.Objects.{object_of, properties, Properties, Tak
 use Rattle.js_parsing_laws.specs.Stands.{StandsHere}
 use Rattle.js_parsing_laws.specs.Moves.{Moved, Moves, MadeHere, plain_label, unpassable}
 use Rattle.js_parsing_laws.specs.Nesting.{room}
-use Rattle.js_operand_laws.proofs.ArgumentLists.{none_there}
+use Rattle.js_operand_laws.proofs.ArgumentLists.{none_there, is_one}
 use Rattle.js_operand_laws.proofs.Arrays.{turned}
 use Rattle.js_parsing_laws.proofs.Bracketed.{opened_here, opened_later}
 use Rattle.js_parsing_laws.proofs.Signs.{none_seen, plain_sign}
@@ -50,7 +46,7 @@ use Rattle.js_parsing_laws.proofs.Giving.{gives_up}
 use Rattle.js_parsing_laws.proofs.Here.{uncut}
 use Rattle.js_parsing_laws.proofs.Signs.{AllClose, NoneIs}
 use Rattle.js_parsing_laws.proofs.MadeNodes.{node_held, one_lies}
-use Rattle.js_parsing_laws.proofs.Signs.{AllAre, closing_there, stands_not, stands_there}
+use Rattle.js_parsing_laws.proofs.Signs.{closing_there, stands_not, stands_there}
 use Rattle.js_parsing_laws.proofs.Moving.{moves, standing, stops_behind, stops_so}
 use Rattle.js_parsing_laws.proofs.Nesting.{nested_room, later_room}
 use Rattle.js_operand_laws.proofs.Operands.{by_path, behind_primary}
@@ -59,6 +55,7 @@ use Rattle.js_parsing_laws.proofs.Paths.{Path, ◌⟼◌, at_kind, by_symbol_as,
 use Rattle.js_parsing_laws.proofs.Verdicts.{verdict_of}
 use Rattle.js_parsing_laws.proofs.Verdicts.{after as grown_behind}
 use Rattle.js_parsing_laws.proofs.Classes.{here_ends}
+use Rattle.js_parsing_laws.proofs.PlainSigns.{comma_plain, brace_plain, closing_brace_plain}
 use Rattle.js_base.specs.declared.diagnostic.DiagnosticKind.TheVariants.{ExpectClosingOrSeparator}
 
 -- ---- the list, by what stands where a property may begin, or behind one
@@ -72,21 +69,6 @@ rest f = seq (after_item true (property f)) (tok RCurly)
 
 abbrev next_kinds : Look
 next_kinds k w e = one_of_kinds (Comma ∷ RParen ∷ RBrack ∷ RCurly ∷ []) k
-
-comma_plain : (is_word Comma || same_kind PrivateIdentifier Comma) ≡ false
-unfolding words
-comma_plain = refl
-
-bracket_plain : (is_word LCurly || same_kind PrivateIdentifier LCurly) ≡ false
-unfolding words
-bracket_plain = refl
-
-closing_plain : (is_word RCurly || same_kind PrivateIdentifier RCurly) ≡ false
-unfolding words
-closing_plain = refl
-
-all_apart : {text : List ℕ} {s : ℕ} {j k : Kind} → AllAre text s k → (k ≡ j → ⊥) → NoneIs text s j
-all_apart a n y l e w = n (sym (a y l).0 ∙ e)
 
 -- a property may be followed by these, and begins with no closing brace
 ends_there : (f : Flags) → covers (starts first_of (after_item true (property f)) (is RCurly)) next_kinds ≡ true
@@ -152,12 +134,12 @@ module _ {text : List ℕ} {f : Flags} {p : Parser} (a : At text f p) where
     rest_closes = no_comma_left f (λ y l e w. false≢true (ap (one_of_kinds (RCurly ∷ template_tails)) (sym e) ∙ (closing_there a k y l).0)) ▹ turned (closes f (closing_there a k))
 
     pub properties_end : {q : Parser} (ids : List (Option NodeId)) → Moved text f p q → Partway text f (properties f) nothing p q ids ids
-    properties_end ids m = part_from (closes f (closing_there a k)) (part_last RCurly a k (plain_sign RCurly a k refl refl closing_plain) refl m)
+    properties_end ids m = part_from (closes f (closing_there a k)) (part_last RCurly a k (plain_sign RCurly a k refl refl closing_brace_plain) refl m)
 
   -- a comma stands here
   module _ (k : p.token.kind ≡ Comma) where
     rest_goes : {q : Parser} (ids : List (Option NodeId)) → Moved text f p q → Partway text f (rest f) (properties f) p q ids ids
-    rest_goes ids m = part_from (comma_left f (all_apart (stands_there a k refl) (λ e. cc))) (part_sign Comma a k (plain_sign Comma a k refl refl comma_plain) refl m)
+    rest_goes ids m = part_from (comma_left f (is_one (stands_there a k refl) (λ e. cc))) (part_sign Comma a k (plain_sign Comma a k refl refl comma_plain) refl m)
 
   module _ (m : NoneIs text p.prev_token_end RCurly) where
     pub property_taken : {q : Parser} {id : NodeId} (ids : List (Option NodeId)) → ItemTaken text f (at Property f) p q id → Partway text f (properties f) (rest f) p q ids (ids ++ Some id ∷ [])
@@ -203,7 +185,7 @@ pub record PropertyLoop (opening : Span) (ids : List (Option NodeId)) (p q : Par
   pub goes : (text : List ℕ) (f : Flags) → At text f p → Partway text f (object_of f) (properties f) p q [] ids
 
 object_opened : {text : List ℕ} {f : Flags} {p q : Parser} → At text f p → p.token.kind ≡ LCurly → Moved text f p q → Partway text f (object_of f) (properties f) p q [] []
-object_opened a k m = part_sign LCurly a k (plain_sign LCurly a k refl refl bracket_plain) refl m
+object_opened a k m = part_sign LCurly a k (plain_sign LCurly a k refl refl brace_plain) refl m
 
 pub loop_start : {s : Span} {p q : Parser} {ids : List (Option NodeId)} → ids ≡ [] → s ≡ p.token.span → Standing p → p.token.kind ≡ LCurly → Moves p q → PropertyLoop s ids p q
 loop_start {s} {p} {q} {ids} i e a k m = record {

@@ -1,9 +1,9 @@
 -- Names of properties (ECMA-262, 13.2.5): a word, a string, a number, or an expression in brackets.
 use Rattle.std.proofs.Common.{ℕ, ◌≡◌, List, [], ◌∷◌, length, Option, Bool, true, false, not, ◌&&◌, ◌||◌, refl, sym, ap, subst, arith, ◌∙◌}
 use Rattle.std.specs.Prelude.{Result, Ok, Err, MatchResult}
-use Rattle.std.proofs.lemmas.Bool.{false≢true, and_parts}
+use Rattle.std.proofs.lemmas.Bool.{and_parts, not-true}
 use Rattle.js_base.specs.declared.kind.Kind.{Kind}
-use Rattle.js_base.specs.declared.kind.Kind.TheVariants.{LBrack, RBrack, Str, Decimal, Float, Binary, Octal, Hex, PositiveExponential, NegativeExponential, DecimalBigInt, BinaryBigInt, OctalBigInt, HexBigInt, PrivateIdentifier, RAngle}
+use Rattle.js_base.specs.declared.kind.Kind.TheVariants.{LBrack, RBrack, Str, Decimal, Float, Binary, Octal, Hex, PositiveExponential, NegativeExponential, DecimalBigInt, BinaryBigInt, OctalBigInt, HexBigInt, RAngle}
 use Rattle.js_base.specs.declared.diagnostic.DiagnosticKind.TheVariants.{ExpectClosing}
 use Rattle.js_base.specs.declared.span.Span.{Span}
 use Rattle.js_base.specs.Kinds.{same_kind, one_of_kinds}
@@ -11,7 +11,6 @@ use Rattle.js_base.specs.KindSets.{number_kinds}
 use Rattle.js_base.specs.Texts.{words}
 use Rattle.js_base.proofs.KindLemmas.{kind_of_same}
 use Rattle.js_grammar.specs.Trees.{Label, end, tree, no_op, string_literal}
-use Rattle.js_grammar.specs.Lexemes.{is_word}
 use Rattle.js_grammar.specs.Grammar.{never, nothing, ◌▸◌, ◌◇◌}
 use Rattle.js_grammar.specs.Parsing.{plain, full, Fails}
 use Rattle.js_grammar.specs.Productions.{G, Flags, at, tok, plus_in, Assignment, IdentifierName}
@@ -52,6 +51,7 @@ use Rattle.js_parsing_laws.proofs.Paths.{Path, ◌⟼◌, ◌⟶◌, ◌⟶✗�
 use Rattle.js_parsing_laws.proofs.Signs.{none_seen, other_kind, plain_among, plain_sign, stands_not}
 use Rattle.js_parsing_laws.proofs.Verdicts.{grown_then}
 use Rattle.js_parsing_laws.proofs.Verdicts.{after as grown_behind}
+use Rattle.js_parsing_laws.proofs.PlainSigns.{bracket_plain, closing_bracket_plain}
 
 -- a name that is no word, and stands in no brackets
 abbrev literals : G
@@ -68,14 +68,6 @@ string_plain a k = plain_sign Str a k refl refl refl
 
 abbrev pub literal_kinds : List Kind
 literal_kinds = Str ∷ number_kinds
-
-bracket_plain : (is_word LBrack || same_kind PrivateIdentifier LBrack) ≡ false
-unfolding words
-bracket_plain = refl
-
-closing_plain : (is_word RBrack || same_kind PrivateIdentifier RBrack) ≡ false
-unfolding words
-closing_plain = refl
 
 module _ {text : List ℕ} {f : Flags} {p : Parser} (a : At text f p) where
   no_literal : one_of_kinds literal_kinds p.token.kind ≡ false → Fails rule (Lex text) (plain full) end literals p.prev_token_end
@@ -150,6 +142,11 @@ module _ {text : List ℕ} {f : Flags} {p : Parser} (a : At text f p) where
 abbrev NumberPath : Kind → Type 0
 NumberPath k = (text : List ℕ) (f : Flags) (p q : Parser) → At text f p → p.token.kind ≡ k → p.token.escaped ≡ false → Moved text f p q → Path text f (plain full) (name false false f) p nothing q (tree (label_here (kind_of (node_of_number k)) (op_of (op_of_number k)) p q) end)
 
+pub string_outcome : (text : List ℕ) (f : Flags) (p q : Parser) (r : Result NodeId Stop) → At text f p → StandsHere p LBrack false → p.token.kind ≡ Str → p.token.escaped ≡ false → MatchResult r (λ id. TakesLeaf node.StringLiteral op_made.None p q id) OnlyMemory → NameOutcome text f false p q r
+string_outcome text f p q (Ok id) a s k e m = let t = m text f a in leaf_named a s t (string_path a k e t.moved)
+string_outcome text f p q (Err Fatal) a s k e m = absurd m
+string_outcome text f p q (Err NoMemory) a s k e m = tt
+
 number_path : (k : Kind) → one_of_kinds number_kinds k ≡ true → NumberPath k
 unfolding covers
 number_path k h = of_number NumberPath k h
@@ -164,11 +161,6 @@ number_path k h = of_number NumberPath k h
     (λ text f p q a e n s. at_kind a BinaryBigInt e refl ⟼ noded a (last_token BinaryBigInt a e n refl s))
     (λ text f p q a e n s. at_kind a OctalBigInt e refl ⟼ noded a (last_token OctalBigInt a e n refl s))
     (λ text f p q a e n s. at_kind a HexBigInt e refl ⟼ noded a (last_token HexBigInt a e n refl s))
-
-pub string_outcome : (text : List ℕ) (f : Flags) (p q : Parser) (r : Result NodeId Stop) → At text f p → StandsHere p LBrack false → p.token.kind ≡ Str → p.token.escaped ≡ false → MatchResult r (λ id. TakesLeaf node.StringLiteral op_made.None p q id) OnlyMemory → NameOutcome text f false p q r
-string_outcome text f p q (Ok id) a s k e m = let t = m text f a in leaf_named a s t (string_path a k e t.moved)
-string_outcome text f p q (Err Fatal) a s k e m = absurd m
-string_outcome text f p q (Err NoMemory) a s k e m = tt
 
 pub number_outcome : (text : List ℕ) (f : Flags) (p q : Parser) (nk : NodeKindMade) (o : OpMade) (k : Kind) (r : Result NodeId Stop) → At text f p → StandsHere p LBrack false → k ≡ p.token.kind → one_of_kinds number_kinds k ≡ true → nk ≡ node_of_number k → o ≡ op_of_number k → p.token.escaped ≡ false → MatchResult r (λ id. TakesLeaf nk o p q id) OnlyMemory → NameOutcome text f false p q r
 number_outcome text f p q nk o k (Ok id) a s i h u v e m =
@@ -215,7 +207,7 @@ module _ {text : List ℕ} {f : Flags} {p q : Parser} (a : At text f p) (k : p.t
         n = moves (uncut x.answer.at (ap (same_kind RAngle) z.0), ap unpassable z.0) z.1 x.answer.at
 
         y : Path text f (plain full) (name true false f) p nothing w (tree x.answer.label x.answer.slots)
-        y = keyed ⟶ last_token RBrack x.answer.at z.0 (plain_sign RBrack x.answer.at z.0 refl refl closing_plain) refl n
+        y = keyed ⟶ last_token RBrack x.answer.at z.0 (plain_sign RBrack x.answer.at z.0 refl refl closing_bracket_plain) refl n
 
         held : Holds r.nodes (length p.nodes) (length r.nodes) id.0 x.answer.label x.answer.slots
         held = subst (λ (ns : List Node). Holds r.nodes (length ns) (length r.nodes) id.0 x.answer.label x.answer.slots) m.nodes x.holds
@@ -228,14 +220,10 @@ number_signs : covers (λ k w e. one_of_kinds number_kinds k) (λ k w e. not (un
 unfolding covers
 number_signs = refl
 
-negated : (b : Bool) → not b ≡ true → b ≡ false
-negated true h = absurd (false≢true h)
-negated false h = refl
-
 pub number_whole : {text : List ℕ} {f : Flags} {p : Parser} → At text f p → one_of_kinds number_kinds p.token.kind ≡ true → IsWholeHere p
 number_whole {p = p} a h =
     let z = and_parts (not (unpassable p.token.kind)) (not (same_kind RAngle p.token.kind)) (covered (λ k w e. one_of_kinds number_kinds k) (λ k w e. not (unpassable k) && not (same_kind RAngle k)) number_signs p.token.kind false false h) in
-    (uncut a (negated (same_kind RAngle p.token.kind) z.1), negated (unpassable p.token.kind) z.0)
+    (uncut a (not-true (same_kind RAngle p.token.kind) z.1), not-true (unpassable p.token.kind) z.0)
 
 pub none_literal : {k : Kind} → (k ≡ Str → ⊥) → one_of_kinds number_kinds k ≡ false → one_of_kinds literal_kinds k ≡ false
 none_literal {k} n h = go (same_kind Str k) refl

@@ -56,9 +56,9 @@ use Rattle.js_parsing_laws.specs.Answers.{Numbered, Stops, Underived, clean}
 use Rattle.js_parsing_laws.specs.Classes.{IsEarly}
 use Rattle.js_parsing_laws.proofs.Characters.{characters}
 use Rattle.js_parsing_laws.specs.Heads.{NotedHeads}
-use Rattle.js_parsing_laws.specs.Lexemes.{Faultless, IsNew, IsReread, IsRight, KeptFor, KeptLast, Lex, News, NoneToEnd, TriviaKept, Walked, goal_for, is_read, kept_before, nowhere, onward, other_goals, read_again, read_kinds, signs_of, slashes, spot, with_faults}
+use Rattle.js_parsing_laws.specs.Lexemes.{Faultless, IsNew, IsReread, IsRight, KeptFor, KeptLast, Lex, News, TriviaKept, Walked, goal_for, is_read, kept_before, nowhere, onward, other_goals, read_again, signs_of, slashes, spot, with_faults, is_read_kind}
 use Rattle.js_parsing_laws.specs.Moves.{MadeHere, plain_label}
-use Rattle.js_parsing_laws.specs.States.{At, IsPlain, whole, sign, nothing as none_stands, Same, flags_of}
+use Rattle.js_parsing_laws.specs.States.{At, IsPlain, whole, sign, nothing as none_stands, Same}
 use Rattle.js_parsing_laws.proofs.Beginning.{behind_first}
 use Rattle.js_parsing_laws.proofs.Classes.{unexpected_ends}
 use Rattle.js_parsing_laws.proofs.Dead.{live, lives}
@@ -68,12 +68,9 @@ use Rattle.js_parsing_laws.proofs.Kept.{kept_for, passing_so}
 use Rattle.js_parsing_laws.proofs.KeptTokens.{again_before, again_last, before_next, trivia_kept}
 use Rattle.js_parsing_laws.proofs.MadeNodes.{leaf_held, one_lies}
 use Rattle.js_parsing_laws.proofs.Moving.{flags_same, heads_kept, nodes_lie, standing_for}
-use Rattle.js_parsing_laws.proofs.Escapes.{read_plain}
 use Rattle.js_parsing_laws.proofs.Paths.{Path, ◌⟼◌, at_kinds, label_here, noded, read_of, walked_to}
 use Rattle.js_parsing_laws.proofs.Slashes.{pattern_goal, sign_there}
 use Rattle.js_parsing_laws.proofs.Signs.{whole_sign}
-use Rattle.js_parsing_laws.proofs.ToEnd.{to_end_none}
-use Rattle.js_parsing_laws.proofs.Unbuilt.{nothing_unbuilt}
 use Rattle.js_parsing_laws.proofs.Verdicts.{grown_then}
 use Rattle.js_operand_laws.proofs.FlagFaults.{are_right, none_wrong}
 use Rattle.js_operand_laws.proofs.Operands.{behind_primary, by_path}
@@ -131,10 +128,10 @@ goal_of_flags unambiguous w h = h
 any_goal : {m : Passing} {text : List ℕ} {s : ℕ} {y : Lexeme} (h : StandsBehind m text s y) → y.kind ≡ RegExp → h.goal ≡ regular_expression
 any_goal h k = pattern_goal (record { trivia = h.trivia; goal = h.goal; word = h.word; rest = h.rest; stands = h.stands; lexeme = h.lexeme; comments = refl; flags = refl; from = h.from; to = h.to; newline = h.newline; escaped = h.escaped; units = h.units }) k
 
-read_slash : (k : Kind) → one_of_kinds slashes k ≡ true → one_of_kinds read_kinds k ≡ true
-read_slash k h = by_sign (λ j. one_of_kinds read_kinds j ≡ true) k h refl refl
+read_slash : (k : Kind) → one_of_kinds slashes k ≡ true → is_read_kind k ≡ true
+read_slash k h = by_sign (λ j. is_read_kind j ≡ true) k h refl refl
 
-plain_sign_of : (k : Kind) → one_of_kinds slashes k ≡ true → one_of_kinds other_goals k ≡ false
+pub plain_sign_of : (k : Kind) → one_of_kinds slashes k ≡ true → one_of_kinds other_goals k ≡ false
 plain_sign_of k h = by_sign (λ j. one_of_kinds other_goals j ≡ false) k h refl refl
 
 -- The faults of the flags were kept: the lexeme has none exactly where none was, if what stands before it has none.
@@ -241,8 +238,7 @@ module _ {text : List ℕ} {f : Flags} {p q : Parser} {at_end : ℕ} (a : At tex
     stopped = λ w. record { before = q.errors; last = g.0; is = ap (λ (z : Parser). z.errors) g.2.is; early = All-same IsEarly q.errors p.errors h.stays.errors w; ends = unexpected_ends h.at g.0 g.1 };
     lies = λ l. nodes_lie p r (ap (λ (z : Parser). z.text) g.2.is ∙ h.stays.text) (ap (λ (z : Parser). z.nodes) g.2.is ∙ h.stays.nodes) l.1;
     heads = subst NotedHeads (sym g.2.is) heads_stay;
-    none = λ n. no_operand (none_there (same_kind Undetermined q.token.kind) refl again);
-    met = λ n. absurd (nothing_unbuilt n);
+    none = no_operand (none_there (same_kind Undetermined q.token.kind) refl again);
   }
     where
       none_there : (b : Bool) → same_kind Undetermined q.token.kind ≡ b → elim b as (λ _. Type 0) [ true ↦ (d : Diagnostic) × (h.faults ≡ d ∷ []) × GivesNone regular_expression p.lexer.goal p.lexer.text p.prev_token_end q.token d | false ↦ (h.faults ≡ h.going_on) × GivesLexeme regular_expression (λ z. z) p.lexer.text p.prev_token_end q.token ] → (y : Lexeme) → Lex text p.prev_token_end y → y.kind ≡ RegExp → ⊥
@@ -322,11 +318,7 @@ module _ {text : List ℕ} {f : Flags} {p q : Parser} {at_end : ℕ} (a : At tex
         visits = m.stays.visits ∙ h.stays.visits;
         early = λ w. All-same IsEarly r.errors p.errors (m.stays.errors ∙ h.stays.errors) w;
         lies = λ l. (m.at.lies.starts_whole, nodes_lie p r (m.stays.text ∙ h.stays.text) (m.stays.nodes ∙ h.stays.nodes) l.1);
-        meets = λ z. subst (λ (t : List ℕ). NoneToEnd t p.prev_token_end) (sym a.text_is) (meets_so (subst (λ (t : List ℕ). NoneToEnd t r.prev_token_end) text_is z));
       }
-        where
-          meets_so : NoneToEnd text r.prev_token_end → NoneToEnd text p.prev_token_end
-          meets_so z = to_end_none (λ x l. false≢true (sym l.3 ∙ subst (λ (v : Kind). one_of_kinds slashes v ≡ true) (told_plain a uncut_here x l.2 l.0).kind u))
 
       nodes : r.nodes ≡ p.nodes
       nodes = m.stays.nodes ∙ h.stays.nodes

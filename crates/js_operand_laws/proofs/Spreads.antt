@@ -1,14 +1,10 @@
 -- Items of arguments and array literals: an AssignmentExpression, spread or not (ECMA-262, 13.2.4, 13.3.8).
-use Rattle.std.proofs.Common.{ℕ, ◌≡◌, max, List, [], ◌∷◌, length, Some, Bool, true, false, ◌||◌, refl, sym, ap, subst, arith}
+use Rattle.std.proofs.Common.{ℕ, ◌≡◌, max, List, [], ◌∷◌, length, Some, Bool, true, false, refl, sym, ap, subst, arith}
 use Rattle.std.specs.Prelude.{Result, Ok, Err}
-use Rattle.std.proofs.lemmas.Bool.{and_parts}
-use Rattle.js_base.proofs.KindLemmas.{kind_of_same}
 use Rattle.js_base.specs.declared.diagnostic.Diagnostic.{Diagnostic}
-use Rattle.js_base.specs.declared.kind.Kind.TheVariants.{RCurly, Dot3, Comma, RParen, RBrack, PrivateIdentifier}
+use Rattle.js_base.specs.declared.kind.Kind.TheVariants.{RCurly, Dot3, Comma, RParen, RBrack}
 use Rattle.js_base.specs.declared.span.Span.{Span}
-use Rattle.js_base.specs.Kinds.{same_kind, one_of_kinds}
-use Rattle.js_base.specs.Texts.{words}
-use Rattle.js_grammar.specs.Lexemes.{is_word}
+use Rattle.js_base.specs.Kinds.{one_of_kinds}
 use Rattle.js_grammar.specs.Marks.{Mark}
 use Rattle.js_grammar.specs.Trees.{Label, Slots, end, tree, no_op, spread_element}
 use Rattle.js_grammar.specs.Grammar.{Lexeme, Lexemes, Look, here, is, alt, such, nothing, ◌▸◌}
@@ -55,7 +51,7 @@ use Rattle.js_parsing_laws.specs.Classes.{IsEarly}
 abbrev next_kinds : Look
 next_kinds k w e = one_of_kinds (Comma ∷ RParen ∷ RBrack ∷ RCurly ∷ []) k
 
-ends_all : covers next_kinds (surest Assignment) ≡ true
+pub ends_all : covers next_kinds (surest Assignment) ≡ true
 unfolding covers
 ends_all = refl
 
@@ -72,10 +68,6 @@ spread_slots f = tok Dot3 ▸ inner f
 argument_left : (f : Flags) → rule (at Argument f) ≡ alt (inner f) (mk spread_element (spread_slots f))
 unfolding rule rule_of
 argument_left f = refl
-
-dots_plain : (is_word Dot3 || same_kind PrivateIdentifier Dot3) ≡ false
-unfolding words
-dots_plain = refl
 
 -- no assignment begins with `...`
 no_dots : (f : Flags) → apart (first_of (at Assignment (plus_in f))) (is Dot3) ≡ true

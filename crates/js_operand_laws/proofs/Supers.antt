@@ -3,12 +3,12 @@ use Rattle.std.proofs.Common.{ℕ, ◌≡◌, ◌≤◌, ◌<◌, inl, inr, List
 use Rattle.std.specs.Prelude.{Result, Ok, Err}
 use Rattle.std.proofs.lemmas.Bool.{false≢true, and_parts}
 use Rattle.js_base.specs.Kinds.{same_kind, one_of_kinds}
+use Rattle.js_base.specs.KindSets.{binding_identifier_kinds}
 use Rattle.js_base.specs.declared.diagnostic.Diagnostic.{Diagnostic}
 use Rattle.js_base.specs.declared.kind.Kind.{Kind}
 use Rattle.js_base.specs.declared.kind.Kind.TheVariants.{Dot, LBrack, LParen, New, Super as super_kind, RAngle}
 use Rattle.js_base.specs.declared.source_type.SourceType.{SourceType}
 use Rattle.js_base.specs.declared.span.Span.{Span}
-use Rattle.js_base.proofs.KindLemmas.{kind_of_same}
 use Rattle.js_grammar.specs.Trees.{Label, Slots, end, tree, no_op, super_expression}
 use Rattle.js_grammar.specs.Grammar.{Lexemes, next, nothing}
 use Rattle.js_grammar.specs.LexicalFaults.{Reached}
@@ -41,7 +41,7 @@ use Rattle.js_operand_laws.proofs.Members.{Membered, NoneOf, NotSuper, UnlessSup
 use Rattle.js_operand_laws.proofs.Operands.{primary_fails, primary_kinds}
 use Rattle.js_parsing_laws.specs.Answers.{Stops, Stretch, Underived, Verdict, clean, unclean}
 use Rattle.js_parsing_laws.specs.Classes.{IsEarly}
-use Rattle.js_parsing_laws.specs.Lexemes.{Walked, name_kinds, spot}
+use Rattle.js_parsing_laws.specs.Lexemes.{Walked, spot}
 use Rattle.js_parsing_laws.specs.Moves.{MadeHere, Moved, plain_label}
 use Rattle.js_parsing_laws.specs.Stands.{StandsHere}
 use Rattle.js_parsing_laws.specs.States.{At, Same}
@@ -61,7 +61,7 @@ use Rattle.js_parsing_laws.proofs.Verdicts.{after as grown_behind}
 
 module _ {text : List ℕ} {f : Flags} {p : Parser} (a : At text f p) (s : StandsHere p super_kind true) where
   no_primary_here : Underived text (at Primary f) p.prev_token_end
-  no_primary_here = primary_fails a (no_listed_name f.yield_ f.await_ p.token.kind (subst (λ (v : Kind). one_of_kinds name_kinds v ≡ false) (sym s.0) refl)) (subst (λ (v : Kind). one_of_kinds primary_kinds v ≡ false) (sym s.0) refl)
+  no_primary_here = primary_fails a (no_listed_name f.yield_ f.await_ p.token.kind (subst (λ (v : Kind). one_of_kinds binding_identifier_kinds v ≡ false) (sym s.0) refl)) (subst (λ (v : Kind). one_of_kinds primary_kinds v ≡ false) (sym s.0) refl)
 
   another_word : StandsHere p New false
   another_word e i = let u : super_kind ≡ New = sym s.0 ∙ e in cc

@@ -1,14 +1,15 @@
 -- Templates (ECMA-262, 13.2.8): moves over their parts, what is read of one, and what is said of one behind an optional chain.
 use Rattle.std.proofs.Common.{ℕ, ◌+◌, ◌-◌, cond, ◌||◌, IsTrue, ◌≡◌, ◌<◌, ◌⊎◌, inl, inr, Bool, true, false, not, ◌&&◌, List, [], ◌∷◌, ◌++◌, length, Option, Some, refl, sym, ap, subst, arith, ◌∙◌, append_assoc}
 use Rattle.std.specs.Prelude.{IsCharBoundary, Result, Ok, Err, max}
-use Rattle.std.proofs.lemmas.Bool.{false≢true, and_parts, and_from, or_left, or_right}
+use Rattle.std.proofs.lemmas.Bool.{false≢true, and_parts, and_from, or_left, or_right, not-true}
 use Rattle.std.proofs.lemmas.List.Elements.{All-same}
 use Rattle.js_base.specs.declared.diagnostic.Diagnostic.{Diagnostic}
 use Rattle.js_base.specs.declared.diagnostic.DiagnosticKind.TheVariants.{OptionalChainTaggedTemplate}
 use Rattle.js_base.specs.declared.kind.Kind.{Kind}
-use Rattle.js_base.specs.declared.kind.Kind.TheVariants.{Dot, Ident, LBrack, LCurly, LParen, NoSubstitutionTemplate, PrivateIdentifier, QuestionDot, RAngle, RCurly, RegExp, TemplateHead, TemplateMiddle, TemplateTail, Undetermined}
+use Rattle.js_base.specs.declared.kind.Kind.TheVariants.{Dot, LBrack, LParen, NoSubstitutionTemplate, PrivateIdentifier, QuestionDot, RAngle, RCurly, RegExp, TemplateHead, TemplateMiddle, TemplateTail, Undetermined}
 use Rattle.js_base.specs.declared.span.Span.{Span}
 use Rattle.js_base.specs.Kinds.{same_kind, one_of_kinds}
+use Rattle.js_base.specs.KindSets.{identifier_name_kinds}
 use Rattle.js_base.specs.Spans.{LiesIn}
 use Rattle.js_base.specs.Texts.{words}
 use Rattle.js_base.proofs.KindLemmas.{kind_of_same}
@@ -17,7 +18,7 @@ use Rattle.js_grammar.specs.Grammar.{Lexeme, Lexemes, Look, Takes, alt, here, is
 use Rattle.js_grammar.specs.FirstSets.{first}
 use Rattle.js_grammar.specs.Parsing.{Fails, Goes, Reads, Test, full, passing, plain, still}
 use Rattle.js_grammar.specs.Table.{part, rule, rule_of}
-use Rattle.js_grammar.specs.Lexemes.{LexicalGoal, division, is_escaped, is_word, kind_in, template_tail}
+use Rattle.js_grammar.specs.Lexemes.{LexicalGoal, division, is_word, kind_in, template_tail}
 use Rattle.js_grammar.specs.Lexed.{Lex as StandsBehind, all_faults, comments_pass, passing_of}
 use Rattle.js_grammar.specs.LexicalFaults.{Reached}
 use Rattle.js_grammar.specs.Marks.{Mark, EdgeOf, IsLexemeOf, the_start, the_end, a_lexeme}
@@ -25,7 +26,7 @@ use Rattle.js_grammar.specs.Productions.{Expression, Flags, G, Primary, Symbol, 
 use Rattle.js_grammar.specs.Productions.{sym as symbol}
 use Rattle.js_grammar.specs.Follow.{after}
 use Rattle.js_grammar.specs.Settings.{Goal}
-use Rattle.js_grammar.proofs.Calculus.{Between, ◌▹◌, ◌▹✗◌, by_rule, fails_node, weaken, weaken_fails, here_at, inside_full, makes_by, part_fails, reads_lexeme, same, then_by}
+use Rattle.js_grammar.proofs.Calculus.{◌▹◌, ◌▹✗◌, by_rule, fails_node, weaken, weaken_fails, here_at, inside_full, makes_by, part_fails, reads_lexeme, same, then_by}
 use Rattle.js_grammar.proofs.First.{starts}
 use Rattle.js_grammar.proofs.FirstClaims.{firsts}
 use Rattle.js_grammar.proofs.FirstRules.{by_first, fails_here, picks}
@@ -44,7 +45,6 @@ use Rattle.js_tree.specs.declared.op.Op.TheVariants as op
 use Rattle.js_tree.specs.Nodes.{Node}
 use Rattle.js_tree.specs.Holding.{Holds, HoldsAll, Keeps}
 use Rattle.js_tree.proofs.HoldingLemmas.{HoldsAll-none, HoldsAll-two, HoldsAll-next, Keeps-refl, Keeps-trans, Keeps-made}
-use Rattle.js_cursor.specs.Checkpoints.{Follows}
 use Rattle.js_cursor.specs.Moves.{Completed, GivesUp, IsUnexpected, Keeps as KeepsOne, MovesOn, Passed as PassedOn, ReadAgain, is_last}
 use Rattle.js_cursor.specs.Notes.{Notes}
 use Rattle.js_cursor.specs.Parsers.{Parser}
@@ -59,14 +59,14 @@ use Rattle.js_parsing_laws.specs.Answers.{Outcome as Answered}
 use Rattle.js_parsing_laws.specs.Arguments.{Partway}
 use Rattle.js_parsing_laws.specs.Classes.{IsEarly}
 use Rattle.js_parsing_laws.specs.Heads.{NotedHeads}
-use Rattle.js_parsing_laws.specs.Lexemes.{Lex, KeptFor, Braceless, IsNew, IsReread, News, NoneToEnd, Spot, TriviaKept, Walked, goal_for, is_read, nowhere, one_more, onward, other_goals, read_again, read_kinds, spot, template_tails, with_faults, read_word}
+use Rattle.js_parsing_laws.specs.Lexemes.{Lex, KeptFor, IsNew, IsReread, News, Spot, TriviaKept, Walked, goal_for, is_read, nowhere, one_more, onward, other_goals, read_again, spot, template_tails, with_faults, is_read_kind}
 use Rattle.js_parsing_laws.specs.Moves.{MadeHere, unpassable, plain_label}
 use Rattle.js_parsing_laws.specs.Nesting.{room}
 use Rattle.js_parsing_laws.specs.States.{At, IsPlain, whole, sign, nothing as none_stands, Same, flags_of}
 use Rattle.js_parsing_laws.specs.Told.{unrelated_at}
 use Rattle.js_parsing_laws.proofs.Classes.{unexpected_ends}
 use Rattle.js_parsing_laws.proofs.Giving.{kept_one}
-use Rattle.js_parsing_laws.proofs.Here.{alike, begins_here, found, kind_here, plain_token, told_plain, uncut, unsettled}
+use Rattle.js_parsing_laws.proofs.Here.{alike, begins_here, found, kind_here, plain_token, uncut, unsettled}
 use Rattle.js_parsing_laws.proofs.Slashes.{tail_goal}
 use Rattle.js_parsing_laws.proofs.Escapes.{no_word_among, read_listed, read_plain}
 use Rattle.js_parsing_laws.proofs.Parts.{part_called, part_path, part_path_fails}
@@ -75,17 +75,17 @@ use Rattle.js_operand_laws.proofs.Operands.{behind_primary, by_path}
 use Rattle.js_parsing_laws.proofs.Kept.{kept_for, no_flags, passing_so}
 use Rattle.js_parsing_laws.proofs.KeptTokens.{again_before, again_last, before_next, next_kept_last, trivia_kept}
 use Rattle.js_parsing_laws.proofs.MadeNodes.{leaf_held, made_lies, node_held, one_lies}
-use Rattle.js_parsing_laws.proofs.Moving.{beside_nodes, flags_same, heads_kept, nodes_lie, plain_given, same_both, same_with, stops_behind, stops_so}
+use Rattle.js_parsing_laws.proofs.Moving.{beside_nodes, flags_same, heads_kept, nodes_lie, plain_given, same_both, same_with, stops_behind, stops_so, same_of}
 use Rattle.js_parsing_laws.proofs.Paths.{at_kind, at_kinds, fails_at, label_here, noded, read_of, walked_both, walked_to}
-use Rattle.js_parsing_laws.proofs.Signs.{closing_there, plain_of, span_is}
+use Rattle.js_parsing_laws.proofs.Signs.{closing_there, span_is}
 use Rattle.js_parsing_laws.proofs.Told.{told_at, told_same}
-use Rattle.js_parsing_laws.proofs.ToEnd.{to_end_none, to_end_passed, to_end_stays}
-use Rattle.js_parsing_laws.proofs.Verdicts.{either_way, grown_then, verdict_of}
+use Rattle.js_parsing_laws.proofs.Verdicts.{either_way, grown_then, verdict_of, ending}
 use Rattle.js_parsing_laws.proofs.Verdicts.{after as grown_behind}
 use Rattle.js_operand_laws.specs.Members.{LinkForm, NoLink, Taken, by_call, by_index, by_name}
 use Rattle.js_operand_laws.specs.Templates.{BeginsPart, NoTail, PartAt, PartBegun, PartTaken, Tagged, TakesPart, TellsTemplate, TemplateOutcome, TemplateTaken, Templated, element_label, heads, inside_end, left_of, literal, parts, tagged_label, tail_of, LastIs, last_parts}
 use Rattle.js_operand_laws.specs.declared.forms.PassedPart.{PassedPart}
 use Rattle.js_operand_laws.proofs.PartInsides.{IsInside, part_inside}
+use Rattle.js_operand_laws.proofs.AsyncWords.{any_between}
 
 -- ---- kinds of parts
 
@@ -96,7 +96,7 @@ abbrev passable : Look
 passable k w e = is_kept k && (not (unpassable k) && not (same_kind RAngle k))
 
 abbrev a_read_sign : Look
-a_read_sign k w e = one_of_kinds read_kinds k && not (is_word k || same_kind PrivateIdentifier k)
+a_read_sign k w e = is_read_kind k && not (is_word k || same_kind PrivateIdentifier k)
 
 part_kinds : covers a_part passable ≡ true
 unfolding covers
@@ -116,24 +116,16 @@ head_kinds : covers a_head plain_part ≡ true
 unfolding covers
 head_kinds = refl
 
-pub is_not : (b : Bool) → not b ≡ true → b ≡ false
-is_not true h = absurd (false≢true h)
-is_not false h = refl
-
-pub is_so : (b : Bool) → not b ≡ false → b ≡ true
-is_so true h = refl
-is_so false h = absurd (false≢true (sym h))
-
 part_counts : (k : Kind) → one_of_kinds parts k ≡ true → is_kept k ≡ true
 part_counts k h = (and_parts (is_kept k) _ (covered a_part passable part_kinds k false false h)).0
 
 part_passes : (k : Kind) → one_of_kinds parts k ≡ true → (is_last k ≡ false) × (same_kind RAngle k ≡ false)
 part_passes k h =
     let z = and_parts (not (unpassable k)) (not (same_kind RAngle k)) (and_parts (is_kept k) _ (covered a_part passable part_kinds k false false h)).1 in
-    (is_not (unpassable k) z.0, is_not (same_kind RAngle k) z.1)
+    (not-true (unpassable k) z.0, not-true (same_kind RAngle k) z.1)
 
-part_read : (k : Kind) → one_of_kinds parts k ≡ true → (one_of_kinds read_kinds k ≡ true) × ((is_word k || same_kind PrivateIdentifier k) ≡ false)
-part_read k h = let z = and_parts (one_of_kinds read_kinds k) _ (covered a_part a_read_sign parts_read k false false h) in (z.0, is_not (is_word k || same_kind PrivateIdentifier k) z.1)
+part_read : (k : Kind) → one_of_kinds parts k ≡ true → (is_read_kind k ≡ true) × ((is_word k || same_kind PrivateIdentifier k) ≡ false)
+part_read k h = let z = and_parts (is_read_kind k) _ (covered a_part a_read_sign parts_read k false false h) in (z.0, not-true (is_word k || same_kind PrivateIdentifier k) z.1)
 
 head_part : (k : Kind) → one_of_kinds heads k ≡ true → one_of_kinds parts k ≡ true
 head_part k h = (and_parts (one_of_kinds parts k) _ (covered a_head plain_part head_kinds k false false h)).0
@@ -141,7 +133,7 @@ head_part k h = (and_parts (one_of_kinds parts k) _ (covered a_head plain_part h
 head_settled : (k : Kind) → one_of_kinds heads k ≡ true → (one_of_kinds unsettled k ≡ false) × (one_of_kinds other_goals k ≡ false)
 head_settled k h =
     let z = and_parts (not (one_of_kinds unsettled k)) (not (one_of_kinds other_goals k)) (and_parts (one_of_kinds parts k) _ (covered a_head plain_part head_kinds k false false h)).1 in
-    (is_not (one_of_kinds unsettled k) z.0, is_not (one_of_kinds other_goals k) z.1)
+    (not-true (one_of_kinds unsettled k) z.0, not-true (one_of_kinds other_goals k) z.1)
 
 -- a part that begins with a brace
 tail_part : (k : Kind) → one_of_kinds template_tails k ≡ true → one_of_kinds parts k ≡ true
@@ -164,19 +156,16 @@ module _ {text : List ℕ} {f : Flags} {p : Parser} (a : At text f p) (h : one_o
   heads_there y l = let k = kind_here a refl (head_settled p.token.kind h).0 y l in (k, read_listed heads y l (subst (λ (v : Kind). one_of_kinds heads v ≡ true) (sym k) h) refl)
 
   pub part_here : PartAt text f p
-  part_here = record { text_is = a.text_is; flags_are = a.flags_are; at = a.at; uncut = uncut a head_passes.1; part = head_part p.token.kind h; begins = begins_here a; behind = a.behind; heads = a.heads; kept_last = a.kept_last; meets = to_end_passed a (uncut a head_passes.1) head_passes.0 refl }
+  part_here = record { text_is = a.text_is; flags_are = a.flags_are; at = a.at; uncut = uncut a head_passes.1; part = head_part p.token.kind h; begins = begins_here a; behind = a.behind; heads = a.heads; kept_last = a.kept_last }
 
   -- a lexeme begins there
   head_edge : EdgeOf (goal p) text p.token.span.start
   head_edge = let y = found a (uncut a head_passes.1) head_passes.0 in the_start (a_lexeme (subst (λ (t : List ℕ). Reached t p.prev_token_end) a.text_is a.at.reached) y.1) (sym y.2.start)
 
 pub part_standing : {text : List ℕ} {f : Flags} {p : Parser} → PartAt text f p → PartAt p.text (flags_of p) p
-part_standing {text} {f} {p} a = subst (λ (t : List ℕ). PartAt t (flags_of p) p) (sym a.text_is) (record { text_is = a.text_is; flags_are = refl; at = a.at; uncut = a.uncut; part = a.part; begins = a.begins; behind = a.behind; heads = a.heads; kept_last = a.kept_last; meets = a.meets })
+part_standing {text} {f} {p} a = subst (λ (t : List ℕ). PartAt t (flags_of p) p) (sym a.text_is) (record { text_is = a.text_is; flags_are = refl; at = a.at; uncut = a.uncut; part = a.part; begins = a.begins; behind = a.behind; heads = a.heads; kept_last = a.kept_last })
 
 -- ---- a part was passed
-
-same_of : {p q : Parser} → IsAt q → Follows p q → q.nodes ≡ p.nodes → q.errors ≡ p.errors → q.options ≡ p.options → q.ctx ≡ p.ctx → q.depth ≡ p.depth → q.visits ≡ p.visits → (NoneToEnd q.text q.prev_token_end → NoneToEnd p.text p.prev_token_end) → Same p q
-same_of {p} {q} i g n e o c d v m = record { follows = g; options = o; ctx = c; depth = d; visits = v; early = λ h. All-same IsEarly q.errors p.errors e h; lies = λ h. (i.lies.starts_whole, nodes_lie p q g.text n h.1); meets = m }
 
 -- nodes and diagnostics don't matter to that
 last_beside : {q : Parser} {k : Kind} (ns : List Node) (ds : List Diagnostic) → LastIs q k → LastIs (record q { nodes = ns; errors = ds }) k
@@ -258,7 +247,7 @@ module _ {text : List ℕ} {f : Flags} {p q : Parser} (a : PartAt text f p) wher
     unfolding the_news
     moved = record {
       at = next_at;
-      same = same_of h.at (passed_follows h) h.stays.nodes h.stays.errors h.stays.options h.stays.ctx h.stays.depth h.stays.visits (λ m. subst (λ (t : List ℕ). NoneToEnd t p.prev_token_end) (sym a.text_is) (a.meets (subst (λ (n : ℕ). NoneToEnd text n) (h.moved ∙ sym h.tells.end) (subst (λ (t : List ℕ). NoneToEnd t q.prev_token_end) text_is m))));
+      same = same_of h.at (passed_follows h) h.stays.nodes h.stays.errors h.stays.options h.stays.ctx h.stays.depth h.stays.visits;
       nodes = h.stays.nodes;
       kept = h.stays.errors;
       further = let e = h.moved in let t = h.tells.start in let l = lexeme_some h.stood (λ e. false≢true (sym (part_passes p.token.kind a.part).0 ∙ ap is_last (h.tells.kind ∙ e))) in omega arith;
@@ -344,10 +333,6 @@ module _ {text : List ℕ} {f : Flags} {p q : Parser} (a : At text f p) (k : p.t
   unfolding words
   brace_read = (brace.stands.lex, read_of brace.lexeme brace_kind refl)
 
-  -- nothing that is the same in every lexical goal stands there
-  only_brace : (y : Lexeme) → Braceless text p.prev_token_end y → ⊥
-  only_brace y l = false≢true (sym l.1 ∙ subst (λ (v : Kind). one_of_kinds (LCurly ∷ RCurly ∷ []) v ≡ true) ((told_plain a (uncut a (ap (same_kind RAngle) k)) y l.2 l.0).kind) (ap (one_of_kinds (LCurly ∷ RCurly ∷ [])) k))
-
   again : Outcome template_tail (λ z. z) p.lexer.goal p.lexer.text p.prev_token_end q.token h.going_on h.faults
   again =
       let reads : text ≡ p.lexer.text = sym a.text_is ∙ sym a.at.reads in
@@ -403,9 +388,8 @@ module _ {text : List ℕ} {f : Flags} {p q : Parser} (a : At text f p) (k : p.t
         behind = let s = h.again.start in let g = a.behind in let l = h.place in omega arith;
         heads = heads_kept p q h.stays.text h.stays.source_type h.stays.options (ap (λ (n : Notes). n.failed) h.stays.state) (ap (λ (n : Notes). n.operands) h.stays.state) a.heads;
         kept_last = again_last p.lexer q.lexer p.token q.token h.again.same.keeps_tokens h.again.tokens counted.0 counted.1 a.kept_last;
-        meets = λ m. to_end_none (λ y l. only_brace y (subst (λ (n : ℕ). Braceless text n y) h.place l));
       };
-      same = same_of h.at (read_again_follows h) h.stays.nodes h.stays.errors h.stays.options h.stays.ctx h.stays.depth h.stays.visits (to_end_stays p q h.stays.text h.place);
+      same = same_of h.at (read_again_follows h) h.stays.nodes h.stays.errors h.stays.options h.stays.ctx h.stays.depth h.stays.visits;
       nodes = h.stays.nodes;
       kept = h.stays.errors;
       place = h.place;
@@ -431,8 +415,7 @@ module _ {text : List ℕ} {f : Flags} {p q : Parser} (a : At text f p) (k : p.t
     stopped = λ w. record { before = q.errors; last = g.0; is = ap (λ (z : Parser). z.errors) g.2.is; early = All-same IsEarly q.errors p.errors h.stays.errors w; ends = unexpected_ends h.at g.0 g.1 };
     lies = λ l. nodes_lie p r (text_stays) (nodes_stay) l.1;
     heads = subst NotedHeads (sym g.2.is) (heads_kept p q h.stays.text h.stays.source_type h.stays.options (ap (λ (n : Notes). n.failed) h.stays.state) (ap (λ (n : Notes). n.operands) h.stays.state) a.heads);
-    none = λ u. no_part f none_there;
-    met = λ u. subst (λ (t : List ℕ). NoneToEnd t p.prev_token_end) (sym a.text_is) (to_end_none only_brace);
+    none = no_part f none_there;
   }
     where
       text_stays : r.text ≡ p.text
@@ -463,7 +446,7 @@ no_brace {f = f} {p} a n = fails_at a {X = plain full} (tail_of f) (RCurly ∷ t
         second false c h = h
 
 -- one part, over its lexeme
-part_reads : {text : List ℕ} {X : Test} {s from : ℕ} {y : Lexeme} (fl close : ℕ) (k : Kind) → Lex text s y → y.kind ≡ k → read_word k ≡ false → ((z : Lexeme) → Lex text s z → z.from ≡ from) → Reads rule (Lex text) X end (part fl close k) s y.to (tree (record { kind = template_element; op = no_op; flags = fl; span = record { from = from + 1; to = y.to - close } }) end) (passing y)
+part_reads : {text : List ℕ} {X : Test} {s from : ℕ} {y : Lexeme} (fl close : ℕ) (k : Kind) → Lex text s y → y.kind ≡ k → one_of_kinds identifier_name_kinds k ≡ false → ((z : Lexeme) → Lex text s z → z.from ≡ from) → Reads rule (Lex text) X end (part fl close k) s y.to (tree (record { kind = template_element; op = no_op; flags = fl; span = record { from = from + 1; to = y.to - close } }) end) (passing y)
 part_reads {text} {X} {s} {from} {y} fl close k l e n b =
     makes_by (record { kind = template_element; op = no_op; flags = fl; span = record { from = from + 1; to = y.to - close } }) inside_full
     (reads_lexeme (is k) l (and_from _ _ (subst (λ (v : Kind). same_kind k v ≡ true) (sym e) (same_self k)) (ap not (read_plain y l e n))) (λ z m t. alike m l (sym (ap goal_for (kind_of_same k z.kind (and_parts (same_kind k z.kind) (not z.escaped) t).0)) ∙ sym (ap goal_for e))))
@@ -487,9 +470,6 @@ part_goes {text} {f} {X} {p} {q} {id} {b} k d a x e i j =
 
     label : read_label ≡ element b p
     label = λ m. record { kind = template_element; op = no_op; flags = cond (sym e m) tail_flag 0; span = record { from = p.token.span.start + 1; to = sym x.tells.end m - cond ((sym j ∙ shorter) m) 1 2 } }
-
-anything_behind : {a b : G} {s : ℕ} → Between rule (plain full) (plain full) end a b s
-anything_behind = record { admits = λ ts us vs j k ls mid rest d d' h. (refl, refl) }
 
 -- what stands behind an Expression: a part with another one, or the last part
 abbrev choice : Flags → G
@@ -538,7 +518,7 @@ module _ {text : List ℕ} {f : Flags} {p q : Parser} {id : NodeId} {b : Bool} (
       head e =
           let d : b ≡ false = x.is ∙ ap (one_of_kinds last_parts) e in
           subst (λ (v : Bool). Goes rule (Lex text) (plain full) end (literal f) p.prev_token_end (left_of v f) q.prev_token_end (tree (element b p) end) (record { reach = 0; pass = λ ls. next x.lexeme ls })) (sym d)
-          (at_kind a {X = plain full} {g = literal f} TemplateHead e refl ▹ then_by {X' = plain full} (part_goes TemplateHead false (part_here a h) x d e refl) anything_behind)
+          (at_kind a {X = plain full} {g = literal f} TemplateHead e refl ▹ then_by {X' = plain full} (part_goes TemplateHead false (part_here a h) x d e refl) any_between)
 
   first_way : Partway text f (literal f) (left_of b f) p q [] (Some id ∷ [])
   first_way = record {
@@ -582,7 +562,7 @@ module _ {text : List ℕ} {f : Flags} {r s t : Parser} {id : NodeId} {b : Bool}
       middle e =
           let d : b ≡ false = x.is ∙ ap (one_of_kinds last_parts) e in
           subst (λ (v : Bool). Goes rule (Lex text) (plain full) end (tail_of f) r.prev_token_end (left_of v f) t.prev_token_end (tree (element b s) end) (record { reach = 0; pass = λ ls. next x.lexeme ls })) (sym d)
-          (rolled f ▹ (picks firsts {X = plain full} (RCurly ∷ TemplateMiddle ∷ []) (brace_or TemplateMiddle (sym x.tells.kind ∙ e)) (choice f) ▹ then_by {X' = plain full} (part_there TemplateMiddle false d e refl) anything_behind))
+          (rolled f ▹ (picks firsts {X = plain full} (RCurly ∷ TemplateMiddle ∷ []) (brace_or TemplateMiddle (sym x.tells.kind ∙ e)) (choice f) ▹ then_by {X' = plain full} (part_there TemplateMiddle false d e refl) any_between))
 
       last : s.token.kind ≡ TemplateTail → Goes rule (Lex text) (plain full) end (tail_of f) r.prev_token_end (left_of b f) t.prev_token_end (tree (element b s) end) (record { reach = 0; pass = λ ls. next x.lexeme ls })
       last e =
@@ -612,13 +592,9 @@ module _ {text : List ℕ} {f : Flags} {r s t : Parser} {id : NodeId} {b : Bool}
 
 -- ---- the parts of a template, and the expressions between them
 
-append_ends : {K : Type 0} (a b : List K) → a ++ b ≡ [] → b ≡ []
-append_ends [] b e = e
-append_ends (x ∷ a) b e = absurd (let z = e in cc)
-
 -- what was kept since is more than before
 pub grown_since : {p q : Parser} {ds : List Diagnostic} → Same p q → Grown q.errors ds → Grown p.errors ds
-grown_since {p} {q} s g = record { more = s.follows.later_errors ++ g.more; kept = g.kept ∙ (ap (λ (v : List Diagnostic). v ++ g.more) s.follows.errors ∙ append_assoc p.errors s.follows.later_errors g.more); some = λ e. g.some (append_ends s.follows.later_errors g.more e) }
+grown_since {p} {q} s g = record { more = s.follows.later_errors ++ g.more; kept = g.kept ∙ (ap (λ (v : List Diagnostic). v ++ g.more) s.follows.errors ∙ append_assoc p.errors s.follows.later_errors g.more); some = λ e. g.some (ending s.follows.later_errors g.more e) }
 
 -- So much of it was read.
 pub record PartsRead (text : List ℕ) (f : Flags) (p q : Parser) (ids : List (Option NodeId)) (is_last : Bool) : Type 0 where

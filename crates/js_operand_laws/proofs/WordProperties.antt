@@ -1,13 +1,13 @@
 -- A property that begins with a word (ECMA-262, 13.2.5): what is left of the line of a property, by what stands behind the word.
-use Rattle.std.proofs.Common.{ℕ, ◌≡◌, ◌≤◌, ◌⊎◌, inl, inr, max, suc, Bool, true, false, ◌&&◌, ◌||◌, List, [], ◌∷◌, length, Option, Some, None, IsTrue, IsCharBoundary, refl, sym, ap, subst, arith, ◌∙◌, cond}
+use Rattle.std.proofs.Common.{ℕ, ◌≡◌, ◌≤◌, ◌⊎◌, inl, inr, max, suc, Bool, true, false, ◌&&◌, ◌||◌, List, [], ◌∷◌, length, Option, Some, None, IsTrue, IsCharBoundary, refl, sym, ap, subst, arith, ◌∙◌}
 use Rattle.std.specs.Prelude.{if◌then◌else◌}
-use Rattle.std.proofs.lemmas.Bool.{false≢true, and_parts, or_left}
+use Rattle.std.proofs.lemmas.Bool.{false≢true, and_parts}
 use Rattle.js_base.specs.Kinds.{same_kind, one_of_kinds}
+use Rattle.js_base.specs.KindSets.{identifier_name_kinds}
 use Rattle.js_base.specs.Texts.{words}
 use Rattle.js_base.specs.declared.kind.Kind.{Kind}
-use Rattle.js_base.specs.declared.kind.Kind.TheVariants.{Async, Colon, Comma, Dot3, Eof, Eq, Get, Ident, LBrack, LParen, PrivateIdentifier, RBrack, RCurly, RParen, Set, Star}
+use Rattle.js_base.specs.declared.kind.Kind.TheVariants.{Async, Colon, Comma, Dot3, Eof, Eq, Get, LBrack, LParen, PrivateIdentifier, RBrack, RCurly, RParen, Set, Star}
 use Rattle.js_base.specs.declared.span.Span.{Span}
-use Rattle.js_base.specs.declared.token.Token.{Token}
 use Rattle.js_base.proofs.KindLemmas.{kind_of_same}
 use Rattle.js_grammar.specs.Insertion.{is_word}
 use Rattle.js_grammar.specs.Lexemes.{is_word as is_worded}
@@ -38,7 +38,7 @@ use Rattle.js_parsing_laws.specs.declared.nested.MethodForm.TheVariants.{Method,
 use Rattle.js_base.specs.declared.diagnostic.Diagnostic.{Diagnostic}
 use Rattle.js_parsing_laws.specs.Answers.{Answer, Grown, Numbered, Stops, Underived}
 use Rattle.js_parsing_laws.specs.Arguments.{PartTaken, behind_item}
-use Rattle.js_parsing_laws.specs.Lexemes.{Lex, is_read, may_name, name_kinds, read_kinds, read_word, keyword_kind}
+use Rattle.js_parsing_laws.specs.Lexemes.{Lex, is_read, may_name, keyword_kind, is_read_kind}
 use Rattle.js_parsing_laws.proofs.NameKinds.{listed_name}
 use Rattle.js_parsing_laws.specs.Moves.{Moved, MadeHere, plain_label}
 use Rattle.js_parsing_laws.specs.States.{At, Same, NodesLie}
@@ -52,6 +52,7 @@ use Rattle.js_parsing_laws.proofs.Signs.{other_kind, plain_sign}
 use Rattle.js_parsing_laws.proofs.Verdicts.{grown_then, verdict_of}
 use Rattle.js_operand_laws.proofs.Members.{name_of, word_signless, word_signless}
 use Rattle.js_parsing_laws.proofs.Parts.{part_path_fails, part_sign}
+use Rattle.js_parsing_laws.proofs.NodeTexts.{name_word}
 use Rattle.js_operand_laws.proofs.AsyncWords.{no_same_line, part_within, same_line}
 use Rattle.js_operand_laws.proofs.Methods.{no_first}
 use Rattle.js_operand_laws.proofs.Operands.{name_leaf}
@@ -104,14 +105,14 @@ one_begins w b form = go (one_of_kinds ends_name_kinds b) (same_kind Get w) (sam
 -- ---- the word
 
 abbrev read_words : Look
-read_words k w e = read_word k
+read_words k w e = one_of_kinds identifier_name_kinds k
 
 abbrev any_word : Look
 any_word k w e = is_word k
 
 -- what is read of words, and is not the end of the text
 abbrev word_kinds : Look
-word_kinds k w e = one_of_kinds read_kinds k && is_word k
+word_kinds k w e = is_read_kind k && is_word k
 
 words_are : covers read_words word_kinds ≡ true
 unfolding covers
@@ -131,10 +132,10 @@ literals = string ◇ number ◇ never
 abbrev next_kinds : Look
 next_kinds k w e = one_of_kinds (Comma ∷ RParen ∷ RBrack ∷ RCurly ∷ []) k
 
-module _ {text : List ℕ} {f : Flags} {p q : Parser} (a : At text f p) (r : read_word p.token.kind ≡ true) (m : Moved text f p q) where
+module _ {text : List ℕ} {f : Flags} {p q : Parser} (a : At text f p) (r : one_of_kinds identifier_name_kinds p.token.kind ≡ true) (m : Moved text f p q) where
   word_is : IsTrue (is_read m.lexeme) × IsTrue (is_word m.lexeme.kind)
   word_is =
-      let z = and_parts (one_of_kinds read_kinds p.token.kind) (is_word p.token.kind) (covered read_words word_kinds words_are p.token.kind false false r) in
+      let z = and_parts (is_read_kind p.token.kind) (is_word p.token.kind) (covered read_words word_kinds words_are p.token.kind false false r) in
       (read_as m.lexeme m.tells z.0, subst (λ (k : Kind). is_word k ≡ true) m.tells.kind z.1)
 
   abbrev word_label : Label
@@ -281,9 +282,6 @@ module _ {text : List ℕ} {f : Flags} {p q : Parser} (a : At text f p) (r : rea
   }
 
 -- ---- a name alone, and one with its initialiser
-
-pub name_word : (k : Kind) → one_of_kinds name_kinds k ≡ true → read_word k ≡ true
-name_word k h = or_left (one_of_kinds name_kinds k) _ h
 
 module _ {text : List ℕ} {f : Flags} {p q : Parser} (a : At text f p) (i : may_name f.yield_ f.await_ p.token.kind ≡ true) (m : Moved text f p q) where
   abbrev reference_label : Label

@@ -22,7 +22,7 @@ use Rattle.js_cursor.specs.Places.{IsAt, goal}
 use Rattle.js_cursor.specs.declared.stop.Stop.{Stop}
 use Rattle.js_parsing_laws.specs.Answers.{Grown, Numbered, Stops, Underived}
 use Rattle.js_parsing_laws.specs.Heads.{NotedHeads, widened}
-use Rattle.js_parsing_laws.specs.Lexemes.{Lex, IsNew, IsReread, KeptLast, News, NoneToEnd, Walked, onward, spot, template_tails, with_faults}
+use Rattle.js_parsing_laws.specs.Lexemes.{Lex, IsNew, IsReread, KeptLast, News, Walked, onward, spot, template_tails, with_faults}
 use Rattle.js_parsing_laws.specs.Moves.{MadeHere}
 use Rattle.js_parsing_laws.specs.States.{At, Same, flags_of}
 use Rattle.js_parsing_laws.specs.Told.{unrelated_at}
@@ -63,7 +63,6 @@ pub record PartAt (text : List ℕ) (f : Flags) (p : Parser) : Type 0 where
   pub behind : p.prev_token_end ≤ p.token.span.start
   pub heads : NotedHeads p
   pub kept_last : KeptLast p.lexer p.token
-  pub meets : NoneToEnd text p.token.span.end → NoneToEnd text p.prev_token_end
 
 abbrev pub StandingPart : Parser → Type 0
 StandingPart p = PartAt p.text (flags_of p) p

@@ -1,6 +1,8 @@
 //! Members, `new`, calls and optional chains (ECMA-262, section 13.3).
 
 ghost use Rattle.std.specs.Prelude.{◌≡◌, ◌≤◌, ◌∷◌, [], Some, IfOk, cond, true, false};
+ghost use Rattle.js_base.specs.Kinds.{one_of_kinds};
+ghost use Rattle.js_base.specs.KindSets.{identifier_name_kinds};
 ghost use Rattle.js_base.specs.declared.kind.Kind.TheVariants.{Dot, LBrack, LParen, QuestionDot};
 ghost use Rattle.js_cursor.specs.Moves.{GivesUp};
 ghost use Rattle.js_grammar.specs.Productions.{at, optional_flag, LeftHandSide};
@@ -8,7 +10,6 @@ ghost use Rattle.js_tree.specs.Labels.{number_of};
 ghost use Rattle.js_parsing_laws.specs.Answers.{Answers};
 ghost use Rattle.js_grammar.specs.Marks.{Mark};
 ghost use Rattle.js_cursor.specs.Places.{goal};
-ghost use Rattle.js_parsing_laws.specs.Lexemes.{read_word};
 ghost use Rattle.js_operand_laws.specs.Members.{CallsMember, ChainsCallee, GoesOnMember, Heads, LinkHere, MakesWithArguments, MakesWithIndex, ReadsLink, TellsChain, flagged_label, no_link_behind};
 ghost use Rattle.js_operand_laws.specs.Templates.{GoesOn, ReadsChainLink};
 ghost use Rattle.js_parsing_laws.specs.Stands.{StandsHere};
@@ -300,7 +301,7 @@ fn parse_optional_link<C: ParserConfig, N: Nested<C>>(
 /// Whether no optional link goes on with this behind its `?.`: it is no word and no private name, begins no arguments, no
 /// brackets and no template, and is a lexeme.
 fn lacks_link(kind: Kind) -> bool
-    ensures { result ≡ true → read_word kind ≡ false }
+    ensures { result ≡ true → one_of_kinds identifier_name_kinds kind ≡ false }
 {
     !kind.is_identifier_name()
         && !matches!(

@@ -27,7 +27,7 @@ use Rattle.js_grammar.proofs.NoEnd.{ends_once_by, ends_behind}
 use Rattle.js_lex.specs.declared.output.LexerOutput.{LexerOutput}
 use Rattle.js_lex.specs.Reading.{LexemeBehind}
 use Rattle.js_lex.specs.States.{goal_of}
-use Rattle.js_parsing_laws.specs.Lexemes.{Faultless, is_read, read_kinds}
+use Rattle.js_parsing_laws.specs.Lexemes.{Faultless, is_read, is_read_kind}
 use Rattle.js_parsing_laws.proofs.Paths.{read_of}
 use Rattle.js_tree.specs.Nodes.{Node}
 use Rattle.js_parser.specs.Parsed.{options_of, IsAnswer}
@@ -55,7 +55,7 @@ plainly_so false h = refl
 
 -- a core lexeme is read
 read_so : (y : Lexeme) → core_lexeme y ≡ true → is_read y ≡ true
-read_so y h = let k = and_parts (one_of_kinds core_kinds y.kind) (not y.escaped) h in read_of y refl (every_at (one_of_kinds read_kinds) core_kinds y.kind k.0 refl)
+read_so y h = let k = and_parts (one_of_kinds core_kinds y.kind) (not y.escaped) h in read_of y refl (every_at is_read_kind core_kinds y.kind k.0 refl)
 
 all_read : (text : List ℕ) (goal : Goal) (s : ℕ) (ls : Lexemes) → Lexes (Lex (passing_of goal) text) s ls → AllCore ls → Lexes (Faultless goal text) s ls
 all_read text goal s (last x) l c = (l, read_so x c)

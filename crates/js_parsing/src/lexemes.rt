@@ -1,18 +1,15 @@
 //! What stands at a parser's place.
 
-ghost use Rattle.std.specs.Prelude.{◌≡◌, MatchResult};
+ghost use Rattle.std.specs.Prelude.{◌≡◌, MatchResult, not};
 ghost use Rattle.js_cursor.specs.Moves.{OnlyMemory};
-ghost use Rattle.js_cursor.specs.Places.{IsAt};
-ghost use Rattle.js_parsing_laws.specs.Answers.{StopsUnbuilt};
 ghost use Rattle.js_parsing_laws.specs.States.{Standing};
 ghost use Rattle.js_base.specs.Contexts.{has_flag, in_flag, yield_flag, await_flag};
 ghost use Rattle.js_base.specs.Kinds.{one_of_kinds};
-ghost use Rattle.js_parsing_laws.specs.Lexemes.{escaped_word, keyword_kind, may_name, name_kinds, read_kinds, read_reserved, read_word, unbuilt_kinds};
+ghost use Rattle.js_parsing_laws.specs.Lexemes.{escaped_word, keyword_kind, may_name, unread_kinds};
 ghost use Rattle.js_parsing_laws.specs.Stands.{EndsOperand, NameHere, NameUnder, ReadsHere, StandsHere};
 ghost use Rattle.js_parsing_laws.specs.Operators.{power_of};
 ghost use Rattle.js_parsing_laws.specs.Moves.{IsCompleted, IsWholeHere, Moves, OperatorHere};
 
-use crate::diagnostics::kept_so_far;
 use js_base::{Kind, Token};
 use js_cursor::{ParserImpl, Stop};
 use js_lex::ParserConfig;
@@ -101,43 +98,6 @@ pub fn escaped_word_stands<C: ParserConfig>(p: &ParserImpl<'_, C>) -> bool
     is_escaped_word(p.cur_token())
 }
 
-/// Whether it is a name, or a word that may be one (ECMA-262, section 13.1).
-#[inline(always)]
-pub fn is_name(kind: Kind) -> bool
-    ensures { result ≡ one_of_kinds name_kinds kind }
-{
-    matches!(
-        kind,
-        Kind::Ident
-            | Kind::Let
-            | Kind::Static
-            | Kind::Implements
-            | Kind::Interface
-            | Kind::Package
-            | Kind::Private
-            | Kind::Protected
-            | Kind::Public
-            | Kind::Of
-            | Kind::Get
-            | Kind::Set
-            | Kind::As
-            | Kind::From
-            | Kind::Assert
-            | Kind::Accessor
-            | Kind::Using
-            | Kind::Defer
-            | Kind::Source
-            | Kind::Meta
-            | Kind::Satisfies
-            | Kind::Constructor
-            | Kind::TypeWord
-            | Kind::Target
-            | Kind::Async
-            | Kind::Yield
-            | Kind::Await
-    )
-}
-
 /// Whether it is a name where the parameters Yield and Await are these: `yield` and `await` are none where theirs is on.
 #[inline(always)]
 pub fn is_name_under(kind: Kind, yields: bool, awaits: bool) -> bool
@@ -146,7 +106,7 @@ pub fn is_name_under(kind: Kind, yields: bool, awaits: bool) -> bool
     match kind {
         Kind::Yield => !yields,
         Kind::Await => !awaits,
-        _ => is_name(kind),
+        _ => kind.is_binding_identifier(),
     }
 }
 
@@ -174,58 +134,6 @@ pub fn name_stands<C: ParserConfig>(p: &ParserImpl<'_, C>) -> bool
     name_stands_under(p, p.ctx.has_yield(), p.ctx.has_await())
 }
 
-/// Whether it is a word that is read.
-pub fn is_read_word(kind: Kind) -> bool
-    ensures { result ≡ read_word kind }
-{
-    is_name(kind) || is_read_reserved_word(kind)
-}
-
-/// Whether it is a reserved word that is read.
-fn is_read_reserved_word(kind: Kind) -> bool
-    ensures { result ≡ read_reserved kind }
-{
-    matches!(
-        kind,
-        Kind::This
-            | Kind::Null
-            | Kind::True
-            | Kind::False
-            | Kind::Typeof
-            | Kind::Void
-            | Kind::Delete
-            | Kind::In
-            | Kind::Instanceof
-            | Kind::New
-            | Kind::Super
-            | Kind::Break
-            | Kind::Continue
-            | Kind::Return
-            | Kind::Function
-            | Kind::Debugger
-            | Kind::Throw
-            | Kind::Switch
-            | Kind::Case
-            | Kind::Default
-            | Kind::Try
-            | Kind::Catch
-            | Kind::Finally
-            | Kind::For
-            | Kind::If
-            | Kind::Else
-            | Kind::While
-            | Kind::Do
-            | Kind::With
-            | Kind::Var
-            | Kind::Const
-            | Kind::Enum
-            | Kind::Extends
-            | Kind::Class
-            | Kind::Import
-            | Kind::Export
-    )
-}
-
 /// Whether what stands here is known to end an operand: an operator that groups to the left, a part of a conditional
 /// expression, a comma, a semicolon, `)`, `]`, or the end of the text.
 pub fn ends_operand<C: ParserConfig>(p: &mut ParserImpl<'_, C>) -> Result<bool, Stop>
@@ -247,7 +155,7 @@ pub fn ends_operand<C: ParserConfig>(p: &mut ParserImpl<'_, C>) -> Result<bool, 
 
 /// Whether it is a lexeme that is read: any but `@`, a private name, a hashbang comment and what is none.
 fn is_read_kind(kind: Kind) -> bool
-    ensures { result ≡ one_of_kinds read_kinds kind }
+    ensures { result ≡ not (one_of_kinds unread_kinds kind) }
 {
     !matches!(
         kind,
@@ -261,30 +169,6 @@ pub fn reads_here<C: ParserConfig>(p: &ParserImpl<'_, C>) -> bool
     ensures { ReadsHere p.now result }
 {
     is_read_kind(p.cur_kind())
-}
-
-/// Whether no claim is made where this lexeme stands and no production is met. One is made at each: the productions that aren't
-/// built are no lines of the table that parse functions are proved over.
-pub fn is_unbuilt(_kind: Kind) -> bool
-    ensures { result ≡ one_of_kinds unbuilt_kinds _kind }
-{
-    false
-}
-
-/// Whether the parser has stopped at such a lexeme: the last diagnostic was told of it.
-pub fn stopped_unbuilt<C: ParserConfig>(p: &ParserImpl<'_, C>) -> bool
-    requires at { IsAt p.now }
-    ensures { StopsUnbuilt p.now result }
-{
-    let token = p.cur_token();
-    let found = kept_so_far(p);
-    if found == 0 || !is_unbuilt(token.kind()) {
-        return false;
-    }
-    match p.errors.get(found - 1) {
-        Some(last) => last.span.start == token.span().start,
-        None => false,
-    }
 }
 
 /// How tight a lexeme binds as an operator between two operands that groups to the left (ECMA-262, sections 13.6 to

@@ -98,7 +98,7 @@ module _ {text : List ℕ} where
   out_of {f} {g} {n} {p} {q} {c} i a x = record {
     answer = record {
       at = at_under p.ctx (flags_same p (record q { ctx = p.ctx }) refl x.answer.same.follows.source_type x.answer.same.options ∙ a.flags_are) x.answer.at;
-      same = record { follows = follows_on (ctx_set c a.at).0 (follows_on x.answer.same.follows (ctx_set p.ctx x.answer.at.at).0); options = x.answer.same.options; ctx = refl; depth = x.answer.same.depth; visits = x.answer.same.visits; early = x.answer.same.early; lies = x.answer.same.lies; meets = x.answer.same.meets };
+      same = record { follows = follows_on (ctx_set c a.at).0 (follows_on x.answer.same.follows (ctx_set p.ctx x.answer.at.at).0); options = x.answer.same.options; ctx = refl; depth = x.answer.same.depth; visits = x.answer.same.visits; early = x.answer.same.early; lies = x.answer.same.lies };
       further = x.answer.further;
       label = x.answer.label;
       slots = x.answer.slots;
@@ -116,7 +116,7 @@ module _ {text : List ℕ} where
   out_of_context {f} {g} {n} {p} {e} {q} {w} {c} {d} {id} v a i h x j = subst (λ (r : Parser). Numbered text f n p r id) (sym (j ∙ ap (λ (v : Context). record q { ctx = v }) i)) (out_of v a (subst (λ (r : Parser). Numbered text g n r q id) h x))
 
 pub stops_in_context : (text : List ℕ) (n : Symbol) (p e q : Parser) (c : Context) (s : Stop) → IsAt p → e ≡ record p { ctx = c } → Stops e q s (Underived text n e.prev_token_end) → Stops p q s (Underived text n p.prev_token_end)
-stops_in_context text n p e q c s a h x = stops_later q s (ctx_set c a).0 (λ w. w) (λ w. w) (λ n. n) (λ g. g) (λ x. x) (subst (λ (r : Parser). Stops r q s (Underived text n r.prev_token_end)) h x)
+stops_in_context text n p e q c s a h x = stops_later q s (ctx_set c a).0 (λ w. w) (λ w. w) (λ g. g) (λ x. x) (subst (λ (r : Parser). Stops r q s (Underived text n r.prev_token_end)) h x)
 
 -- ---- a part that anything may follow
 
@@ -124,7 +124,7 @@ module _ {text : List ℕ} where
   whole_out : {f g : Flags} {n : G} {p q : Parser} {c : Context} {id : NodeId} → g.wide ≡ f.wide → At text f p → WholeTaken text g n (record p { ctx = c }) q id → WholeTaken text f n p (record q { ctx = p.ctx }) id
   whole_out {f} {g} {n} {p} {q} {c} i a x = record {
     at = at_under p.ctx (flags_same p (record q { ctx = p.ctx }) refl x.same.follows.source_type x.same.options ∙ a.flags_are) x.at;
-    same = record { follows = follows_on (ctx_set c a.at).0 (follows_on x.same.follows (ctx_set p.ctx x.at.at).0); options = x.same.options; ctx = refl; depth = x.same.depth; visits = x.same.visits; early = x.same.early; lies = x.same.lies; meets = x.same.meets };
+    same = record { follows = follows_on (ctx_set c a.at).0 (follows_on x.same.follows (ctx_set p.ctx x.at.at).0); options = x.same.options; ctx = refl; depth = x.same.depth; visits = x.same.visits; early = x.same.early; lies = x.same.lies };
     further = x.further;
     label = x.label;
     slots = x.slots;
@@ -139,4 +139,4 @@ module _ {text : List ℕ} where
   whole_out_of_context {f} {g} {n} {p} {e} {q} {w} {c} {d} {id} v a i h x j = subst (λ (r : Parser). WholeTaken text f n p r id) (sym (j ∙ ap (λ (v : Context). record q { ctx = v }) i)) (whole_out v a (subst (λ (r : Parser). WholeTaken text g n r q id) h x))
 
 pub whole_stops_in_context : (text : List ℕ) (g : G) (p e q : Parser) (c : Context) (s : Stop) → IsAt p → e ≡ record p { ctx = c } → Stops e q s (Fails rule (Lex text) (plain full) end g e.prev_token_end) → Stops p q s (Fails rule (Lex text) (plain full) end g p.prev_token_end)
-whole_stops_in_context text g p e q c s a h x = stops_later q s (ctx_set c a).0 (λ w. w) (λ w. w) (λ n. n) (λ g. g) (λ x. x) (subst (λ (r : Parser). Stops r q s (Fails rule (Lex text) (plain full) end g r.prev_token_end)) h x)
+whole_stops_in_context text g p e q c s a h x = stops_later q s (ctx_set c a).0 (λ w. w) (λ w. w) (λ g. g) (λ x. x) (subst (λ (r : Parser). Stops r q s (Fails rule (Lex text) (plain full) end g r.prev_token_end)) h x)

@@ -11,11 +11,10 @@ use Rattle.js_grammar.specs.FirstSets.{first}
 use Rattle.js_grammar.proofs.Looks.{apart, not_both}
 use Rattle.js_grammar.proofs.FirstClaims.{begins}
 use Rattle.js_grammar.proofs.Calculus.{stay, left, right, both, ◌▹◌}
-use Rattle.js_parsing_laws.specs.Lexemes.{Lex, is_read, read_kinds}
-use Rattle.js_base.specs.Kinds.{one_of_kinds}
+use Rattle.js_parsing_laws.specs.Lexemes.{Lex, is_read, is_read_kind}
 
 abbrev reads : Look
-reads k w e = one_of_kinds read_kinds k
+reads k w e = is_read_kind k
 
 -- no lexeme that is read passes the test
 abbrev pub unread : Look → Bool

@@ -86,7 +86,7 @@ read_deeper id (MethodParameters form) r i x = let y = x _ _ (deeper r i) in (y.
 statement_out : {text : List ℕ} {f : Flags} {n : Symbol} {p q : Parser} {id : NodeId} (k j : ℕ) → j ≡ p.depth → IsAt p → TheStatement text f n (record p { depth = k }) q id → TheStatement text f n p (record q { depth = j }) id
 statement_out {q = q} k j e a x = record {
   at = elsewhere q.nodes j x.at;
-  same = record { follows = follows_on (at_depth k a) (follows_on x.same.follows (at_depth j x.at.at)); options = x.same.options; ctx = x.same.ctx; depth = e; visits = x.same.visits; early = x.same.early; lies = x.same.lies; meets = x.same.meets };
+  same = record { follows = follows_on (at_depth k a) (follows_on x.same.follows (at_depth j x.at.at)); options = x.same.options; ctx = x.same.ctx; depth = e; visits = x.same.visits; early = x.same.early; lies = x.same.lies };
   further = x.further;
   label = x.label;
   slots = x.slots;
@@ -106,7 +106,7 @@ left_statement {k} {text} {f} {n} {p} {e} {q} {w} {id} a h l x =
 whole_out : {text : List ℕ} {f : Flags} {g : G} {p q : Parser} {id : NodeId} (k j : ℕ) → j ≡ p.depth → IsAt p → WholeTaken text f g (record p { depth = k }) q id → WholeTaken text f g p (record q { depth = j }) id
 whole_out {q = q} k j e a x = record {
   at = elsewhere q.nodes j x.at;
-  same = record { follows = follows_on (at_depth k a) (follows_on x.same.follows (at_depth j x.at.at)); options = x.same.options; ctx = x.same.ctx; depth = e; visits = x.same.visits; early = x.same.early; lies = x.same.lies; meets = x.same.meets };
+  same = record { follows = follows_on (at_depth k a) (follows_on x.same.follows (at_depth j x.at.at)); options = x.same.options; ctx = x.same.ctx; depth = e; visits = x.same.visits; early = x.same.early; lies = x.same.lies };
   further = x.further;
   label = x.label;
   slots = x.slots;

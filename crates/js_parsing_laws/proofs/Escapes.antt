@@ -1,10 +1,11 @@
 -- Which lexemes have an escape: names and words alone.
 use Rattle.std.proofs.Common.{ℕ, ◌≡◌, Bool, true, false, not, ◌&&◌, ◌||◌, List, IsTrue, refl, sym, ap, subst, ◌∙◌, cond}
-use Rattle.std.proofs.lemmas.Bool.{false≢true, and_parts, and_from, or_left, or_right}
+use Rattle.std.proofs.lemmas.Bool.{false≢true, and_parts, and_from, or_left, or_right, not-true}
 use Rattle.js_base.specs.declared.kind.Kind.{Kind}
 use Rattle.js_base.specs.declared.kind.Kind.TheVariants.{Ident, PrivateIdentifier}
 use Rattle.js_base.specs.declared.token.Token.{Token}
 use Rattle.js_base.specs.Kinds.{same_kind, one_of_kinds}
+use Rattle.js_base.specs.KindSets.{identifier_name_kinds}
 use Rattle.js_base.specs.Texts.{words}
 use Rattle.js_base.proofs.KindLemmas.{kind_of_same}
 use Rattle.js_grammar.specs.Grammar.{Lexeme, Look}
@@ -15,7 +16,7 @@ use Rattle.js_grammar.specs.Pruning.{every_kind}
 use Rattle.js_grammar.proofs.Looks.{covers, covered}
 use Rattle.js_lex.specs.Reading.{Tells, is_right_angle}
 use Rattle.js_cursor.specs.Parsers.{Parser}
-use Rattle.js_parsing_laws.specs.Lexemes.{Lex, escaped_word, is_read, may_name, other_goals, read_kinds, read_word, keyword_kind}
+use Rattle.js_parsing_laws.specs.Lexemes.{Lex, escaped_word, is_read, may_name, other_goals, keyword_kind, is_read_kind}
 use Rattle.js_parsing_laws.specs.States.{At}
 use Rattle.js_parsing_laws.proofs.Here.{angled, escaped_here, told_plain}
 use Rattle.js_parsing_laws.proofs.Paths.{of_every}
@@ -67,7 +68,7 @@ pub unescaped_word : (k : Kind) (e : Bool) → e ≡ false → escaped_word k e 
 unescaped_word k e h = ap (λ (b : Bool). b && not (same_kind Ident k)) h
 
 abbrev sign_like : Look
-sign_like k w e = one_of_kinds read_kinds k && not (read_word k)
+sign_like k w e = is_read_kind k && not (one_of_kinds identifier_name_kinds k)
 
 abbrev unescapable : Look
 unescapable k w e = not (is_word k || same_kind PrivateIdentifier k)
@@ -76,24 +77,20 @@ signs_unescapable : covers sign_like unescapable ≡ true
 unfolding covers words
 signs_unescapable = refl
 
-is_not : (b : Bool) → not b ≡ true → b ≡ false
-is_not true h = absurd (false≢true h)
-is_not false h = refl
-
 -- what is read and is no word has no escape
-pub read_unnamed : {text : List ℕ} {s : ℕ} (y : Lexeme) → Lex text s y → read_word y.kind ≡ false → y.escaped ≡ false
-read_unnamed y l n = l.0.escaped ∙ ap (λ (b : Bool). b && has_backslash l.0.word) (is_not (is_word y.kind || same_kind PrivateIdentifier y.kind) (covered sign_like unescapable signs_unescapable y.kind false false (and_from _ _ l.1 (ap not n))))
+pub read_unnamed : {text : List ℕ} {s : ℕ} (y : Lexeme) → Lex text s y → one_of_kinds identifier_name_kinds y.kind ≡ false → y.escaped ≡ false
+read_unnamed y l n = l.0.escaped ∙ ap (λ (b : Bool). b && has_backslash l.0.word) (not-true (is_word y.kind || same_kind PrivateIdentifier y.kind) (covered sign_like unescapable signs_unescapable y.kind false false (and_from _ _ l.1 (ap not n))))
 
 -- of a kind
-pub read_plain : {k : Kind} {text : List ℕ} {s : ℕ} (y : Lexeme) → Lex text s y → y.kind ≡ k → read_word k ≡ false → y.escaped ≡ false
-read_plain y l e n = read_unnamed y l (ap read_word e ∙ n)
+pub read_plain : {k : Kind} {text : List ℕ} {s : ℕ} (y : Lexeme) → Lex text s y → y.kind ≡ k → one_of_kinds identifier_name_kinds k ≡ false → y.escaped ≡ false
+read_plain y l e n = read_unnamed y l (ap (one_of_kinds identifier_name_kinds) e ∙ n)
 
 -- none of these kinds is a word's
-pub no_word_among : (ks : List Kind) (k : Kind) → every_kind (λ k. not (read_word k)) ks ≡ true → one_of_kinds ks k ≡ true → read_word k ≡ false
-no_word_among ks k n m = is_not (read_word k) (of_every (λ k. not (read_word k)) ks k n m)
+pub no_word_among : (ks : List Kind) (k : Kind) → every_kind (λ k. not (one_of_kinds identifier_name_kinds k)) ks ≡ true → one_of_kinds ks k ≡ true → one_of_kinds identifier_name_kinds k ≡ false
+no_word_among ks k n m = not-true (one_of_kinds identifier_name_kinds k) (of_every (λ k. not (one_of_kinds identifier_name_kinds k)) ks k n m)
 
 -- one of these kinds
-pub read_listed : (ks : List Kind) {text : List ℕ} {s : ℕ} (y : Lexeme) → Lex text s y → one_of_kinds ks y.kind ≡ true → every_kind (λ k. not (read_word k)) ks ≡ true → y.escaped ≡ false
+pub read_listed : (ks : List Kind) {text : List ℕ} {s : ℕ} (y : Lexeme) → Lex text s y → one_of_kinds ks y.kind ≡ true → every_kind (λ k. not (one_of_kinds identifier_name_kinds k)) ks ≡ true → y.escaped ≡ false
 read_listed ks y l m n = read_unnamed y l (no_word_among ks y.kind n m)
 
 -- what has an escape and is no name is a word with one
@@ -105,15 +102,15 @@ escaped_unnamed y t k e n i = and_from e _ i (ap not (go (same_kind Ident k) ref
     go false q = q
 
 -- a token of a kind that is read is the whole of a lexeme that is
-pub read_as : (y : Lexeme) {t : Token} → Tells y t → one_of_kinds read_kinds t.kind ≡ true → IsTrue (is_read y)
-read_as y s h = subst (λ (k : Kind). one_of_kinds read_kinds k ≡ true) s.kind h
+pub read_as : (y : Lexeme) {t : Token} → Tells y t → is_read_kind t.kind ≡ true → IsTrue (is_read y)
+read_as y s h = subst (λ (k : Kind). is_read_kind k ≡ true) s.kind h
 
 -- where a word with an escape stands, every lexeme has one
 pub all_escaped : {text : List ℕ} {f : Flags} {p : Parser} → At text f p → escaped_word p.token.kind p.token.escaped ≡ true → (y : Lexeme) → Lex text p.prev_token_end y → y.escaped ≡ true
 all_escaped {p = p} a e y l = escaped_here a y l ∙ (and_parts p.token.escaped (not (same_kind Ident p.token.kind)) e).0
 
 abbrev a_word : Look
-a_word k w e = read_word k
+a_word k w e = one_of_kinds identifier_name_kinds k
 
 abbrev settled_look : Look
 settled_look k w e = not (is_right_angle k) && not (one_of_kinds other_goals k)
@@ -123,18 +120,18 @@ unfolding covers
 words_settled = refl
 
 -- what has an escape is a word
-pub word_escaped : {text : List ℕ} {s : ℕ} (y : Lexeme) → Lex text s y → y.escaped ≡ true → read_word y.kind ≡ true
-word_escaped y l e = go (read_word y.kind) refl
+pub word_escaped : {text : List ℕ} {s : ℕ} (y : Lexeme) → Lex text s y → y.escaped ≡ true → one_of_kinds identifier_name_kinds y.kind ≡ true
+word_escaped y l e = go (one_of_kinds identifier_name_kinds y.kind) refl
   where
-    go : (b : Bool) → read_word y.kind ≡ b → read_word y.kind ≡ true
+    go : (b : Bool) → one_of_kinds identifier_name_kinds y.kind ≡ b → one_of_kinds identifier_name_kinds y.kind ≡ true
     go true q = q
     go false q = absurd (false≢true (sym (read_unnamed y l q) ∙ e))
 
 -- so it has none, or it is one
-pub plain_or_word : {text : List ℕ} {s : ℕ} (y : Lexeme) → Lex text s y → (not y.escaped || read_word y.kind) ≡ true
+pub plain_or_word : {text : List ℕ} {s : ℕ} (y : Lexeme) → Lex text s y → (not y.escaped || one_of_kinds identifier_name_kinds y.kind) ≡ true
 plain_or_word y l = go y.escaped refl
   where
-    go : (b : Bool) → y.escaped ≡ b → (not y.escaped || read_word y.kind) ≡ true
+    go : (b : Bool) → y.escaped ≡ b → (not y.escaped || one_of_kinds identifier_name_kinds y.kind) ≡ true
     go true e = or_right (not y.escaped) _ (word_escaped y l e)
     go false e = or_left _ _ (ap not e)
 
@@ -145,7 +142,7 @@ kind_escaped {p = p} a e y l = go p.cut refl
     apart : (is_right_angle y.kind ≡ false) × (one_of_kinds other_goals y.kind ≡ false)
     apart =
         let z = and_parts (not (is_right_angle y.kind)) _ (covered a_word settled_look words_settled y.kind false false (word_escaped y l (escaped_here a y l ∙ e))) in
-        (is_not (is_right_angle y.kind) z.0, is_not (one_of_kinds other_goals y.kind) z.1)
+        (not-true (is_right_angle y.kind) z.0, not-true (one_of_kinds other_goals y.kind) z.1)
 
     go : (b : Bool) → p.cut ≡ b → y.kind ≡ p.token.kind
     go true c = absurd (false≢true (sym apart.0 ∙ angled a c y l))

@@ -40,7 +40,7 @@ free TargetElement = true
 free TargetProperty = true
 free _ = false
 
-abbrev same_bool : Bool → Bool → Bool
+abbrev pub same_bool : Bool → Bool → Bool
 same_bool true b = b
 same_bool false true = false
 same_bool false false = true
@@ -53,7 +53,7 @@ ButIn s t = (s.name ≡ t.name) × (plus_in s.flags ≡ plus_in t.flags) × ((fr
 abbrev class_of : Symbol → Symbol
 class_of s = at s.name (record (s.flags) { in_ = free s.name || s.flags.in_ })
 
-free_at : (n : Name) (f : Flags) (a b : Bool) → free n ≡ true → renamed class_of (rule_of n (record f { in_ = a })) ≡ renamed class_of (rule_of n (record f { in_ = b }))
+pub free_at : (n : Name) (f : Flags) (a b : Bool) → free n ≡ true → renamed class_of (rule_of n (record f { in_ = a })) ≡ renamed class_of (rule_of n (record f { in_ = b }))
 unfolding rule_of
 free_at LeftHandSide f a b h = refl
 free_at New f a b h = refl
@@ -85,36 +85,36 @@ free_at TargetElement f a b h = refl
 free_at TargetProperty f a b h = refl
 free_at _ f a b h = absurd (false≢true h)
 
-same_true : (a b : Bool) → same_bool a b ≡ true → a ≡ b
+pub same_true : (a b : Bool) → same_bool a b ≡ true → a ≡ b
 same_true true true h = refl
 same_true true false h = absurd (false≢true h)
 same_true false true h = absurd (false≢true h)
 same_true false false h = refl
 
-same_self : (a : Bool) → same_bool a a ≡ true
+pub same_self : (a : Bool) → same_bool a a ≡ true
 same_self true = refl
 same_self false = refl
 
-or_self : (x a : Bool) → (x || same_bool a a) ≡ true
+pub or_self : (x a : Bool) → (x || same_bool a a) ≡ true
 or_self true a = refl
 or_self false a = same_self a
 
-itself : (s : Symbol) → ButIn s s
+pub itself : (s : Symbol) → ButIn s s
 itself s = (refl, refl, or_self (free s.name) s.flags.in_)
 
-same_class : (x a b : Bool) → (x || a) ≡ (x || b) → (x || same_bool a b) ≡ true
+pub same_class : (x a b : Bool) → (x || a) ≡ (x || b) → (x || same_bool a b) ≡ true
 same_class true a b e = refl
 same_class false a b e = subst (λ (c : Bool). same_bool a c ≡ true) e (same_self a)
 
-but_in : (s t : Symbol) → class_of s ≡ class_of t → ButIn s t
+pub but_in : (s t : Symbol) → class_of s ≡ class_of t → ButIn s t
 but_in s t e =
     let n = ap (λ (u : Symbol). u.name) e in
     (n, ap (λ (u : Symbol). plus_in u.flags) e, same_class (free s.name) s.flags.in_ t.flags.in_ (ap (λ (u : Symbol). u.flags.in_) e ∙ ap (λ (m : Name). free m || t.flags.in_) (sym n)))
 
-other_in : (s t : Symbol) → ButIn s t → t ≡ at s.name (record (s.flags) { in_ = t.flags.in_ })
+pub other_in : (s t : Symbol) → ButIn s t → t ≡ at s.name (record (s.flags) { in_ = t.flags.in_ })
 other_in s t e = λ i. at (sym e.0 i) (record (sym e.1 i) { in_ = t.flags.in_ })
 
-free_rule : (s t : Symbol) → ButIn s t → Like ButIn (rule s) (rule t)
+pub free_rule : (s t : Symbol) → ButIn s t → Like ButIn (rule s) (rule t)
 unfolding rule
 free_rule s t e = go (free s.name) refl e.2
   where

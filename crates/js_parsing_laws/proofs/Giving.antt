@@ -5,7 +5,7 @@ use Rattle.js_base.specs.declared.kind.Kind.{Kind}
 use Rattle.js_base.specs.Kinds.{one_of_kinds}
 use Rattle.js_base.specs.declared.diagnostic.Diagnostic.{Diagnostic}
 use Rattle.js_grammar.specs.Trees.{Slots, end}
-use Rattle.js_grammar.specs.Grammar.{Lexeme, Look, here, seen}
+use Rattle.js_grammar.specs.Grammar.{Lexeme, here, seen}
 use Rattle.js_grammar.specs.Parsing.{Test, Fails}
 use Rattle.js_grammar.specs.Productions.{G, Flags}
 use Rattle.js_grammar.specs.Table.{rule}
@@ -25,9 +25,8 @@ use Rattle.js_parsing_laws.proofs.Paths.{begins_by, fails_at, reads, settles}
 use Rattle.js_parsing_laws.specs.Heads.{NotedHeads}
 use Rattle.js_parsing_laws.specs.Lexemes.{Lex, keyword_kind}
 use Rattle.js_parsing_laws.specs.States.{At, NodesLie}
-use Rattle.js_parsing_laws.specs.Answers.{Grown, Stops, Unbuilt}
+use Rattle.js_parsing_laws.specs.Answers.{Grown, Stops}
 use Rattle.js_parsing_laws.proofs.Here.{escaped_here}
-use Rattle.js_parsing_laws.proofs.ToEnd.{to_end_stays, unbuilt_to_end}
 use Rattle.js_parsing_laws.specs.Classes.{EndsParse}
 use Rattle.js_parsing_laws.proofs.Classes.{unexpected_ends}
 
@@ -35,8 +34,8 @@ pub kept_one : {d : Diagnostic} {p q : Parser} → Keeps d p q → Grown p.error
 kept_one {d} k = record { more = d ∷ []; kept = ap (λ (r : Parser). r.errors) k.is; some = λ e. cc }
 
 -- by a diagnostic of a class that ends a parse
-pub gives_up_or : {text : List ℕ} {f : Flags} (P : Diagnostic → Type 0) (p q : Parser) {F : Type 0} (e : Stop) → At text f p → GivesUp P p q e → ((d : Diagnostic) → P d → EndsParse d) → ((Unbuilt q → ⊥) → F) → Stops p q e F
-gives_up_or P p q Fatal a g c x = record {
+pub gives_up : {text : List ℕ} {f : Flags} (P : Diagnostic → Type 0) (p q : Parser) {F : Type 0} (e : Stop) → At text f p → GivesUp P p q e → ((d : Diagnostic) → P d → EndsParse d) → F → Stops p q e F
+gives_up P p q Fatal a g c x = record {
   at = g.2.at;
   follows = keeps_follows g.2;
   grown = kept_one g.2;
@@ -44,12 +43,8 @@ gives_up_or P p q Fatal a g c x = record {
   lies = λ h. subst (λ (r : Parser). NodesLie r.text r.nodes) (sym g.2.is) h.1;
   heads = subst NotedHeads (sym g.2.is) a.heads;
   none = x;
-  met = λ u. to_end_stays p q (ap (λ (r : Parser). r.text) g.2.is) (ap (λ (r : Parser). r.prev_token_end) g.2.is) (unbuilt_to_end u);
 }
-gives_up_or P p q NoMemory a g c x = tt
-
-pub gives_up : {text : List ℕ} {f : Flags} (P : Diagnostic → Type 0) (p q : Parser) {F : Type 0} (e : Stop) → At text f p → GivesUp P p q e → ((d : Diagnostic) → P d → EndsParse d) → F → Stops p q e F
-gives_up P p q e a g c x = gives_up_or P p q e a g c (λ n. x)
+gives_up P p q NoMemory a g c x = tt
 
 -- by what can't stand here
 pub gives_up_here : {text : List ℕ} {f : Flags} (p q : Parser) {F : Type 0} (e : Stop) → At text f p → GivesUp (IsUnexpected p) p q e → F → Stops p q e F

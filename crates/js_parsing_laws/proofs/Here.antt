@@ -15,11 +15,11 @@ use Rattle.js_grammar.proofs.Alike.{lex-same}
 use Rattle.js_grammar.proofs.Lexemes.{first_or}
 use Rattle.js_grammar.proofs.Looks.{covers, covered}
 use Rattle.js_lex.specs.Reading.{cut, is_right_angle, Tells, GivesLexeme, LexemeBehind}
-use Rattle.js_lex.proofs.Again.{cut_same}
+use Rattle.js_lex.proofs.Again.{cut_same, cut_from, cut_newline}
 use Rattle.js_words.proofs.KindsOfLexemes.{pattern_is, tail_is, hashbang_is}
 use Rattle.js_cursor.specs.Parsers.{Parser}
 use Rattle.js_cursor.specs.Moves.{is_last}
-use Rattle.js_parsing_laws.specs.Lexemes.{Lex, goal_for, is_read, other_goals, read_kinds, signs, signs_of, slashes, template_tails}
+use Rattle.js_parsing_laws.specs.Lexemes.{Lex, goal_for, is_read, other_goals, signs, signs_of, slashes, template_tails, is_read_kind}
 use Rattle.js_parsing_laws.specs.States.{At, IsPlain, whole, sign, nothing}
 use Rattle.js_parsing_laws.proofs.Slashes.{SignThere, pattern_goal, sign_there, tail_goal}
 
@@ -33,11 +33,11 @@ goal_here k n = go (same_kind RegExp k) refl (one_of_kinds template_tails k) ref
     go false e false f q = rw (e, f) refl
 
 -- a lexeme of a kind that is read is one of its lexical goal
-pub goal_is : {text : List ℕ} {s : ℕ} {y : Lexeme} (h : StandsBehind all_faults text s y) → one_of_kinds read_kinds y.kind ≡ true → h.goal ≡ goal_for y.kind
+pub goal_is : {text : List ℕ} {s : ℕ} {y : Lexeme} (h : StandsBehind all_faults text s y) → is_read_kind y.kind ≡ true → h.goal ≡ goal_for y.kind
 goal_is {y = y} h kinds = go (same_kind RegExp y.kind) refl (one_of_kinds template_tails y.kind) refl
   where
-    is_none : (k : Kind) → one_of_kinds read_kinds k ≡ false → y.kind ≡ k → ⊥
-    is_none k n e = false≢true (sym n ∙ subst (λ v. one_of_kinds read_kinds v ≡ true) e kinds)
+    is_none : (k : Kind) → is_read_kind k ≡ false → y.kind ≡ k → ⊥
+    is_none k n e = false≢true (sym n ∙ subst (λ v. is_read_kind v ≡ true) e kinds)
 
     tail : (y.kind ≡ TemplateMiddle) ⊎ (y.kind ≡ TemplateTail) → one_of_kinds template_tails y.kind ≡ true
     tail (inl e) = ap (one_of_kinds template_tails) e
@@ -55,7 +55,7 @@ goal_is {y = y} h kinds = go (same_kind RegExp y.kind) refl (one_of_kinds templa
     go false e false f = plain e f h.goal refl h.lexeme.kind ∙ rw (e, f) refl
 
 -- a lexeme of a kind that is read, and of no other lexical goal, is one of the plain one
-pub plain_kind : {text : List ℕ} {s : ℕ} {y : Lexeme} (h : StandsBehind all_faults text s y) → one_of_kinds read_kinds y.kind ≡ true → one_of_kinds other_goals y.kind ≡ false → h.goal ≡ division
+pub plain_kind : {text : List ℕ} {s : ℕ} {y : Lexeme} (h : StandsBehind all_faults text s y) → is_read_kind y.kind ≡ true → one_of_kinds other_goals y.kind ≡ false → h.goal ≡ division
 plain_kind {y = y} h kinds r = goal_is h kinds ∙ goal_here y.kind r
 
 pub plainly : {text : List ℕ} {s : ℕ} {y : Lexeme} (h : StandsBehind all_faults text s y) → IsTrue (is_read y) → one_of_kinds other_goals y.kind ≡ false → h.goal ≡ division
@@ -138,13 +138,6 @@ cut_angle y e = go (is_right_angle y.kind) refl
     go true q = q
     go false q = ap is_right_angle (sym (ap (λ (z : Lexeme). z.kind) (cut_same y q)) ∙ e)
 
-cut_from : (y : Lexeme) → (cut y).from ≡ y.from
-cut_from y = go (is_right_angle y.kind) refl
-  where
-    go : (b : Bool) → is_right_angle y.kind ≡ b → (cut y).from ≡ y.from
-    go true q = rw (q, cut) refl
-    go false q = ap (λ (z : Lexeme). z.from) (cut_same y q)
-
 pub cut_escaped : (y : Lexeme) → (cut y).escaped ≡ y.escaped
 cut_escaped y = go (is_right_angle y.kind) refl
   where
@@ -152,18 +145,11 @@ cut_escaped y = go (is_right_angle y.kind) refl
     go true q = rw (q, cut) refl
     go false q = ap (λ (z : Lexeme). z.escaped) (cut_same y q)
 
-cut_newline : (y : Lexeme) → (cut y).newline ≡ y.newline
-cut_newline y = go (is_right_angle y.kind) refl
-  where
-    go : (b : Bool) → is_right_angle y.kind ≡ b → (cut y).newline ≡ y.newline
-    go true q = rw (q, cut) refl
-    go false q = ap (λ (z : Lexeme). z.newline) (cut_same y q)
-
 abbrev another : Look
 another k w e = one_of_kinds other_goals k
 
 abbrev any_read : Look
-any_read k w e = one_of_kinds read_kinds k
+any_read k w e = is_read_kind k
 
 others_read : covers another any_read ≡ true
 unfolding covers

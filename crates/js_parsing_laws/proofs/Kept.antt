@@ -26,7 +26,7 @@ both_none : {K : Type 0} (a b : List K) → a ++ b ≡ [] → (a ≡ []) × (b �
 both_none [] b e = (refl, e)
 both_none (x ∷ a) b e = absurd (let k = e in cc)
 
-none_of_two : {K : Type 0} (a b : List K) → a ≡ [] → b ≡ [] → a ++ b ≡ []
+pub none_of_two : {K : Type 0} (a b : List K) → a ≡ [] → b ≡ [] → a ++ b ≡ []
 none_of_two a b e f = (λ i. e i ++ f i)
 
 abbrev html_fault_of : ℕ → List ℕ → Diagnostic

@@ -22,14 +22,13 @@ pub mod Nesting
 pub mod Parts
 pub mod Paths
 pub mod Phrases
+pub mod PlainSigns
 pub mod ReadKinds
 pub mod Signs
 pub mod Slashes
 pub mod Stretches
 pub mod Tight
 pub mod Told
-pub mod ToEnd
-pub mod Unbuilt
 pub mod Verdicts
 pub mod Classes
 pub mod Semicolons

@@ -1,5 +1,5 @@
 -- What moves over lexemes do to a state.
-use Rattle.std.proofs.Common.{ℕ, ◌+◌, ◌≡◌, ◌<◌, ◌⊎◌, ◌||◌, inl, inr, Bool, true, false, List, [], ◌∷◌, ◌++◌, cond, refl, sym, ap, subst, arith, ◌∙◌, append-nil}
+use Rattle.std.proofs.Common.{ℕ, ◌+◌, ◌≡◌, ◌<◌, ◌⊎◌, inl, inr, Bool, true, false, List, [], ◌∷◌, ◌++◌, cond, refl, sym, ap, subst, arith, ◌∙◌, append-nil}
 use Rattle.std.specs.Prelude.{IsCharBoundary, Result, Ok, Err, MatchResult}
 use Rattle.js_base.specs.Contexts.{has_flag, in_flag}
 use Rattle.std.proofs.lemmas.Bool.{false≢true}
@@ -35,7 +35,7 @@ use Rattle.js_base.specs.declared.context.Context.{Context}
 use Rattle.js_cursor.specs.Notes.{Notes, is_noted}
 use Rattle.js_cursor.specs.Starts.{is_module}
 use Rattle.js_parsing_laws.specs.Heads.{NoHead, NotedHeads, OnlyArrow, flags_in, widened}
-use Rattle.js_parsing_laws.specs.Lexemes.{KeptFor, NoneToEnd, TriviaKept, News, other_goals, read_kinds}
+use Rattle.js_parsing_laws.specs.Lexemes.{KeptFor, TriviaKept, News, other_goals, is_read_kind}
 use Rattle.js_parsing_laws.proofs.KeptTokens.{counts_here, completed_counts, before_next, next_kept_last, again_before, again_last, trivia_kept}
 use Rattle.js_parsing_laws.specs.NodeTexts.{NodeFits}
 use Rattle.js_parsing_laws.specs.States.{At, Standing, IsPlain, whole, sign, nothing, Same, flags_of, NodesLie, SpansLie}
@@ -43,13 +43,11 @@ use Rattle.js_parsing_laws.specs.Moves.{IsCompleted, IsWholeHere, Moved, Moves, 
 use Rattle.js_parsing_laws.specs.Operators.{power_of}
 use Rattle.js_parsing_laws.proofs.Here.{plain_token, plain_kind, uncut}
 use Rattle.js_parsing_laws.proofs.Kept.{kept_for}
-use Rattle.js_parsing_laws.proofs.ToEnd.{to_end_passed, to_end_stays}
 use Rattle.js_lex.specs.Comments.{each_at, comment_at, irregular_at, html_fault_at}
 use Rattle.js_lex.specs.States.{goal_of}
 use Rattle.js_parsing_laws.specs.Classes.{IsEarly}
 use Rattle.std.specs.List.{All}
 use Rattle.std.proofs.lemmas.List.Elements.{All-same}
-use Rattle.js_base.specs.Spans.{LiesIn}
 
 -- What is given behind a place is what the plain goal gives, if it was asked for by that.
 pub plain_given : {text : List ℕ} {p : Parser} {source : Goal} (faults : List Diagnostic) → IsToken source text p.prev_token_end p.lexer.kept.errors p.token p.cut → Outcome division cut source text p.prev_token_end p.token [] faults → IsPlain text p
@@ -66,7 +64,7 @@ plain_given {text} {p} {source} faults k o = go p.cut refl k (same_kind Undeterm
         by true e =
             let c : (cut z.lexeme).kind ≡ RAngle = rw (e, cut) refl in
             let r : x.lexeme.kind ≡ RAngle = sym x.tells.kind ∙ (z.tells.kind ∙ c) in
-            whole q n (record { lexeme = x.lexeme; stands = record { lex = x.stands.lex; of_goal = plain_kind x.stands.lex (ap (one_of_kinds read_kinds) r) (ap (one_of_kinds other_goals) r) }; tells = x.tells; separated = x.separated })
+            whole q n (record { lexeme = x.lexeme; stands = record { lex = x.stands.lex; of_goal = plain_kind x.stands.lex (ap is_read_kind r) (ap (one_of_kinds other_goals) r) }; tells = x.tells; separated = x.separated })
 
     go : (b : Bool) → p.cut ≡ b → IsToken source text p.prev_token_end p.lexer.kept.errors p.token b → (r : Bool) → same_kind Undetermined p.token.kind ≡ r → elim r as (λ _. Type 0) [ true ↦ (d : Diagnostic) × (faults ≡ d ∷ []) × GivesNone division source text p.prev_token_end p.token d | false ↦ (faults ≡ []) × GivesLexeme division cut text p.prev_token_end p.token ] → IsPlain text p
     go true q (sign_token e x) r h y = sign q e x
@@ -86,21 +84,17 @@ heads_kept p q t s o h g n = (λ w c x b k. stays NoHead w c x (n.0 w c x b (sub
     stays P w c x z = subst (λ (v : List ℕ). P v (widened w (flags_in q c)) x) (sym t) (subst (λ (f : Flags). P p.text f x) (λ i. record (widened w (flags_in q c)) { module_goal = is_module (sym s i); v8 = (sym o i).allow_v8_intrinsics }) z)
 
 pub same_itself : {p : Parser} → Same p p
-same_itself {p} = record { follows = follows_itself p; options = refl; ctx = refl; depth = refl; visits = refl; early = λ h. h; lies = λ h. h; meets = λ h. h }
+same_itself {p} = record { follows = follows_itself p; options = refl; ctx = refl; depth = refl; visits = refl; early = λ h. h; lies = λ h. h }
 
 pub same_both : {p q r : Parser} → Same p q → Same q r → Same p r
-same_both a b = record { follows = follows_on a.follows b.follows; options = b.options ∙ a.options; ctx = b.ctx ∙ a.ctx; depth = b.depth ∙ a.depth; visits = b.visits ∙ a.visits; early = λ h. b.early (a.early h); lies = λ h. b.lies (a.lies h); meets = λ h. a.meets (b.meets h) }
+same_both a b = record { follows = follows_on a.follows b.follows; options = b.options ∙ a.options; ctx = b.ctx ∙ a.ctx; depth = b.depth ∙ a.depth; visits = b.visits ∙ a.visits; early = λ h. b.early (a.early h); lies = λ h. b.lies (a.lies h) }
 
 -- what lies in the text still does, where text and nodes stay
 pub nodes_lie : (p q : Parser) → q.text ≡ p.text → q.nodes ≡ p.nodes → NodesLie p.text p.nodes → NodesLie q.text q.nodes
 nodes_lie p q t n h = subst (λ (v : List ℕ). NodesLie v q.nodes) (sym t) (All-same (NodeFits p.text) q.nodes p.nodes n h)
 
-same_of : {p q : Parser} → IsAt q → Follows p q → q.nodes ≡ p.nodes → q.errors ≡ p.errors → q.options ≡ p.options → q.ctx ≡ p.ctx → q.depth ≡ p.depth → q.visits ≡ p.visits → (NoneToEnd q.text q.prev_token_end → NoneToEnd p.text p.prev_token_end) → Same p q
-same_of {p} {q} i g n e o c d v m = record { follows = g; options = o; ctx = c; depth = d; visits = v; early = λ h. All-same IsEarly q.errors p.errors e h; lies = λ h. (i.lies.starts_whole, nodes_lie p q g.text n h.1); meets = m }
-
-pub neither : (a b : Bool) → (a || b) ≡ false → (a ≡ false) × (b ≡ false)
-neither true b h = absurd (false≢true (sym h))
-neither false b h = (refl, h)
+pub same_of : {p q : Parser} → IsAt q → Follows p q → q.nodes ≡ p.nodes → q.errors ≡ p.errors → q.options ≡ p.options → q.ctx ≡ p.ctx → q.depth ≡ p.depth → q.visits ≡ p.visits → Same p q
+same_of {p} {q} i g n e o c d v = record { follows = g; options = o; ctx = c; depth = d; visits = v; early = λ h. All-same IsEarly q.errors p.errors e h; lies = λ h. (i.lies.starts_whole, nodes_lie p q g.text n h.1) }
 
 -- a lexeme that isn't the end has bytes
 further : {p q : Parser} → is_last p.token.kind ≡ false → Passed p q → p.token.span.start < q.prev_token_end
@@ -137,7 +131,7 @@ module _ {text : List ℕ} {f : Flags} {p : Parser} where
   passed_moves : {q : Parser} → At text f p → p.cut ≡ false → is_last p.token.kind ≡ false → Passed p q → Moved text f p q
   passed_moves {q} a c n s = record {
     at = next_at a s;
-    same = same_of s.at (passed_follows s) s.stays.nodes s.stays.errors s.stays.options s.stays.ctx s.stays.depth s.stays.visits meets;
+    same = same_of s.at (passed_follows s) s.stays.nodes s.stays.errors s.stays.options s.stays.ctx s.stays.depth s.stays.visits;
     nodes = s.stays.nodes;
     kept = s.stays.errors;
     lexeme = s.lexeme;
@@ -162,9 +156,6 @@ module _ {text : List ℕ} {f : Flags} {p : Parser} where
     };
   }
     where
-      meets : NoneToEnd q.text q.prev_token_end → NoneToEnd p.text p.prev_token_end
-      meets h = subst (λ (v : List ℕ). NoneToEnd v p.prev_token_end) (sym a.text_is) (to_end_passed a c n (s.tells.end ∙ sym s.moved) (subst (λ (v : List ℕ). NoneToEnd v q.prev_token_end) (s.stays.text ∙ a.text_is) h))
-
       news : News
       news = record {
         token = p.token;
@@ -205,7 +196,7 @@ completes {text} {f} {p} {q} (inr e) b n a h = record {
     heads = heads_kept p q e.1.stays.text e.1.stays.source_type e.1.stays.options (ap (λ (n : Notes). n.failed) e.1.stays.state) (ap (λ (n : Notes). n.operands) e.1.stays.state) a.heads;
     kept_last = again_last p.lexer q.lexer p.token q.token e.1.again.same.keeps_tokens e.1.again.tokens counted.0 counted.1 a.kept_last;
   };
-  same = same_of b (read_again_follows e.1) e.1.stays.nodes e.1.stays.errors e.1.stays.options e.1.stays.ctx e.1.stays.depth e.1.stays.visits (to_end_stays p q e.1.stays.text e.1.place);
+  same = same_of b (read_again_follows e.1) e.1.stays.nodes e.1.stays.errors e.1.stays.options e.1.stays.ctx e.1.stays.depth e.1.stays.visits;
   nodes = e.1.stays.nodes;
   kept = e.1.stays.errors;
   place = e.1.place;
@@ -284,7 +275,6 @@ same_with ns s k n =
       visits = s.visits;
       early = s.early;
       lies = λ h. let z = s.lies h in (z.0, n h.0 z.1);
-      meets = s.meets;
     }
 
 pub at_depth : {p : Parser} (k : ℕ) → IsAt p → Follows p (record p { depth = k })
@@ -294,7 +284,7 @@ out_of : {text : List ℕ} {f : Flags} {n : Symbol} {p q : Parser} {id : NodeId}
 out_of {q = q} k j e a x = record {
   answer = record {
     at = elsewhere q.nodes j x.answer.at;
-    same = record { follows = follows_on (at_depth k a) (follows_on x.answer.same.follows (at_depth j x.answer.at.at)); options = x.answer.same.options; ctx = x.answer.same.ctx; depth = e; visits = x.answer.same.visits; early = x.answer.same.early; lies = x.answer.same.lies; meets = x.answer.same.meets };
+    same = record { follows = follows_on (at_depth k a) (follows_on x.answer.same.follows (at_depth j x.answer.at.at)); options = x.answer.same.options; ctx = x.answer.same.ctx; depth = e; visits = x.answer.same.visits; early = x.answer.same.early; lies = x.answer.same.lies };
     further = x.answer.further;
     label = x.answer.label;
     slots = x.answer.slots;
@@ -321,15 +311,15 @@ left {k} {text} {f} {n} {p} {e} {q} {w} {id} a h l x =
     subst (λ (r : Parser). Numbered text f n p r id) (sym l.is) (out_of (p.depth + k) w.depth d a (subst (λ (r : Parser). Numbered text f n r q id) h.is x))
 
 -- what a call said, of the state before
-pub stops_later : {p q : Parser} (r : Parser) {F H : Type 0} (e : Stop) → Follows p q → (All IsEarly p.errors → All IsEarly q.errors) → (SpansLie p → SpansLie q) → (NoneToEnd q.text q.prev_token_end → NoneToEnd p.text p.prev_token_end) → (Grown q.errors r.errors → Grown p.errors r.errors) → (F → H) → Stops q r e F → Stops p r e H
-stops_later r Fatal g k l m h i s = record { at = s.at; follows = follows_on g s.follows; grown = h s.grown; stopped = λ w. s.stopped (k w); lies = λ w. s.lies (l w); heads = s.heads; none = λ n. i (s.none n); met = λ u. m (s.met u) }
-stops_later r NoMemory g k l m h i s = tt
+pub stops_later : {p q : Parser} (r : Parser) {F H : Type 0} (e : Stop) → Follows p q → (All IsEarly p.errors → All IsEarly q.errors) → (SpansLie p → SpansLie q) → (Grown q.errors r.errors → Grown p.errors r.errors) → (F → H) → Stops q r e F → Stops p r e H
+stops_later r Fatal g k l h i s = record { at = s.at; follows = follows_on g s.follows; grown = h s.grown; stopped = λ w. s.stopped (k w); lies = λ w. s.lies (l w); heads = s.heads; none = i s.none }
+stops_later r NoMemory g k l h i s = tt
 
 pub stops_behind : {p q : Parser} (r : Parser) {F H : Type 0} (e : Stop) → Same p q → (Grown q.errors r.errors → Grown p.errors r.errors) → (F → H) → Stops q r e F → Stops p r e H
-stops_behind r e m h i s = stops_later r e m.follows m.early m.lies m.meets h i s
+stops_behind r e m h i s = stops_later r e m.follows m.early m.lies h i s
 
 pub stops_in : {k : ℕ} {p q : Parser} (r : Parser) {F H : Type 0} (e : Stop) → IsAt p → Enters k p q → (F → H) → Stops q r e F → Stops p r e H
-stops_in {p = p} {q = q} r e a h i s = stops_later r e (entered_on a h).0 (λ w. All-same IsEarly q.errors p.errors (ap (λ (x : Parser). x.errors) h.is) w) (λ w. subst SpansLie (sym h.is) w) (to_end_stays p q (ap (λ (x : Parser). x.text) h.is) (ap (λ (x : Parser). x.prev_token_end) h.is)) (λ g. subst (λ (x : Parser). Grown x.errors r.errors) h.is g) i s
+stops_in {p = p} {q = q} r e a h i s = stops_later r e (entered_on a h).0 (λ w. All-same IsEarly q.errors p.errors (ap (λ (x : Parser). x.errors) h.is) w) (λ w. subst SpansLie (sym h.is) w) (λ g. subst (λ (x : Parser). Grown x.errors r.errors) h.is g) i s
 
 -- whatever the text and the parameters are called
 pub standing : {text : List ℕ} {f : Flags} {p : Parser} → At text f p → Standing p

@@ -1,10 +1,11 @@
 -- What holds of the kinds of names, and what stands at a name.
 use Rattle.std.proofs.Common.{ℕ, ◌≡◌, Bool, true, false, not, ◌&&◌, ◌||◌, List, ◌∷◌, IsTrue, refl, sym, ap, subst, ◌∙◌}
-use Rattle.std.proofs.lemmas.Bool.{false≢true, and_from}
+use Rattle.std.proofs.lemmas.Bool.{false≢true, and_from, not-true}
 use Rattle.js_base.specs.declared.kind.Kind.{Kind}
 use Rattle.js_base.specs.declared.kind.Kind.TheVariants.{Yield, Await, RAngle}
 use Rattle.js_base.specs.Contexts.{has_flag, yield_flag, await_flag}
 use Rattle.js_base.specs.Kinds.{same_kind, one_of_kinds}
+use Rattle.js_base.specs.KindSets.{binding_identifier_kinds}
 use Rattle.js_base.proofs.KindLemmas.{kind_of_same}
 use Rattle.js_grammar.specs.Trees.{end}
 use Rattle.js_grammar.specs.Grammar.{Lexeme, Look, seen}
@@ -17,7 +18,7 @@ use Rattle.js_grammar.proofs.Looks.{covers, covered, apart, not_both}
 use Rattle.js_grammar.proofs.FirstRules.{pick}
 use Rattle.js_cursor.specs.Moves.{is_last}
 use Rattle.js_cursor.specs.Parsers.{Parser}
-use Rattle.js_parsing_laws.specs.Lexemes.{Lex, is_read, may_name, name_kinds, read_kinds}
+use Rattle.js_parsing_laws.specs.Lexemes.{Lex, is_read, may_name, is_read_kind}
 use Rattle.js_parsing_laws.specs.Moves.{IsWholeHere}
 use Rattle.js_parsing_laws.specs.Stands.{NameHere, NameUnder}
 use Rattle.js_parsing_laws.specs.States.{At}
@@ -26,16 +27,16 @@ use Rattle.js_parsing_laws.proofs.Paths.{at_kinds, reads}
 
 -- the kinds of names
 abbrev pub a_name : Look
-a_name k w e = one_of_kinds name_kinds k
+a_name k w e = one_of_kinds binding_identifier_kinds k
 
 -- the test of the lexeme of a name
 abbrev pub name_test : Flags → Look
 name_test f a w e = may_bind a && not (same_kind Yield a && f.yield_) && not (same_kind Await a && f.await_)
 
 abbrev name_is_read : Look
-name_is_read k w e = one_of_kinds read_kinds k
+name_is_read k w e = is_read_kind k
 
-pub name_read : (k : Kind) → one_of_kinds name_kinds k ≡ true → one_of_kinds read_kinds k ≡ true
+pub name_read : (k : Kind) → one_of_kinds binding_identifier_kinds k ≡ true → is_read_kind k ≡ true
 unfolding covers
 name_read k h = covered a_name name_is_read refl k false false h
 
@@ -80,11 +81,11 @@ names_listed true false = refl
 names_listed false true = refl
 names_listed false false = refl
 
-pub listed_name : (y t : Bool) (k : Kind) → may_name y t k ≡ true → one_of_kinds name_kinds k ≡ true
+pub listed_name : (y t : Bool) (k : Kind) → may_name y t k ≡ true → one_of_kinds binding_identifier_kinds k ≡ true
 listed_name y t k h = covered (named y t) a_name (names_listed y t) k false false h
 
 -- and what is none of these kinds is no name
-pub no_listed_name : (y t : Bool) (k : Kind) → one_of_kinds name_kinds k ≡ false → may_name y t k ≡ false
+pub no_listed_name : (y t : Bool) (k : Kind) → one_of_kinds binding_identifier_kinds k ≡ false → may_name y t k ≡ false
 no_listed_name y t k n = go (may_name y t k) refl
   where
     go : (b : Bool) → may_name y t k ≡ b → may_name y t k ≡ false
@@ -98,12 +99,8 @@ no_end k w e = not (is_last k)
 abbrev no_sign : Look
 no_sign k w e = not (same_kind RAngle k)
 
-is_not : (b : Bool) → not b ≡ true → b ≡ false
-is_not true h = absurd (false≢true h)
-is_not false h = refl
-
 -- it is none of these kinds
-pub name_apart : (ks : List Kind) → apart a_name (λ k w e. one_of_kinds ks k) ≡ true → (k : Kind) → one_of_kinds name_kinds k ≡ true → one_of_kinds ks k ≡ false
+pub name_apart : (ks : List Kind) → apart a_name (λ k w e. one_of_kinds ks k) ≡ true → (k : Kind) → one_of_kinds binding_identifier_kinds k ≡ true → one_of_kinds ks k ≡ false
 name_apart ks d k h = go (one_of_kinds ks k) refl
   where
     go : (b : Bool) → one_of_kinds ks k ≡ b → one_of_kinds ks k ≡ false
@@ -111,14 +108,14 @@ name_apart ks d k h = go (one_of_kinds ks k) refl
     go false e = e
 
 -- it may be passed
-pub name_whole : {text : List ℕ} {f : Flags} {p : Parser} → At text f p → one_of_kinds name_kinds p.token.kind ≡ true → IsWholeHere p
+pub name_whole : {text : List ℕ} {f : Flags} {p : Parser} → At text f p → one_of_kinds binding_identifier_kinds p.token.kind ≡ true → IsWholeHere p
 unfolding covers
-name_whole {p = p} a h = (uncut a (is_not (same_kind RAngle p.token.kind) (covered a_name no_sign refl p.token.kind false false h)), is_not (is_last p.token.kind) (covered a_name no_end refl p.token.kind false false h))
+name_whole {p = p} a h = (uncut a (not-true (same_kind RAngle p.token.kind) (covered a_name no_sign refl p.token.kind false false h)), not-true (is_last p.token.kind) (covered a_name no_end refl p.token.kind false false h))
 
 -- a choice, cut down where a name stands
-pub at_name : {text : List ℕ} {f : Flags} {p : Parser} {X : Test} {g : G} → At text f p → one_of_kinds name_kinds p.token.kind ≡ true → Goes rule (Lex text) X end g p.prev_token_end (pick first X.base g name_kinds) p.prev_token_end (λ us. us) (still 0)
+pub at_name : {text : List ℕ} {f : Flags} {p : Parser} {X : Test} {g : G} → At text f p → one_of_kinds binding_identifier_kinds p.token.kind ≡ true → Goes rule (Lex text) X end g p.prev_token_end (pick first X.base g binding_identifier_kinds) p.prev_token_end (λ us. us) (still 0)
 unfolding apart
-at_name a h = at_kinds a name_kinds refl h
+at_name a h = at_kinds a binding_identifier_kinds refl h
 
 -- one more kind
 pub or_kind : (a : Kind) (ks : List Kind) (k : Kind) → (k ≡ a → ⊥) → one_of_kinds ks k ≡ false → one_of_kinds (a ∷ ks) k ≡ false
@@ -136,7 +133,7 @@ pub name_at : {text : List ℕ} {f : Flags} {p : Parser} (b : Bool) → At text 
 name_at {p = p} b a h = subst (λ (g : Flags). NameUnder g.yield_ g.await_ p b) a.flags_are h
 
 -- a name that stands here is one of the kinds
-pub listed_here : (p : Parser) → NameHere p true → one_of_kinds name_kinds p.token.kind ≡ true
+pub listed_here : (p : Parser) → NameHere p true → one_of_kinds binding_identifier_kinds p.token.kind ≡ true
 listed_here p h = listed_name (has_flag yield_flag p.ctx) (has_flag await_flag p.ctx) p.token.kind h
 
 -- which kinds are names is told by either, whatever is said of it

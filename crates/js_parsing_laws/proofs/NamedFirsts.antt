@@ -4,6 +4,7 @@ use Rattle.std.proofs.lemmas.Bool.{false≢true, and_parts, and_from}
 use Rattle.js_base.specs.declared.kind.Kind.{Kind}
 use Rattle.js_base.specs.declared.kind.Kind.TheVariants.{Ident, Yield, Await}
 use Rattle.js_base.specs.Kinds.{same_kind, one_of_kinds}
+use Rattle.js_base.specs.KindSets.{identifier_name_kinds}
 use Rattle.js_grammar.specs.Trees.{end}
 use Rattle.js_grammar.specs.Grammar.{Lexeme, Look, seen}
 use Rattle.js_grammar.specs.Parsing.{Test, Fails, full}
@@ -14,7 +15,7 @@ use Rattle.js_grammar.proofs.Looks.{covers, covered, apart, not_both}
 use Rattle.js_grammar.proofs.First.{FirstSets, starts}
 use Rattle.js_grammar.proofs.FirstRules.{fails_here}
 use Rattle.js_cursor.specs.Parsers.{Parser}
-use Rattle.js_parsing_laws.specs.Lexemes.{Lex, escaped_word, may_name, other_goals, read_word}
+use Rattle.js_parsing_laws.specs.Lexemes.{Lex, escaped_word, may_name, other_goals}
 use Rattle.js_parsing_laws.specs.States.{At}
 use Rattle.js_parsing_laws.proofs.Here.{told_plain, angled, escaped_here, kind_here}
 use Rattle.js_parsing_laws.proofs.Escapes.{kind_escaped, word_escaped}
@@ -110,7 +111,7 @@ begins_named y t g F ks = covers (λ k w e. starts first_by g F k w e && reads k
 
 -- of what may begin g with an escape, those words that are read are names
 abbrev pub escapes_named : Bool → Bool → G → Look → Bool
-escapes_named y t g F = covers (λ k w e. starts first_by g F k w e && (read_word k && e)) (λ k w e. may_name y t k)
+escapes_named y t g F = covers (λ k w e. starts first_by g F k w e && (one_of_kinds identifier_name_kinds k && e)) (λ k w e. may_name y t k)
 
 -- for both values of both parameters
 by_flags : (P : Bool → Bool → Type 0) → P true true → P true false → P false true → P false false → (y t : Bool) → P y t
@@ -137,7 +138,7 @@ no_name_other true false = refl
 no_name_other false true = refl
 no_name_other false false = refl
 
-either_of : {F : Type 0} (a b : Bool) → (a || b) ≡ true → (a ≡ true → F) → (b ≡ true → F) → F
+pub either_of : {F : Type 0} (a b : Bool) → (a || b) ≡ true → (a ≡ true → F) → (b ≡ true → F) → F
 either_of true b h f g = f refl
 either_of false b h f g = g h
 
@@ -169,7 +170,7 @@ module _ {text : List ℕ} {o : Flags} {p : Parser} (a : At text o p) (f : Flags
 
       none : (y : Lexeme) → Lex text p.prev_token_end y → IsTrue (seen (starts first_by (g f) X.base) y) → ⊥
       none y l h =
-          let name = covered (λ k w e. starts first_by (g f) X.base k w e && (read_word k && e)) (λ k w e. may_name f.yield_ f.await_ k) (by_flags (λ y t. escapes_named y t (g (with_flags y t f)) X.base ≡ true) c1 c2 c3 c4 f.yield_ f.await_) y.kind y.newline y.escaped (and_from _ _ h (and_from _ _ (word_escaped y l (escaped_here a y l ∙ escaped)) (escaped_here a y l ∙ escaped))) in
+          let name = covered (λ k w e. starts first_by (g f) X.base k w e && (one_of_kinds identifier_name_kinds k && e)) (λ k w e. may_name f.yield_ f.await_ k) (by_flags (λ y t. escapes_named y t (g (with_flags y t f)) X.base ≡ true) c1 c2 c3 c4 f.yield_ f.await_) y.kind y.newline y.escaped (and_from _ _ h (and_from _ _ (word_escaped y l (escaped_here a y l ∙ escaped)) (escaped_here a y l ∙ escaped))) in
           false≢true (sym n ∙ (ap (may_name f.yield_ f.await_) (sym (kind_escaped a escaped y l)) ∙ name))
 
   -- what doesn't begin with `yield` under Yield

@@ -1,9 +1,9 @@
 -- What nodes keep of their text, and what tokens tell of it.
-use Rattle.std.proofs.Common.{ℕ, ◌≡◌, ◌+◌, ◌++◌, Bool, true, false, not, ◌&&◌, ◌||◌, List, Option, Some, refl, sym, ap, subst, ◌∙◌}
+use Rattle.std.proofs.Common.{ℕ, ◌≡◌, ◌+◌, ◌++◌, Bool, true, false, ◌&&◌, ◌||◌, List, Option, Some, refl, sym, ap, subst, ◌∙◌}
 use Rattle.std.specs.Prelude.{IsSome, chars, slice_range}
-use Rattle.std.proofs.lemmas.Bool.{false≢true, or_left}
+use Rattle.std.proofs.lemmas.Bool.{false≢true}
 use Rattle.js_text.specs.Decoding.{name_text}
-use Rattle.js_base.specs.KindSets.{identifier_name_kinds}
+use Rattle.js_base.specs.KindSets.{identifier_name_kinds, binding_identifier_kinds}
 use Rattle.js_base.specs.Kinds.{same_kind, one_of_kinds}
 use Rattle.js_base.specs.Texts.{words}
 use Rattle.js_base.specs.declared.kind.Kind.{Kind}
@@ -30,7 +30,6 @@ use Rattle.js_cursor.specs.Parsers.{Parser}
 use Rattle.js_cursor.specs.Places.{IsAt}
 use Rattle.js_tree.specs.declared.kind.NodeKind.{NodeKind}
 use Rattle.js_tree.specs.declared.kind.NodeKind.TheVariants as node
-use Rattle.js_parsing_laws.specs.Lexemes.{name_kinds, read_word}
 use Rattle.js_parsing_laws.specs.NodeTexts.{IsKept, SpellsName, Texted, TextedAs, is_name_node, is_textual, spelled_at}
 use Rattle.js_parsing_laws.specs.States.{At, IsPlain, whole, sign, nothing}
 
@@ -66,42 +65,36 @@ module _ {p : Parser} (i : IsAt p) (x : GivesLexeme division (λ y. y) p.text p.
   kind_of_word = subst (λ (g : LexicalGoal). kind_in g x.stands.lex.word x.stands.lex.rest ≡ Some x.lexeme.kind) x.stands.of_goal x.stands.lex.lexeme.kind
 
 abbrev a_word : Look
-a_word k w e = read_word k
+a_word k w e = one_of_kinds identifier_name_kinds k
 
 abbrev in_table : Look
 in_table k w e = is_word k || same_kind PrivateIdentifier k
-
-abbrev identifier_name : Look
-identifier_name k w e = one_of_kinds identifier_name_kinds k
 
 words_are : covers a_word in_table ≡ true
 unfolding covers words
 words_are = refl
 
-names_are : covers a_word identifier_name ≡ true
-unfolding covers words
-names_are = refl
-
-no_word : (t : Token) (k : Kind) → read_word k ≡ false → t.kind ≡ k → read_word t.kind ≡ true → ⊥
-no_word t k n e h = false≢true (sym n ∙ (ap read_word (sym e) ∙ h))
+no_word : (t : Token) (k : Kind) → one_of_kinds identifier_name_kinds k ≡ false → t.kind ≡ k → one_of_kinds identifier_name_kinds t.kind ≡ true → ⊥
+no_word t k n e h = false≢true (sym n ∙ (ap (one_of_kinds identifier_name_kinds) (sym e) ∙ h))
 
 -- the kinds of names are words
-pub name_word : (k : Kind) → one_of_kinds name_kinds k ≡ true → read_word k ≡ true
-name_word k h = or_left (one_of_kinds name_kinds k) _ h
+pub name_word : (k : Kind) → one_of_kinds binding_identifier_kinds k ≡ true → one_of_kinds identifier_name_kinds k ≡ true
+unfolding covers
+name_word k h = covered (λ k w e. one_of_kinds binding_identifier_kinds k) a_word refl k false false h
 
 -- a word that stands here is a name, whatever else it is
-pub spells_name : {text : List ℕ} {f : Flags} {p : Parser} → At text f p → read_word p.token.kind ≡ true → SpellsName p.text p.token
+pub spells_name : {text : List ℕ} {f : Flags} {p : Parser} → At text f p → one_of_kinds identifier_name_kinds p.token.kind ≡ true → SpellsName p.text p.token
 spells_name {text} {p = p} a h = by a.plain
   where
     of_lexeme : GivesLexeme division (λ y. y) p.text p.prev_token_end p.token → SpellsName p.text p.token
     of_lexeme x =
         let e = spelled_here a.at x in
-        let k : read_word x.lexeme.kind ≡ true = ap read_word (sym x.tells.kind) ∙ h in
+        let k : one_of_kinds identifier_name_kinds x.lexeme.kind ≡ true = ap (one_of_kinds identifier_name_kinds) (sym x.tells.kind) ∙ h in
         let w : (is_word x.lexeme.kind || same_kind PrivateIdentifier x.lexeme.kind) ≡ true = covered a_word in_table words_are x.lexeme.kind false false k in
         record {
           lies = a.at.lies;
           escaped = ap has_backslash e ∙ sym (x.tells.escaped ∙ x.stands.lex.escaped ∙ ap (λ (b : Bool). b && has_backslash x.stands.lex.word) w);
-          named = subst (λ (cs : List ℕ). IsSome (name_text cs)) (sym e) (name_of_kind x.stands.lex.word x.stands.lex.rest x.lexeme.kind (kind_of_word a.at x) (word_opened x.lexeme.kind (covered a_word identifier_name names_are x.lexeme.kind false false k)));
+          named = subst (λ (cs : List ℕ). IsSome (name_text cs)) (sym e) (name_of_kind x.stands.lex.word x.stands.lex.rest x.lexeme.kind (kind_of_word a.at x) (word_opened x.lexeme.kind k));
         }
 
     by : IsPlain text p → SpellsName p.text p.token
@@ -122,7 +115,7 @@ spells_string {text} {p = p} a h = by a.plain
     by (nothing c k n) = absurd (let e = sym k ∙ h in cc)
 
 -- the same of that token behind it
-pub spells_later : {text : List ℕ} {f : Flags} {p : Parser} {w : List ℕ} {t : Token} → At text f p → read_word p.token.kind ≡ true → t ≡ p.token → w ≡ p.text → SpellsName w t
+pub spells_later : {text : List ℕ} {f : Flags} {p : Parser} {w : List ℕ} {t : Token} → At text f p → one_of_kinds identifier_name_kinds p.token.kind ≡ true → t ≡ p.token → w ≡ p.text → SpellsName w t
 spells_later {p = p} {w} {t} a h e s = subst (λ (v : List ℕ). SpellsName v t) (sym s) (subst (λ (u : Token). SpellsName p.text u) (sym e) (spells_name a h))
 
 pub string_later : {text : List ℕ} {f : Flags} {p : Parser} (w : List ℕ) {s : Span} → At text f p → p.token.kind ≡ Str → s ≡ p.token.span → w ≡ p.text → string_kind (chars (slice_range w s.start s.end)) ≡ Some Str

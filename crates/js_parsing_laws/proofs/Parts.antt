@@ -1,7 +1,6 @@
 -- Parts of a node, as far as they were read: one part behind another, with the children that each of them adds.
 use Rattle.std.proofs.Common.{ℕ, ◌≡◌, max, true, false, List, [], ◌∷◌, ◌++◌, length, Option, Some, refl, sym, ap, subst, arith, ◌∙◌}
 use Rattle.js_base.specs.declared.kind.Kind.{Kind}
-use Rattle.js_base.specs.Kinds.{one_of_kinds}
 use Rattle.js_grammar.specs.Trees.{Slots, end, tree, append}
 use Rattle.js_grammar.specs.Grammar.{next, seq, such, nothing}
 use Rattle.js_grammar.specs.Parsing.{plain, full, always, still, Goes, Fails}
@@ -18,7 +17,7 @@ use Rattle.js_tree.specs.Nodes.{Node}
 use Rattle.js_tree.specs.Holding.{HoldsAll, Keeps}
 use Rattle.js_tree.proofs.HoldingLemmas.{HoldsAll-next, Keeps-refl, Keeps-trans}
 use Rattle.js_cursor.specs.Parsers.{Parser}
-use Rattle.js_parsing_laws.specs.Lexemes.{Lex, read_kinds}
+use Rattle.js_parsing_laws.specs.Lexemes.{Lex, is_read_kind}
 use Rattle.js_parsing_laws.specs.States.{At}
 use Rattle.js_parsing_laws.specs.Moves.{Moved}
 use Rattle.js_parsing_laws.specs.Answers.{Stretch, Numbered, clean}
@@ -97,7 +96,7 @@ module _ {text : List ℕ} {f : Flags} where
     keeps = subst (λ (ns : List Node). Keeps p.nodes ns) (sym m.nodes) (Keeps-refl p.nodes);
   }
 
-  module _ {p q : Parser} {ids : List (Option NodeId)} (k : Kind) (a : At text f p) (e : p.token.kind ≡ k) (n : p.token.escaped ≡ false) (r : one_of_kinds read_kinds k ≡ true) (m : Moved text f p q) where
+  module _ {p q : Parser} {ids : List (Option NodeId)} (k : Kind) (a : At text f p) (e : p.token.kind ≡ k) (n : p.token.escaped ≡ false) (r : is_read_kind k ≡ true) (m : Moved text f p q) where
     pub part_sign : {g : G} → Partway text f (seq (tok k) g) g p q ids ids
     part_sign = passed ids m (record { reach = 0; near = omega arith; goes = skips a k e n r m })
 

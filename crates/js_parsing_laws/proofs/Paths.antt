@@ -1,6 +1,6 @@
 -- Readings between two states of a parser.
 use Rattle.std.proofs.Common.{ℕ, ◌≡◌, ◌<◌, max, List, [], ◌∷◌, Bool, true, false, not, ◌&&◌, ◌||◌, IsTrue, refl, sym, ap, subst, arith, ◌∙◌}
-use Rattle.std.proofs.lemmas.Bool.{false≢true, and_parts, and_from}
+use Rattle.std.proofs.lemmas.Bool.{false≢true, and_parts, and_from, not-true}
 use Rattle.js_base.specs.declared.kind.Kind.{Kind}
 use Rattle.js_base.specs.declared.kind.Kind.TheVariants.{RAngle}
 use Rattle.js_base.specs.Kinds.{same_kind, one_of_kinds}
@@ -23,7 +23,7 @@ use Rattle.js_grammar.proofs.FirstRules.{by_first, fails_here, picks, pick}
 use Rattle.js_grammar.proofs.FollowLaws.{surely}
 use Rattle.js_lex.specs.Reading.{is_right_angle}
 use Rattle.js_cursor.specs.Parsers.{Parser}
-use Rattle.js_parsing_laws.specs.Lexemes.{Lex, Walked, Spot, spot, nowhere, one_more, read_again, more_faults, is_read, other_goals, read_kinds, signs, signs_of}
+use Rattle.js_parsing_laws.specs.Lexemes.{Lex, Walked, Spot, spot, nowhere, one_more, read_again, more_faults, is_read, other_goals, signs, signs_of, is_read_kind}
 use Rattle.js_parsing_laws.specs.States.{At}
 use Rattle.js_parsing_laws.specs.Moves.{Moved}
 use Rattle.js_parsing_laws.specs.Answers.{Verdict, clean, Stretch, Answer}
@@ -55,7 +55,7 @@ walked_one s = walked_to (sym s.spot_is) (one_more nowhere s.is_new s.plain)
 
 -- the lexemes that are read
 abbrev pub reads : Look
-reads k w e = one_of_kinds read_kinds k
+reads k w e = is_read_kind k
 
 abbrev pub angles : Look
 angles k w e = is_right_angle k
@@ -73,8 +73,8 @@ abbrev pub begins_by : G → Look → List Kind → Bool
 begins_by g F ks = covers (λ k w e. starts first g F k w e && reads k w e) (λ k w e. one_of_kinds ks k) && settles ks
 
 -- a lexeme of a kind that is read is
-pub read_of : (y : Lexeme) {k : Kind} → y.kind ≡ k → one_of_kinds read_kinds k ≡ true → IsTrue (is_read y)
-read_of y e h = subst (λ v. one_of_kinds read_kinds v ≡ true) (sym e) h
+pub read_of : (y : Lexeme) {k : Kind} → y.kind ≡ k → is_read_kind k ≡ true → IsTrue (is_read y)
+read_of y e h = subst (λ v. is_read_kind v ≡ true) (sym e) h
 
 -- none of these kinds is that of a cut sign
 no_angle : (ks : List Kind) → apart angles (λ k w e. one_of_kinds ks k) ≡ true → (k : Kind) → one_of_kinds ks k ≡ true → same_kind RAngle k ≡ false
@@ -84,7 +84,7 @@ no_angle ks d k h = go (same_kind RAngle k) refl
     go true e = absurd (not_both angles (λ k w e. one_of_kinds ks k) d k false false (subst (λ v. is_right_angle v ≡ true) (kind_of_same RAngle k e) refl) h)
     go false e = e
 
-unless : (a b : Bool) → a ≡ true → (not a || b) ≡ true → b ≡ true
+pub unless : (a b : Bool) → a ≡ true → (not a || b) ≡ true → b ≡ true
 unless true b e h = h
 unless false b e h = absurd (false≢true e)
 
@@ -97,10 +97,6 @@ pub of_every : (P : Kind → Bool) (ks : List Kind) (k : Kind) → every_kind P 
 of_every P [] k e h = absurd (false≢true h)
 of_every P (a ∷ ks) k e h = first_or (λ (v : Kind). P v ≡ true) a k _ _ refl h (and_parts (P a) (every_kind P ks) e).0 (λ q. of_every P ks k (and_parts (P a) (every_kind P ks) e).1 q)
 
-is_not : (b : Bool) → not b ≡ true → b ≡ false
-is_not true h = absurd (false≢true h)
-is_not false h = refl
-
 -- of kinds that settle what stands there, the signs of one of another goal are among them
 all_signs : (ks : List Kind) (o k : Kind) → every_kind (λ o. not (one_of_kinds ks o) || every_kind (one_of_kinds ks) (signs_of o)) other_goals ≡ true → one_of_kinds other_goals o ≡ true → one_of_kinds (signs_of o) k ≡ true → one_of_kinds ks o ≡ true → one_of_kinds ks k ≡ true
 all_signs ks o k e i j h = of_every (one_of_kinds ks) (signs_of o) k (unless (one_of_kinds ks o) _ h (of_every (λ o. not (one_of_kinds ks o) || every_kind (one_of_kinds ks) (signs_of o)) other_goals o e i)) j
@@ -110,7 +106,7 @@ with_signs : (ks : List Kind) (o k : Kind) → every_kind (λ o. one_of_kinds ks
 with_signs ks o k e i j h = go (every_kind (λ k. not (one_of_kinds ks k)) (signs_of o)) refl (of_every (λ o. one_of_kinds ks o || every_kind (λ k. not (one_of_kinds ks k)) (signs_of o)) other_goals o e i)
   where
     go : (b : Bool) → every_kind (λ k. not (one_of_kinds ks k)) (signs_of o) ≡ b → (one_of_kinds ks o || b) ≡ true → one_of_kinds ks o ≡ true
-    go true f q = absurd (false≢true (sym (is_not (one_of_kinds ks k) (of_every (λ k. not (one_of_kinds ks k)) (signs_of o) k f j)) ∙ h))
+    go true f q = absurd (false≢true (sym (not-true (one_of_kinds ks k) (of_every (λ k. not (one_of_kinds ks k)) (signs_of o) k f j)) ∙ h))
     go false f q = or_not (one_of_kinds ks o) false q refl
 
 module _ {text : List ℕ} {f : Flags} {p : Parser} (a : At text f p) where
@@ -160,14 +156,14 @@ module _ {text : List ℕ} {f : Flags} {p : Parser} (a : At text f p) where
   passes_test test u s r h = passes_unless test s r h (λ y l z. no_other a u y l)
 
   -- the lexeme of a kind was passed
-  pub passes : {X : Test} {q : Parser} (k : Kind) → p.token.kind ≡ k → p.token.escaped ≡ false → one_of_kinds read_kinds k ≡ true → (s : Moved text f p q) → Reads rule (Lex text) X end (tok k) p.prev_token_end q.prev_token_end (λ us. us) (passing s.lexeme)
+  pub passes : {X : Test} {q : Parser} (k : Kind) → p.token.kind ≡ k → p.token.escaped ≡ false → is_read_kind k ≡ true → (s : Moved text f p q) → Reads rule (Lex text) X end (tok k) p.prev_token_end q.prev_token_end (λ us. us) (passing s.lexeme)
   passes k e n r s =
       let kind : s.lexeme.kind ≡ k = sym s.tells.kind ∙ e in
       let plain : s.lexeme.escaped ≡ false = sym s.tells.escaped ∙ n in
       passes_unless (is k) s (read_of s.lexeme kind r) (and_from _ _ (subst (λ v. same_kind k v ≡ true) (sym kind) (same_self k)) (ap not plain))
       (λ y l z. subst (λ v. one_of_kinds other_goals v ≡ false) (kind ∙ kind_of_same k y.kind (and_parts (same_kind k y.kind) (not y.escaped) z).0) s.plain)
 
-  pub skips : {X : Test} {b : G} {q : Parser} (k : Kind) → p.token.kind ≡ k → p.token.escaped ≡ false → one_of_kinds read_kinds k ≡ true → (s : Moved text f p q) → Goes rule (Lex text) X end (seq (tok k) b) p.prev_token_end b q.prev_token_end (λ us. us) (passing s.lexeme)
+  pub skips : {X : Test} {b : G} {q : Parser} (k : Kind) → p.token.kind ≡ k → p.token.escaped ≡ false → is_read_kind k ≡ true → (s : Moved text f p q) → Goes rule (Lex text) X end (seq (tok k) b) p.prev_token_end b q.prev_token_end (λ us. us) (passing s.lexeme)
   skips k e n r s = then_by {X' = plain full} (passes k e n r s) (record { admits = λ ts us vs j k ls mid rest d d' h. (refl, refl) })
 
 -- A path of a parse function, clean or not.
@@ -199,10 +195,10 @@ module _ {text : List ℕ} {X : Test} where
   pub ◌⟶✗◌ : {f : Flags} {g g' : G} {p q : Parser} {h : Slots → Slots} → Path text f X g p g' q h → Fails rule (Lex text) (behind X h) end g' q.prev_token_end → Fails rule (Lex text) X end g p.prev_token_end
   a ⟶✗ b = either_way a.verdict (λ x. x.goes ▹✗ b) (λ n. n)
 
-  pub token : {f : Flags} {b : G} {p q : Parser} (k : Kind) → At text f p → p.token.kind ≡ k → p.token.escaped ≡ false → one_of_kinds read_kinds k ≡ true → Moved text f p q → Path text f X (seq (tok k) b) p b q (λ us. us)
+  pub token : {f : Flags} {b : G} {p q : Parser} (k : Kind) → At text f p → p.token.kind ≡ k → p.token.escaped ≡ false → is_read_kind k ≡ true → Moved text f p q → Path text f X (seq (tok k) b) p b q (λ us. us)
   token k a e n r s = record { at = s.at; further = s.further; pass = _; walked = walked_one s; verdict = clean s.kept (record { reach = 0; near = omega arith; goes = skips a k e n r s }) }
 
-  pub last_token : {f : Flags} {p q : Parser} (k : Kind) → At text f p → p.token.kind ≡ k → p.token.escaped ≡ false → one_of_kinds read_kinds k ≡ true → Moved text f p q → Path text f X (tok k) p nothing q (λ us. us)
+  pub last_token : {f : Flags} {p q : Parser} (k : Kind) → At text f p → p.token.kind ≡ k → p.token.escaped ≡ false → is_read_kind k ≡ true → Moved text f p q → Path text f X (tok k) p nothing q (λ us. us)
   last_token k a e n r s = record { at = s.at; further = s.further; pass = _; walked = walked_one s; verdict = clean s.kept (record { reach = 0; near = omega arith; goes = passes a k e n r s }) }
 
   pub called : {f : Flags} {b : G} {n : Symbol} {p q : Parser} (a : Answer text f n p q) → covers (starts first b X.base) (surest n.name) ≡ true → Path text f X (seq (such n always) b) p b q (tree a.label a.slots)

@@ -71,7 +71,7 @@ module _ (n m : Symbol) (h : passes_on n.name m.name ≡ true) (i : n.flags.in_ 
       → ((id : NodeId) (x : Numbered text f m p q id) (y : Lexeme) → Plain text q.prev_token_end y → IsTrue (seen (follow n (edge_of x.answer.label x.answer.slots)) y || seen beside y))
       → Outcome text f m p q r → Outcome text f n p q r
   lift_result text f p q (Ok id) g r k x = lift n m h i text p.prev_token_end g refl x (r id x) (k id x)
-  lift_result text f p q (Err Fatal) g r k x = record { at = x.at; follows = x.follows; grown = x.grown; stopped = x.stopped; lies = x.lies; heads = x.heads; none = λ u. lift_fails n m h i text p.prev_token_end g (x.none u); met = x.met }
+  lift_result text f p q (Err Fatal) g r k x = record { at = x.at; follows = x.follows; grown = x.grown; stopped = x.stopped; lies = x.lies; heads = x.heads; none = lift_fails n m h i text p.prev_token_end g x.none }
   lift_result text f p q (Err NoMemory) g r k x = tt
 
 -- What binds an operand less than n, binds it less than m, if it is none of these kinds; the checks compute.

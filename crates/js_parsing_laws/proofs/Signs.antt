@@ -1,10 +1,11 @@
 -- Whether a lexeme of some kind stands at a place, and what is kept there.
 use Rattle.std.proofs.Common.{ℕ, ◌≡◌, ◌≤◌, List, [], ◌∷◌, length, Bool, true, false, not, ◌&&◌, ◌||◌, IsTrue, refl, sym, ap, subst, arith, ◌∙◌}
-use Rattle.std.proofs.lemmas.Bool.{false≢true, and_parts}
+use Rattle.std.proofs.lemmas.Bool.{false≢true, and_parts, not-true}
 use Rattle.js_base.specs.declared.kind.Kind.{Kind}
 use Rattle.js_base.specs.declared.kind.Kind.TheVariants.{Question, Colon, PrivateIdentifier, RAngle, Undetermined}
 use Rattle.js_base.specs.declared.span.Span.{Span}
 use Rattle.js_base.specs.Kinds.{same_kind, one_of_kinds}
+use Rattle.js_base.specs.KindSets.{identifier_name_kinds}
 use Rattle.js_base.specs.Texts.{words}
 use Rattle.js_grammar.specs.Grammar.{Lexeme, Look, is, seen}
 use Rattle.js_grammar.specs.Lexemes.{is_word, is_escaped}
@@ -14,7 +15,7 @@ use Rattle.js_cursor.specs.Parsers.{Parser}
 use Rattle.js_cursor.specs.Moves.{is_last}
 use Rattle.js_base.proofs.KindLemmas.{kind_of_same}
 use Rattle.js_grammar.specs.Lexed.{Lex as StandsBehind, all_faults}
-use Rattle.js_parsing_laws.specs.Lexemes.{Lex, other_goals, read_word}
+use Rattle.js_parsing_laws.specs.Lexemes.{Lex, other_goals, is_read_kind}
 use Rattle.js_parsing_laws.specs.States.{At}
 use Rattle.js_parsing_laws.proofs.Here.{found, told_plain, uncut, kind_here, unsettled}
 use Rattle.js_parsing_laws.proofs.Escapes.{read_listed, read_plain}
@@ -25,7 +26,6 @@ use Rattle.js_grammar.proofs.Lexemes.{first_or}
 use Rattle.js_grammar.proofs.Looks.{covers, covered}
 use Rattle.js_lex.specs.Reading.{Tells}
 use Rattle.js_parsing_laws.specs.Answers.{Grown, Verdict, clean, unclean, wider}
-use Rattle.js_parsing_laws.specs.Lexemes.{read_kinds}
 use Rattle.js_parsing_laws.specs.Moves.{IsWholeHere, Tightness, unpassable}
 use Rattle.js_parsing_laws.specs.Operators.{power_of}
 use Rattle.js_parsing_laws.specs.Stands.{ending_kinds, Ended}
@@ -40,10 +40,6 @@ use Rattle.js_parsing_laws.specs.Lexemes.{slashes, template_tails}
 
 unescaped : (k : Kind) (u : List ℕ) → (is_word k || same_kind PrivateIdentifier k) ≡ false → is_escaped k u ≡ false
 unescaped k u w = ap (λ (b : Bool). b && has_backslash u) w
-
-is_not : (b : Bool) → not b ≡ true → b ≡ false
-is_not true h = absurd (false≢true h)
-is_not false h = refl
 
 -- a punctuator has no escape
 pub plain_sign : {text : List ℕ} {f : Flags} {p : Parser} (k : Kind) → At text f p → p.token.kind ≡ k → same_kind RAngle k ≡ false → is_last k ≡ false → (is_word k || same_kind PrivateIdentifier k) ≡ false → p.token.escaped ≡ false
@@ -61,7 +57,7 @@ plain_among {p = p} ks a c h =
     let k = p.token.kind in
     let x = and_parts (not (same_kind RAngle k)) _ (covered (λ k w e. one_of_kinds ks k) signlike c k false false h) in
     let y = and_parts (not (is_last k)) _ x.1 in
-    plain_sign k a refl (is_not (same_kind RAngle k) x.0) (is_not (is_last k) y.0) (is_not (is_word k || same_kind PrivateIdentifier k) y.1)
+    plain_sign k a refl (not-true (same_kind RAngle k) x.0) (not-true (is_last k) y.0) (not-true (is_word k || same_kind PrivateIdentifier k) y.1)
 
 -- it may be passed
 pub whole_sign : {text : List ℕ} {f : Flags} {p : Parser} (k : Kind) → At text f p → p.token.kind ≡ k → same_kind RAngle k ≡ false → unpassable k ≡ false → IsWholeHere p
@@ -77,9 +73,9 @@ other_kind a k n = go (same_kind a k) refl
 of_ending : (P : Kind → Type 0) (k : Kind) → one_of_kinds ending_kinds k ≡ true → P Eof → P Question → P Colon → P Comma → P Semicolon → P RParen → P RBrack → P k
 of_ending P k h a b c d e f g = first_or P Eof k _ _ refl h a (λ h. first_or P Question k _ _ refl h b (λ h. first_or P Colon k _ _ refl h c (λ h. first_or P Comma k _ _ refl h d (λ h. first_or P Semicolon k _ _ refl h e (λ h. first_or P RParen k _ _ refl h f (λ h. first_or P RBrack k _ _ refl h g (λ h. absurd (false≢true h))))))))
 
-ending_plain : (k : Kind) → one_of_kinds ending_kinds k ≡ true → ((is_word k || same_kind PrivateIdentifier k) ≡ false) × (one_of_kinds read_kinds k ≡ true) × (k ≡ Undetermined → ⊥)
+ending_plain : (k : Kind) → one_of_kinds ending_kinds k ≡ true → ((is_word k || same_kind PrivateIdentifier k) ≡ false) × (is_read_kind k ≡ true) × (k ≡ Undetermined → ⊥)
 unfolding words
-ending_plain k h = of_ending (λ k. ((is_word k || same_kind PrivateIdentifier k) ≡ false) × (one_of_kinds read_kinds k ≡ true) × (k ≡ Undetermined → ⊥)) k h (refl, refl, λ e. cc) (refl, refl, λ e. cc) (refl, refl, λ e. cc) (refl, refl, λ e. cc) (refl, refl, λ e. cc) (refl, refl, λ e. cc) (refl, refl, λ e. cc)
+ending_plain k h = of_ending (λ k. ((is_word k || same_kind PrivateIdentifier k) ≡ false) × (is_read_kind k ≡ true) × (k ≡ Undetermined → ⊥)) k h (refl, refl, λ e. cc) (refl, refl, λ e. cc) (refl, refl, λ e. cc) (refl, refl, λ e. cc) (refl, refl, λ e. cc) (refl, refl, λ e. cc) (refl, refl, λ e. cc)
 
 -- a lexeme stands there, be it the end
 there : {text : List ℕ} {f : Flags} {p : Parser} → At text f p → p.cut ≡ false → (p.token.kind ≡ Undetermined → ⊥) → (y : Lexeme) × StandsBehind all_faults text p.prev_token_end y × Tells y p.token
@@ -153,17 +149,17 @@ abbrev pub NoneIs : List ℕ → ℕ → Kind → Type 0
 NoneIs text s k = (y : Lexeme) → Lex text s y → y.kind ≡ k → y.escaped ≡ false → ⊥
 
 pub none_seen : {text : List ℕ} {s : ℕ} {k : Kind} → NoneIs text s k → (y : Lexeme) → Lex text s y → IsTrue (seen (is k) y) → ⊥
-none_seen {k = k} n y l h = let z = and_parts (same_kind k y.kind) (not y.escaped) h in n y l (sym (kind_of_same k y.kind z.0)) (is_not y.escaped z.1)
+none_seen {k = k} n y l h = let z = and_parts (same_kind k y.kind) (not y.escaped) h in n y l (sym (kind_of_same k y.kind z.0)) (not-true y.escaped z.1)
 
 module _ {text : List ℕ} {f : Flags} {p : Parser} (a : At text f p) where
   pub word_there : {k : Kind} → p.token.kind ≡ k → p.token.escaped ≡ false → one_of_kinds unsettled k ≡ false → AllAre text p.prev_token_end k
   word_there e w n y l = (kind_here a e n y l, escaped_here a y l ∙ w)
 
   -- of a sign
-  pub stands_there : {k : Kind} → p.token.kind ≡ k → (read_word k || one_of_kinds unsettled k) ≡ false → AllAre text p.prev_token_end k
-  stands_there {k} e n y l = go (read_word k) refl n
+  pub stands_there : {k : Kind} → p.token.kind ≡ k → (one_of_kinds identifier_name_kinds k || one_of_kinds unsettled k) ≡ false → AllAre text p.prev_token_end k
+  stands_there {k} e n y l = go (one_of_kinds identifier_name_kinds k) refl n
     where
-      go : (b : Bool) → read_word k ≡ b → (b || one_of_kinds unsettled k) ≡ false → (y.kind ≡ k) × (y.escaped ≡ false)
+      go : (b : Bool) → one_of_kinds identifier_name_kinds k ≡ b → (b || one_of_kinds unsettled k) ≡ false → (y.kind ≡ k) × (y.escaped ≡ false)
       go true i h = absurd (false≢true (sym h))
       go false i h = let z = kind_here a e h y l in (z, read_plain y l z i)
 

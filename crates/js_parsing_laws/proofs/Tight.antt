@@ -13,7 +13,7 @@ use Rattle.js_grammar.specs.Trees.{binary_expression, logical_expression}
 use Rattle.js_grammar.proofs.RightEdges.{of_operand}
 use Rattle.js_grammar.proofs.Looks.{covers, covered}
 use Rattle.js_grammar.proofs.Towers.{OneOf, head, later}
-use Rattle.js_parsing_laws.specs.Lexemes.{Lex, Plain, is_plain, is_read, other_goals, read_kinds}
+use Rattle.js_parsing_laws.specs.Lexemes.{Lex, Plain, is_plain, is_read, other_goals, is_read_kind}
 use Rattle.js_parsing_laws.specs.Answers.{beside}
 use Rattle.js_parsing_laws.specs.Operators.{power_of}
 use Rattle.js_parsing_laws.proofs.Paths.{reads}
@@ -124,14 +124,14 @@ abbrev binds : Bool → Look
 binds b k w e = nat_lt 0 (power_of b k) && not e
 
 abbrev is_operator : Look
-is_operator k w e = one_of_kinds read_kinds k && not (beside k w e)
+is_operator k w e = is_read_kind k && not (beside k w e)
 
 binds_at : (b : Bool) → covers (binds b) is_operator ≡ true
 unfolding covers
 binds_at true = refl
 binds_at false = refl
 
-pub operator_read : (b : Bool) (k : Kind) (w : Bool) → 1 ≤ power_of b k → (one_of_kinds read_kinds k ≡ true) × (not (beside k w false) ≡ true)
+pub operator_read : (b : Bool) (k : Kind) (w : Bool) → 1 ≤ power_of b k → (is_read_kind k ≡ true) × (not (beside k w false) ≡ true)
 operator_read b k w h = and_parts _ _ (covered (binds b) is_operator (binds_at b) k w false (and_from _ _ (lt-ltb 0 (power_of b k) (omega arith)) refl))
 
 -- of what is read, only operators of a level bind, or what binds less or more than all of them

@@ -18,7 +18,6 @@ use Rattle.js_parsing_laws.specs.States.{At, Same, IsPlain, whole, sign, nothing
 use Rattle.js_parsing_laws.proofs.Here.{found, uncut}
 use Rattle.js_parsing_laws.specs.Classes.{IsEarly}
 use Rattle.js_parsing_laws.proofs.Classes.{kept_early}
-use Rattle.js_parsing_laws.proofs.ToEnd.{to_end_stays}
 
 pub beside_errors : {text : List ℕ} {f : Flags} {p : Parser} {ds : List Diagnostic} → At text f p → IsAt (record p { errors = ds }) → At text f (record p { errors = ds })
 beside_errors {text} {f} {p} {ds} a i = record { text_is = a.text_is; flags_are = a.flags_are; at = i; plain = plain_of a.plain; behind = a.behind; heads = a.heads; kept_last = a.kept_last }
@@ -33,7 +32,7 @@ module _ {d : Diagnostic} {p r : Parser} (k : KeepsOne d p r) where
   told_at {text} {f} a = subst (λ (z : Parser). At text f z) (sym k.is) (beside_errors a (subst IsAt k.is k.at))
 
   pub told_same : IsEarly d → Same p r
-  told_same e = record { follows = keeps_follows k; options = ap (λ (z : Parser). z.options) k.is; ctx = ap (λ (z : Parser). z.ctx) k.is; depth = ap (λ (z : Parser). z.depth) k.is; visits = ap (λ (z : Parser). z.visits) k.is; early = λ h. kept_early k e h; lies = λ h. subst SpansLie (sym k.is) h; meets = to_end_stays p r (ap (λ (z : Parser). z.text) k.is) (ap (λ (z : Parser). z.prev_token_end) k.is) }
+  told_same e = record { follows = keeps_follows k; options = ap (λ (z : Parser). z.options) k.is; ctx = ap (λ (z : Parser). z.ctx) k.is; depth = ap (λ (z : Parser). z.depth) k.is; visits = ap (λ (z : Parser). z.visits) k.is; early = λ h. kept_early k e h; lies = λ h. subst SpansLie (sym k.is) h }
 
 -- the lexeme that stands here
 pub lexeme_marked : {text : List ℕ} {f : Flags} {p : Parser} {k : Kind} → At text f p → StandsHere p k true → same_kind RAngle k ≡ false → is_last k ≡ false → LexemeAt (of_kinds (k ∷ [])) (goal p) p.text p.token.span

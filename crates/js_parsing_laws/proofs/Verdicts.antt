@@ -6,7 +6,7 @@ joined_lists : {K : Type 0} (a b c : List K) → (a ++ b) ++ c ≡ a ++ (b ++ c)
 joined_lists [] b c = refl
 joined_lists (x ∷ a) b c = ap (λ v. x ∷ v) (joined_lists a b c)
 
-ending : {K : Type 0} (a b : List K) → a ++ b ≡ [] → b ≡ []
+pub ending : {K : Type 0} (a b : List K) → a ++ b ≡ [] → b ≡ []
 ending [] b e = e
 ending (x ∷ a) b e = cc
 

@@ -1,8 +1,7 @@
 -- What the parse functions answer: which nonterminal was read, by which node; or that nothing is derived.
-use Rattle.std.specs.Prelude.{ℕ, ◌≡◌, ◌<◌, ◌≤◌, Bool, true, false, not, ◌||◌, nat_eq, IsTrue, List, [], ◌++◌, length, slice_get, ◌-◌, Some, Result, Ok, Err}
+use Rattle.std.specs.Prelude.{ℕ, ◌≡◌, ◌<◌, ◌≤◌, true, not, ◌||◌, nat_eq, IsTrue, List, [], ◌++◌, length, Result, Ok, Err}
 use Rattle.js_base.specs.declared.kind.Kind.TheVariants.{Arrow}
-use Rattle.js_base.specs.declared.diagnostic.Diagnostic.{Diagnostic}
-use Rattle.js_base.specs.Kinds.{same_kind, one_of_kinds}
+use Rattle.js_base.specs.Kinds.{same_kind}
 use Rattle.js_grammar.specs.Trees.{Slots, end as no_slots, tree, Label}
 use Rattle.js_grammar.specs.Grammar.{Lexeme, Lexemes, Look, seen, such, nothing}
 use Rattle.js_grammar.specs.Follow.{edge_of, row_of, follow, after, on_line}
@@ -10,7 +9,6 @@ use Rattle.js_grammar.specs.Parsing.{Test, Goes, Fails, always}
 use Rattle.js_grammar.proofs.RightEdges.{may_end}
 use Rattle.js_grammar.specs.Productions.{G, Flags, Symbol}
 use Rattle.js_grammar.specs.Table.{rule}
-use Rattle.js_lex.specs.Reading.{Tells}
 use Rattle.js_tree.specs.declared.id.NodeId.{NodeId}
 use Rattle.js_tree.specs.Holding.{Holds, Keeps}
 use Rattle.js_cursor.specs.Checkpoints.{Follows}
@@ -18,7 +16,7 @@ use Rattle.js_cursor.specs.Parsers.{Parser}
 use Rattle.js_cursor.specs.Places.{IsAt}
 use Rattle.js_cursor.specs.declared.stop.Stop.{Stop}
 use Rattle.js_cursor.specs.declared.stop.Stop.TheVariants.{Fatal, NoMemory}
-use Rattle.js_parsing_laws.specs.Lexemes.{Lex, NoneToEnd, Plain, Walked, spot, unbuilt_kinds}
+use Rattle.js_parsing_laws.specs.Lexemes.{Lex, Plain, Walked, spot}
 use Rattle.js_parsing_laws.specs.Heads.{NotedHeads}
 use Rattle.js_parsing_laws.specs.States.{At, Same, NodesLie, SpansLie}
 use Rattle.js_parsing_laws.specs.Classes.{IsEarly, EndedByLast}
@@ -69,22 +67,7 @@ pub record Numbered (text : List ℕ) (f : Flags) (n : Symbol) (old new : Parser
   pub holds : Holds new.nodes (length old.nodes) (length new.nodes) id.0 answer.label answer.slots
   pub keeps : Keeps old.nodes new.nodes
 
--- A lexeme stands here with which a production begins that isn't built yet, and the last diagnostic is told of it.
-pub record Unbuilt (p : Parser) : Type 0 where
-  pub lexeme : Lexeme
-  pub stands : Lex p.text p.prev_token_end lexeme
-  pub kind : one_of_kinds unbuilt_kinds lexeme.kind ≡ true
-  pub tells : Tells lexeme p.token
-  pub last : Diagnostic
-  pub is : slice_get p.errors (length p.errors - 1) ≡ Some last
-  pub begins : last.span.start ≡ p.token.span.start
-
--- whether the parser stopped so
-abbrev pub StopsUnbuilt : Parser → Bool → Type 0
-StopsUnbuilt p true = Unbuilt p
-StopsUnbuilt p false = Unbuilt p → ⊥
-
--- Why a call stops: what is due can't be derived, and a diagnostic was kept, the last one of a class that ends a parse; or memory was refused, of which nothing is said. Where a production would have to be built, nothing is said of what is derived; then no lexemes without braces lead on to the end of the text.
+-- Why a call stops: what is due can't be derived, and a diagnostic was kept, the last one of a class that ends a parse; or memory was refused, of which nothing is said.
 pub record Refuses (old new : Parser) (F : Type 0) : Type 0 where
   pub at : IsAt new
   pub follows : Follows old new
@@ -92,8 +75,7 @@ pub record Refuses (old new : Parser) (F : Type 0) : Type 0 where
   pub stopped : All IsEarly old.errors → EndedByLast new.errors
   pub lies : SpansLie old → NodesLie new.text new.nodes
   pub heads : NotedHeads new
-  pub none : (Unbuilt new → ⊥) → F
-  pub met : Unbuilt new → NoneToEnd old.text old.prev_token_end
+  pub none : F
 
 abbrev pub Stops : Parser → Parser → Stop → Type 0 → Type 0
 Stops old new Fatal F = Refuses old new F

@@ -1,10 +1,11 @@
--- The lexemes that the parse functions read so far: all but private names and the `@` of decorators. Of a text with another one nothing is said.
-use Rattle.std.specs.Prelude.{ℕ, ◌-◌, ◌≡◌, Bool, true, false, not, cond, ◌&&◌, ◌||◌, List, [], ◌∷◌, ◌++◌, length, take, IsTrue}
+-- The lexemes that the parse functions read: all but private names, the `@` of decorators and a hashbang comment. Nothing is derived over another one.
+use Rattle.std.specs.Prelude.{ℕ, ◌-◌, ◌≡◌, Bool, true, false, not, cond, ◌&&◌, List, [], ◌∷◌, ◌++◌, length, take, IsTrue}
 use Rattle.js_base.specs.declared.diagnostic.Diagnostic.{Diagnostic}
 use Rattle.js_base.specs.declared.kind.Kind.{Kind}
-use Rattle.js_base.specs.declared.kind.Kind.TheVariants.{Ident, Let, Static, Implements, Interface, Package, Private, Protected, Public, Of, Get, Set, As, From, Assert, Accessor, Using, Defer, Source, Meta, Satisfies, Constructor, TypeWord, Target, Yield, Await, This, Null, True, False, Typeof, Void, Delete, In, Instanceof, Decimal, Float, Binary, Octal, Hex, PositiveExponential, NegativeExponential, DecimalBigInt, BinaryBigInt, OctalBigInt, HexBigInt, Str, RegExp, NoSubstitutionTemplate, TemplateHead, TemplateMiddle, TemplateTail, Tilde, Bang, Plus, Minus, Star, Star2, Slash, Percent, Eq2, Eq3, Neq, Neq2, LAngle, LtEq, RAngle, GtEq, ShiftLeft, ShiftRight, ShiftRight3, Amp, Amp2, Pipe, Pipe2, Caret, Question, Colon, Comma, Eof, Dot, QuestionDot, New, Super, Break, Continue, Return, Debugger, Function, Throw, Switch, Case, Default, Try, Catch, Finally, For, If, Else, While, Do, With, Var, Const, Enum, Extends, Class, Import, Export, Plus2, Minus2, Eq, PlusEq, MinusEq, StarEq, SlashEq, PercentEq, ShiftLeftEq, ShiftRightEq, ShiftRight3Eq, PipeEq, CaretEq, AmpEq, Amp2Eq, Pipe2Eq, Question2Eq, Star2Eq, Semicolon, LParen, RParen, Question2, LBrack, RBrack, LCurly, RCurly, Dot3, Arrow, Async}
+use Rattle.js_base.specs.declared.kind.Kind.TheVariants.{Ident, Yield, Await, At, PrivateIdentifier, HashbangComment, Undetermined, RegExp, TemplateMiddle, TemplateTail, Slash, SlashEq, RCurly}
 use Rattle.js_base.specs.Kinds.{same_kind, one_of_kinds}
-use Rattle.js_grammar.specs.Grammar.{Lexeme, Lexemes, last, next}
+use Rattle.js_base.specs.KindSets.{binding_identifier_kinds}
+use Rattle.js_grammar.specs.Grammar.{Lexeme, Lexemes, next}
 use Rattle.js_grammar.specs.Lexed.{Lex as StandsBehind, Lexes, all_faults, passing_of}
 use Rattle.js_grammar.specs.Lexemes.{LexicalGoal, division, regular_expression, template_tail}
 use Rattle.js_grammar.specs.Settings.{Goal}
@@ -18,18 +19,18 @@ use Rattle.js_lex.specs.States.{State}
 use Rattle.js_cursor.specs.Parsers.{Parser}
 use Rattle.js_cursor.specs.Places.{goal}
 
--- Names, and the words that may be names (ECMA-262, 13.1): those that aren't reserved.
-abbrev pub name_kinds : List Kind
-name_kinds = Ident ∷ Let ∷ Static ∷ Implements ∷ Interface ∷ Package ∷ Private ∷ Protected ∷ Public ∷ Of ∷ Get ∷ Set ∷ As ∷ From ∷ Assert ∷ Accessor ∷ Using ∷ Defer ∷ Source ∷ Meta ∷ Satisfies ∷ Constructor ∷ TypeWord ∷ Target ∷ Async ∷ Yield ∷ Await ∷ []
-
--- Which of them are names, by the parameters Yield and Await: all, but for `yield` under Yield and `await` under Await.
+-- Whether it is a name by the parameters Yield and Await (ECMA-262, 13.1): a name or a word that isn't reserved, but for `yield` under Yield and `await` under Await.
 abbrev pub may_name : Bool → Bool → Kind → Bool
 may_name yields awaits Yield = not yields
 may_name yields awaits Await = not awaits
-may_name yields awaits k = one_of_kinds name_kinds k
+may_name yields awaits k = one_of_kinds binding_identifier_kinds k
 
-abbrev pub read_kinds : List Kind
-read_kinds = Eof ∷ This ∷ Null ∷ True ∷ False ∷ Typeof ∷ Void ∷ Delete ∷ In ∷ Instanceof ∷ Decimal ∷ Float ∷ Binary ∷ Octal ∷ Hex ∷ PositiveExponential ∷ NegativeExponential ∷ DecimalBigInt ∷ BinaryBigInt ∷ OctalBigInt ∷ HexBigInt ∷ Str ∷ RegExp ∷ NoSubstitutionTemplate ∷ TemplateHead ∷ TemplateMiddle ∷ TemplateTail ∷ Tilde ∷ Bang ∷ Plus ∷ Minus ∷ Star ∷ Star2 ∷ Slash ∷ Percent ∷ Eq2 ∷ Eq3 ∷ Neq ∷ Neq2 ∷ LAngle ∷ LtEq ∷ RAngle ∷ GtEq ∷ ShiftLeft ∷ ShiftRight ∷ ShiftRight3 ∷ Amp ∷ Amp2 ∷ Pipe ∷ Pipe2 ∷ Caret ∷ Question ∷ Question2 ∷ Colon ∷ Comma ∷ Dot ∷ QuestionDot ∷ New ∷ Super ∷ Break ∷ Continue ∷ Return ∷ Function ∷ Debugger ∷ Throw ∷ Switch ∷ Case ∷ Default ∷ Try ∷ Catch ∷ Finally ∷ For ∷ If ∷ Else ∷ While ∷ Do ∷ With ∷ Var ∷ Const ∷ Enum ∷ Extends ∷ Class ∷ Import ∷ Export ∷ Plus2 ∷ Minus2 ∷ Eq ∷ PlusEq ∷ MinusEq ∷ StarEq ∷ SlashEq ∷ PercentEq ∷ ShiftLeftEq ∷ ShiftRightEq ∷ ShiftRight3Eq ∷ PipeEq ∷ CaretEq ∷ AmpEq ∷ Amp2Eq ∷ Pipe2Eq ∷ Question2Eq ∷ Star2Eq ∷ Semicolon ∷ LParen ∷ RParen ∷ LBrack ∷ RBrack ∷ LCurly ∷ RCurly ∷ Dot3 ∷ Arrow ∷ name_kinds
+-- The kinds that aren't read, and that of a token where no lexeme stands.
+abbrev pub unread_kinds : List Kind
+unread_kinds = At ∷ PrivateIdentifier ∷ HashbangComment ∷ Undetermined ∷ []
+
+abbrev pub is_read_kind : Kind → Bool
+is_read_kind k = not (one_of_kinds unread_kinds k)
 
 -- The signs that may stand where a regular expression begins: which of them it is depends on the lexical goal (ECMA-262, 12).
 abbrev pub slashes : List Kind
@@ -65,51 +66,7 @@ keyword_kind t = cond t.escaped Ident t.kind
 
 -- a lexeme of these kinds
 abbrev pub is_read : Lexeme → Bool
-is_read y = one_of_kinds read_kinds y.kind
-
--- the reserved words among them
-abbrev pub read_reserved : Kind → Bool
-read_reserved This = true
-read_reserved Null = true
-read_reserved True = true
-read_reserved False = true
-read_reserved Typeof = true
-read_reserved Void = true
-read_reserved Delete = true
-read_reserved In = true
-read_reserved Instanceof = true
-read_reserved New = true
-read_reserved Super = true
-read_reserved Break = true
-read_reserved Continue = true
-read_reserved Return = true
-read_reserved Function = true
-read_reserved Debugger = true
-read_reserved Throw = true
-read_reserved Switch = true
-read_reserved Case = true
-read_reserved Default = true
-read_reserved Try = true
-read_reserved Catch = true
-read_reserved Finally = true
-read_reserved For = true
-read_reserved If = true
-read_reserved Else = true
-read_reserved While = true
-read_reserved Do = true
-read_reserved With = true
-read_reserved Var = true
-read_reserved Const = true
-read_reserved Enum = true
-read_reserved Extends = true
-read_reserved Class = true
-read_reserved Import = true
-read_reserved Export = true
-read_reserved _ = false
-
--- the words among them
-abbrev pub read_word : Kind → Bool
-read_word k = one_of_kinds name_kinds k || read_reserved k
+is_read y = is_read_kind y.kind
 
 -- y may be the next lexeme behind the place s, and is one of those
 abbrev pub Lex : List ℕ → ℕ → Lexeme → Type 0
@@ -122,23 +79,7 @@ is_plain y = is_read y && not (one_of_kinds other_goals y.kind)
 abbrev pub Plain : List ℕ → ℕ → Lexeme → Type 0
 Plain text s y = StandsBehind all_faults text s y × IsTrue (is_plain y)
 
--- Kinds at which nothing would be said of what is derived where no production that is built begins with them. There are none: the productions that aren't built are no lines of the table `rule`.
-abbrev pub unbuilt_kinds : List Kind
-unbuilt_kinds = []
-
--- a lexeme that is read, the same in every lexical goal: nothing that begins with a brace or a slash
-abbrev pub Braceless : List ℕ → ℕ → Lexeme → Type 0
-Braceless text s y = Lex text s y × (one_of_kinds (LCurly ∷ RCurly ∷ []) y.kind ≡ false) × (one_of_kinds other_goals y.kind ≡ false) × (one_of_kinds slashes y.kind ≡ false)
-
-abbrev pub last_of : Lexemes → Lexeme
-last_of (last x) = x
-last_of (next x ls) = last_of ls
-
--- no such lexemes lead from the place to the end of the text
-abbrev pub NoneToEnd : List ℕ → ℕ → Type 0
-NoneToEnd text s = (ls : Lexemes) → Lexes (Braceless text) s ls → (last_of ls).kind ≡ Eof → ⊥
-
--- the same, with no fault: in a module no HTML-like comment stands before it (ECMA-262, B.1.1)
+-- A lexeme that is read may stand there with no fault: in a module no HTML-like comment stands before it (ECMA-262, B.1.1)
 abbrev pub Faultless : Goal → List ℕ → ℕ → Lexeme → Type 0
 Faultless source text s y = StandsBehind (passing_of source) text s y × IsTrue (is_read y)
 

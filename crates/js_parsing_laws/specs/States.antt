@@ -9,7 +9,7 @@ use Rattle.js_cursor.specs.Checkpoints.{Follows}
 use Rattle.js_cursor.specs.Parsers.{Parser}
 use Rattle.js_cursor.specs.Places.{IsAt}
 use Rattle.js_parsing_laws.specs.Heads.{NotedHeads, flags_in, widened}
-use Rattle.js_parsing_laws.specs.Lexemes.{KeptLast, NoneToEnd}
+use Rattle.js_parsing_laws.specs.Lexemes.{KeptLast}
 use Rattle.js_parsing_laws.specs.Classes.{IsEarly}
 use Rattle.std.specs.List.{All}
 use Rattle.js_parsing_laws.specs.NodeTexts.{NodeFits}
@@ -47,7 +47,7 @@ NodesLie text ns = All (NodeFits text) ns
 abbrev pub SpansLie : Parser → Type 0
 SpansLie p = IsCharBoundary p.text p.token.span.start × NodesLie p.text p.nodes
 
--- What a parse function gives back as it was; what was kept before is kept still, and of the diagnostics that were kept since each is one behind which reading goes on. The nodes that were made since lie in the text. Where no lexemes without braces lead from the new place to the end of the text, none do from the old one.
+-- What a parse function gives back as it was; what was kept before is kept still, and of the diagnostics that were kept since each is one behind which reading goes on. The nodes that were made since lie in the text.
 pub record Same (old new : Parser) : Type 0 where
   pub follows : Follows old new
   pub options : new.options ≡ old.options
@@ -56,4 +56,3 @@ pub record Same (old new : Parser) : Type 0 where
   pub visits : new.visits ≡ old.visits
   pub early : All IsEarly old.errors → All IsEarly new.errors
   pub lies : SpansLie old → SpansLie new
-  pub meets : NoneToEnd new.text new.prev_token_end → NoneToEnd old.text old.prev_token_end

@@ -1,17 +1,15 @@
 -- What stands behind a rest (ECMA-262, 14.3.3, 15.1): the closing bracket is due, and a comma is told of, which only the wider form has.
-use Rattle.std.proofs.Common.{ℕ, ◌≡◌, ◌<◌, List, [], ◌∷◌, length, Option, Bool, None, true, false, ◌||◌, IsCharBoundary, refl, sym, ap, subst, arith, ◌∙◌}
+use Rattle.std.proofs.Common.{ℕ, ◌≡◌, ◌<◌, List, [], ◌∷◌, length, Option, Bool, None, true, false, IsCharBoundary, refl, sym, ap, subst, arith, ◌∙◌}
 use Rattle.std.proofs.lemmas.Bool.{false≢true, and_parts, and_from}
 use Rattle.js_base.specs.declared.diagnostic.Diagnostic.{Diagnostic}
 use Rattle.js_base.specs.declared.diagnostic.DiagnosticKind.{DiagnosticKind}
 use Rattle.js_base.specs.declared.diagnostic.DiagnosticKind.TheVariants.{RestElementTrailingComma}
 use Rattle.js_base.specs.declared.kind.Kind.{Kind}
-use Rattle.js_base.specs.declared.kind.Kind.TheVariants.{RAngle, RParen, RBrack, RCurly, Comma, Dot3, PrivateIdentifier}
+use Rattle.js_base.specs.declared.kind.Kind.TheVariants.{RAngle, RParen, RBrack, RCurly, Comma, Dot3}
 use Rattle.js_base.specs.declared.source_type.SourceType.{SourceType}
 use Rattle.js_base.specs.declared.span.Span.{Span}
 use Rattle.js_base.specs.Kinds.{same_kind, one_of_kinds}
-use Rattle.js_base.specs.Texts.{words}
 use Rattle.js_base.proofs.KindLemmas.{kind_of_same}
-use Rattle.js_grammar.specs.Lexemes.{is_word}
 use Rattle.js_grammar.specs.Lexed.{Lex as StandsBehind, all_faults}
 use Rattle.js_grammar.specs.LexicalFaults.{Reached}
 use Rattle.js_grammar.specs.Marks.{Mark, StandsAt, BeginsWith, of_kinds}
@@ -52,13 +50,10 @@ use Rattle.js_parsing_laws.proofs.Paths.{fails_at, passes, walked_one, walked_to
 use Rattle.js_pattern_laws.proofs.Lists.{more_from, none_yet}
 use Rattle.js_parsing_laws.proofs.Told.{told_at, told_same, lexeme_marked}
 use Rattle.js_parsing_laws.proofs.Verdicts.{grown_then}
+use Rattle.js_parsing_laws.proofs.PlainSigns.{comma_plain, dots_plain}
 use Rattle.js_grammar.proofs.Frame.{append_end}
 use Rattle.js_grammar.specs.Trees.{Slots, end}
 use Rattle.js_parsing_laws.specs.Classes.{IsEarly, EndsParse}
-
-dots_plain : (is_word Dot3 || same_kind PrivateIdentifier Dot3) ≡ false
-unfolding words
-dots_plain = refl
 
 -- what has its mark has it later too
 pub mark_later : {p q : Parser} {d : Diagnostic} → Same p q → Mark (goal p) p.text d → Mark (goal q) q.text d
@@ -83,10 +78,6 @@ rest_marked {text} {f} {p} {q} k s {d} g h a e b c l i j = mark_later c (subst (
 -- a claim on all of them
 of_closer : (P : Kind → Type 0) (k : Kind) → one_of_kinds closers k ≡ true → P RParen → P RBrack → P RCurly → P k
 of_closer P k h a b c = first_or P RParen k _ _ refl h a (λ h. first_or P RBrack k _ _ refl h b (λ h. first_or P RCurly k _ _ refl h c (λ h. absurd (false≢true h))))
-
-comma_plain : (is_word Comma || same_kind PrivateIdentifier Comma) ≡ false
-unfolding words
-comma_plain = refl
 
 abbrev closing : Look
 closing k w e = one_of_kinds closers k

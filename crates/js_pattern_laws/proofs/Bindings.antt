@@ -1,13 +1,12 @@
 -- What is bound (ECMA-262, 14.3.3): names and array patterns, elements of these, and rests.
-use Rattle.std.proofs.Common.{ℕ, ◌≡◌, max, List, [], ◌∷◌, length, Option, Some, Bool, true, false, ◌||◌, refl, sym, ap, subst, arith, ◌∙◌}
+use Rattle.std.proofs.Common.{ℕ, ◌≡◌, max, List, [], ◌∷◌, length, Option, Some, Bool, true, false, refl, sym, ap, subst, arith, ◌∙◌}
 use Rattle.std.specs.Prelude.{Result, Ok, Err, MatchResult, IsCharBoundary}
 use Rattle.std.proofs.lemmas.Bool.{false≢true}
 use Rattle.js_base.specs.declared.kind.Kind.{Kind}
-use Rattle.js_base.specs.declared.kind.Kind.TheVariants.{RAngle, LBrack, LCurly, RBrack, RCurly, RParen, Comma, Dot3, Eq, PrivateIdentifier}
+use Rattle.js_base.specs.declared.kind.Kind.TheVariants.{RAngle, LBrack, LCurly, RBrack, RCurly, RParen, Comma, Dot3, Eq}
 use Rattle.js_base.specs.declared.span.Span.{Span}
 use Rattle.js_base.specs.Kinds.{same_kind, one_of_kinds}
-use Rattle.js_base.specs.Texts.{words}
-use Rattle.js_grammar.specs.Lexemes.{is_word}
+use Rattle.js_base.specs.KindSets.{binding_identifier_kinds}
 use Rattle.js_grammar.specs.Trees.{Slots, end, tree, Label, no_op, array_pattern, assignment_pattern, binding_identifier, formal_parameter_rest}
 use Rattle.js_grammar.specs.Grammar.{Look, here, alt, nothing, ◌▸◌}
 use Rattle.js_grammar.specs.Parsing.{Test, plain, full, behind, still, Goes, Fails}
@@ -31,7 +30,7 @@ use Rattle.js_cursor.specs.declared.stop.Stop.TheVariants.{Fatal, NoMemory}
 use Rattle.js_parsing_laws.specs.Answers.{Underived, Answer, Numbered, Outcome, Stops}
 use Rattle.js_parsing_laws.specs.Arguments.{Partway, behind_item, ItemOutcome, ItemTaken, NoItem, PartTaken}
 use Rattle.js_pattern_laws.specs.Bindings.{elements_left, rest_initialiser, PartOutcome, RestBound}
-use Rattle.js_parsing_laws.specs.Lexemes.{Lex, escaped_word, may_name, name_kinds}
+use Rattle.js_parsing_laws.specs.Lexemes.{Lex, may_name}
 use Rattle.js_parsing_laws.specs.Stands.{NameHere, StandsHere}
 use Rattle.js_parsing_laws.specs.Moves.{Moved, MadeHere, LeafTaken, TakesLeaf, plain_label, unpassable}
 use Rattle.js_parsing_laws.specs.States.{At, Same, NodesLie}
@@ -42,6 +41,7 @@ use Rattle.js_parsing_laws.proofs.Here.{kind_here}
 use Rattle.js_parsing_laws.proofs.MadeNodes.{leaf_held, node_held, one_held, two_held, one_lies, made_lies}
 use Rattle.js_parsing_laws.proofs.Moving.{beside_nodes, moves, same_both, same_with, stops_behind, stops_so}
 use Rattle.js_operand_laws.proofs.Operands.{by_path, name_leaf}
+use Rattle.js_operand_laws.proofs.Spreads.{ends_all}
 use Rattle.js_parsing_laws.proofs.NameKinds.{listed_name, name_apart, name_at, or_kind}
 use Rattle.js_parsing_laws.proofs.NamedFirsts.{fails_unnamed, fails_escaped}
 use Rattle.js_parsing_laws.proofs.Parts.{part_path, part_path_fails, part_sign, part_last, parts}
@@ -49,23 +49,8 @@ use Rattle.js_parsing_laws.proofs.Paths.{Path, ◌⟼◌, ◌⟶◌, ◌⟶✗�
 use Rattle.js_parsing_laws.proofs.Verdicts.{verdict_of, grown_then}
 use Rattle.js_parsing_laws.proofs.Verdicts.{after as grown_behind}
 use Rattle.js_parsing_laws.proofs.Classes.{here_ends}
+use Rattle.js_parsing_laws.proofs.PlainSigns.{eq_plain, bracket_plain, closing_bracket_plain, dots_plain}
 use Rattle.js_base.specs.declared.diagnostic.DiagnosticKind.TheVariants.{ExpectClosing}
-
-bracket_plain : (is_word LBrack || same_kind PrivateIdentifier LBrack) ≡ false
-unfolding words
-bracket_plain = refl
-
-closing_plain : (is_word RBrack || same_kind PrivateIdentifier RBrack) ≡ false
-unfolding words
-closing_plain = refl
-
-dots_plain : (is_word Dot3 || same_kind PrivateIdentifier Dot3) ≡ false
-unfolding words
-dots_plain = refl
-
-eq_plain : (is_word Eq || same_kind PrivateIdentifier Eq) ≡ false
-unfolding words
-eq_plain = refl
 
 -- what is read where whatever may stand behind it
 pub then_any : {text : List ℕ} {f : Flags} {X : Test} {g b : G} {p q : Parser} {h : Slots → Slots} → Path text f (plain full) g p nothing q h → Path text f X (g ▸ b) p b q h
@@ -101,7 +86,7 @@ unfolding rule rule_of
 bound_path a k m = by_symbol_as {X' = plain full} (λ l cs vs y d. (refl, refl)) (noded a (name_leaf a k m))
 
 -- no pattern begins with a name
-pub no_pattern_name : (k : Kind) → one_of_kinds name_kinds k ≡ true → one_of_kinds (LBrack ∷ LCurly ∷ []) k ≡ false
+pub no_pattern_name : (k : Kind) → one_of_kinds binding_identifier_kinds k ≡ true → one_of_kinds (LBrack ∷ LCurly ∷ []) k ≡ false
 unfolding apart
 no_pattern_name k h = name_apart (LBrack ∷ LCurly ∷ []) refl k h
 
@@ -160,7 +145,7 @@ module _ {text : List ℕ} {f : Flags} {o : Parser} (a : At text f o) (k : o.tok
 
     module _ {q : Parser} (e : p.token.kind ≡ RBrack) (m : Moved text f p q) where
       whole_pattern : Partway text f (brackets f) nothing o q [] js
-      whole_pattern = parts x (part_last RBrack x.at e (plain_sign RBrack x.at e refl refl closing_plain) refl m)
+      whole_pattern = parts x (part_last RBrack x.at e (plain_sign RBrack x.at e refl refl closing_bracket_plain) refl m)
 
       pattern_path : Path text f (after (at Binding f)) (rule (at Binding f)) o nothing q (tree (label_here array_pattern no_op o q) (whole_pattern.slots end))
       pattern_path = pattern_alone ⟼ by_symbol_as {X' = plain full} (λ l cs vs y d. (refl, refl)) (array_alone ⟼ noded a (part_path whole_pattern))
@@ -185,13 +170,9 @@ pattern_unclosed k opening p q NoMemory a h g = tt
 abbrev next_kinds : Look
 next_kinds k w e = one_of_kinds (Comma ∷ RParen ∷ RBrack ∷ RCurly ∷ []) k
 
-ends_itself : covers next_kinds next_kinds ≡ true
+pub ends_itself : covers next_kinds next_kinds ≡ true
 unfolding covers
 ends_itself = refl
-
-ends_surely : covers next_kinds (surest Assignment) ≡ true
-unfolding covers
-ends_surely = refl
 
 module _ {text : List ℕ} {f : Flags} {p q : Parser} (x : Answer text f (at Binding f) p q) where
   -- what is bound, before more
@@ -208,7 +189,7 @@ no_end_here a k = fails_nothing (λ ts y l e. false≢true (subst (λ (v : Kind)
 
 -- an initialiser ends before what ends an item
 pub on_initialiser : (f : Flags) {s : ℕ} → On rule behind_item (after (at Assignment (plus_in f))) end (symbol Assignment (plus_in f)) s
-on_initialiser f = record { admits = λ ts vs j ls rest d e. (surely (at Assignment (plus_in f))).admits ts (here rest) (covered next_kinds (surest Assignment) ends_surely (here rest).kind (here rest).newline (here rest).escaped e.0) }
+on_initialiser f = record { admits = λ ts vs j ls rest d e. (surely (at Assignment (plus_in f))).admits ts (here rest) (covered next_kinds (surest Assignment) ends_all (here rest).kind (here rest).newline (here rest).escaped e.0) }
 
 abbrev initialised : Flags → G
 initialised f = symbol Binding f ▸ tok Eq ▸ symbol Assignment (plus_in f)

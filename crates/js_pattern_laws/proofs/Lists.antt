@@ -1,15 +1,11 @@
 -- Lists between brackets: what is left of one behind each of its items, a gap, and what stands last.
-use Rattle.std.proofs.Common.{ℕ, ◌≡◌, ◌≤◌, ◌<◌, max, List, [], ◌∷◌, ◌++◌, length, Option, Some, None, Bool, true, false, ◌||◌, refl, sym, ap, subst, arith, ◌∙◌}
+use Rattle.std.proofs.Common.{ℕ, ◌≡◌, ◌≤◌, ◌<◌, max, List, [], ◌∷◌, ◌++◌, length, Option, Some, None, Bool, true, false, refl, sym, ap, subst, arith, ◌∙◌}
 use Rattle.std.specs.Prelude.{Ok}
-use Rattle.std.proofs.lemmas.Bool.{and_parts}
 use Rattle.js_base.specs.declared.kind.Kind.{Kind}
-use Rattle.js_base.specs.declared.kind.Kind.TheVariants.{RCurly, Comma, RParen, RBrack, PrivateIdentifier}
-use Rattle.js_base.specs.Kinds.{same_kind, one_of_kinds}
-use Rattle.js_base.specs.Texts.{words}
-use Rattle.js_base.proofs.KindLemmas.{kind_of_same}
+use Rattle.js_base.specs.declared.kind.Kind.TheVariants.{RCurly, Comma, RParen, RBrack}
+use Rattle.js_base.specs.Kinds.{one_of_kinds}
 use Rattle.js_grammar.specs.Trees.{Slots, end, hole, tree, append}
 use Rattle.js_grammar.specs.Grammar.{Lexeme, Look, here, is, next, seq, such, empty_slot}
-use Rattle.js_grammar.specs.Lexemes.{is_word}
 use Rattle.js_grammar.specs.Parsing.{plain, full, always, still, passing, Admits, Fails, Goes, Reads}
 use Rattle.js_grammar.specs.Productions.{G, Flags, Symbol, tok}
 use Rattle.js_grammar.specs.Table.{rest_of, rule}
@@ -44,6 +40,7 @@ use Rattle.js_parsing_laws.proofs.Paths.{passes, skips, walked_both, walked_one}
 use Rattle.js_parsing_laws.proofs.Stretches.{stretches}
 use Rattle.js_parsing_laws.proofs.Verdicts.{verdict_of, either_way, and_then}
 use Rattle.js_parsing_laws.proofs.Verdicts.{after as grown_behind}
+use Rattle.js_parsing_laws.proofs.PlainSigns.{comma_plain}
 use Rattle.js_pattern_laws.specs.Lists.{ListReadOn}
 
 -- ---- what is left of a list
@@ -157,10 +154,6 @@ none_yet {p = p} ids a = record {
   holds = λ lo us h. subst (λ (vs : Slots). HoldsAll p.nodes lo (length p.nodes) ids vs) (sym (append_end us)) h;
   keeps = Keeps-refl p.nodes;
 }
-
-comma_plain : (is_word Comma || same_kind PrivateIdentifier Comma) ≡ false
-unfolding words
-comma_plain = refl
 
 abbrev next_kinds : Look
 next_kinds k w e = one_of_kinds (Comma ∷ RParen ∷ RBrack ∷ RCurly ∷ []) k

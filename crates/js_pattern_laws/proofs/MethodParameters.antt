@@ -40,7 +40,7 @@ use Rattle.js_parsing_laws.proofs.Signs.{plain_sign, stands_not}
 use Rattle.js_parsing_laws.proofs.Escapes.{read_plain}
 use Rattle.js_parsing_laws.proofs.Verdicts.{grown_then, verdict_of}
 use Rattle.js_parsing_laws.proofs.Verdicts.{after as grown_behind}
-use Rattle.js_pattern_laws.proofs.ParameterLists.{open_plain, paren_plain}
+use Rattle.js_parsing_laws.proofs.PlainSigns.{paren_plain, closing_paren_plain}
 
 abbrev next_kinds : Look
 next_kinds k w e = one_of_kinds (Comma ∷ RParen ∷ RBrack ∷ RCurly ∷ []) k
@@ -66,11 +66,11 @@ module _ {text : List ℕ} {f : Flags} {p : Parser} (a : At text f p) where
 
   module _ (k : p.token.kind ≡ LParen) {q : Parser} (m : Moved text f p q) where
     opened : {b : G} → Partway text f (tok LParen ▸ b) b p q [] []
-    opened = part_sign LParen a k (plain_sign LParen a k refl refl open_plain) refl m
+    opened = part_sign LParen a k (plain_sign LParen a k refl refl paren_plain) refl m
 
     -- a getter's
     pub none_between : {r : Parser} → q.token.kind ≡ RParen → Moved text f q r → Partway text f (tok LParen ▸ nothing ▸ tok RParen) nothing p r [] []
-    none_between c n = parts opened (part_from done (part_last RParen m.at c (plain_sign RParen m.at c refl refl paren_plain) refl n))
+    none_between c n = parts opened (part_from done (part_last RParen m.at c (plain_sign RParen m.at c refl refl closing_paren_plain) refl n))
 
     pub getter_unclosed : (w : Parser) (e : Stop) → Stops q w e (one_of_kinds (RParen ∷ []) q.token.kind ≡ false) → Stops p w e (Fails rule (Lex text) (plain full) end (parameters_of Getter f) p.prev_token_end)
     unfolding covers apart
@@ -102,4 +102,4 @@ module _ {text : List ℕ} {f : Flags} {p : Parser} (a : At text f p) where
       setter_unclosed w e z = stops_behind w e with_parameter.same (λ g. grown_behind with_parameter.verdict g) (λ n. fails_node inside_full (part_path_fails with_parameter (fails_at x.at (tok RParen) (RParen ∷ []) refl n))) z
 
       pub one_between : {w : Parser} → r.token.kind ≡ RParen → Moved text f r w → Partway text f (tok LParen ▸ symbol Param f ▸ tok RParen) nothing p w [] (Some parameter ∷ [])
-      one_between c n = parts with_parameter (part_last RParen x.at c (plain_sign RParen x.at c refl refl paren_plain) refl n)
+      one_between c n = parts with_parameter (part_last RParen x.at c (plain_sign RParen x.at c refl refl closing_paren_plain) refl n)

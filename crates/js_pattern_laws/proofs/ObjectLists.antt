@@ -1,12 +1,10 @@
 -- Object patterns (ECMA-262, 14.3.3): the list between the braces, what is left of it behind a property or a rest.
-use Rattle.std.proofs.Common.{ℕ, ◌≡◌, List, [], ◌∷◌, ◌++◌, length, Option, Some, Bool, true, false, ◌||◌, refl, sym, ap, subst, arith, ◌∙◌}
+use Rattle.std.proofs.Common.{ℕ, ◌≡◌, List, [], ◌∷◌, ◌++◌, length, Option, Some, Bool, true, false, refl, sym, ap, subst, arith, ◌∙◌}
 use Rattle.std.proofs.lemmas.Bool.{false≢true}
 use Rattle.js_base.specs.declared.kind.Kind.{Kind}
-use Rattle.js_base.specs.declared.kind.Kind.TheVariants.{LCurly, RCurly, Comma, Dot3, PrivateIdentifier}
+use Rattle.js_base.specs.declared.kind.Kind.TheVariants.{LCurly, RCurly, Comma, Dot3}
 use Rattle.js_base.specs.declared.span.Span.{Span}
-use Rattle.js_base.specs.Kinds.{same_kind, one_of_kinds}
-use Rattle.js_base.specs.Texts.{words}
-use Rattle.js_grammar.specs.Lexemes.{is_word}
+use Rattle.js_base.specs.Kinds.{one_of_kinds}
 use Rattle.js_grammar.specs.Trees.{Label, end, tree, no_op, object_pattern}
 use Rattle.js_grammar.specs.Grammar.{never, nothing, seq, ◌▸◌}
 use Rattle.js_grammar.specs.Parsing.{plain, full, still, Goes, Fails}
@@ -44,20 +42,13 @@ use Rattle.js_parsing_laws.proofs.Moving.{stops_so}
 use Rattle.js_parsing_laws.proofs.Parts.{part_path, part_path_fails, part_sign, part_last, parts}
 use Rattle.js_parsing_laws.proofs.Paths.{Path, ◌⟼◌, at_kind, by_symbol_as, fails_at, label_here, noded}
 use Rattle.js_parsing_laws.proofs.Signs.{closing_there, plain_sign}
+use Rattle.js_parsing_laws.proofs.PlainSigns.{brace_plain, closing_brace_plain}
 use Rattle.js_pattern_laws.specs.Bindings.{rest_comma}
 use Rattle.js_pattern_laws.specs.ObjectPatterns.{named_rest, properties_left}
 use Rattle.js_pattern_laws.proofs.Lists.{end_due, item_comma, item_due, item_fails, item_last, item_more, last_due, more_from, none_yet, rest_fails, rest_more}
 
-opening_plain : (is_word LCurly || same_kind PrivateIdentifier LCurly) ≡ false
-unfolding words
-opening_plain = refl
-
-closing_plain : (is_word RCurly || same_kind PrivateIdentifier RCurly) ≡ false
-unfolding words
-closing_plain = refl
-
 -- no property takes its comma itself
-no_gap : {text : List ℕ} {s : ℕ} → NoneLeft text never s
+pub no_gap : {text : List ℕ} {s : ℕ} → NoneLeft text never s
 no_gap = fails_dead never refl
 
 module _ {text : List ℕ} {f : Flags} {p : Parser} (a : At text f p) where
@@ -139,7 +130,7 @@ module _ {text : List ℕ} {f : Flags} {o : Parser} (a : At text f o) (k : o.tok
   no_object n = fails_by (pattern_alone ▹✗ fails_rule {X' = plain full} (λ l cs vs y d. (refl, refl)) (object_alone ▹✗ fails_node inside_full n))
 
   pub object_opened : {q : Parser} → Moved text f o q → Partway text f (in_braces f) (properties_left f) o q [] []
-  object_opened m = part_sign LCurly a k (plain_sign LCurly a k refl refl opening_plain) refl m
+  object_opened m = part_sign LCurly a k (plain_sign LCurly a k refl refl brace_plain) refl m
 
   module _ {p : Parser} {js : List (Option NodeId)} (x : Partway text f (in_braces f) (tok RCurly) o p [] js) where
     pub unclosed_object : one_of_kinds (RCurly ∷ []) p.token.kind ≡ false → Underived text (at Binding f) o.prev_token_end
@@ -147,7 +138,7 @@ module _ {text : List ℕ} {f : Flags} {o : Parser} (a : At text f o) (k : o.tok
 
     module _ {q : Parser} (e : p.token.kind ≡ RCurly) (m : Moved text f p q) where
       whole_object : Partway text f (in_braces f) nothing o q [] js
-      whole_object = parts x (part_last RCurly x.at e (plain_sign RCurly x.at e refl refl closing_plain) refl m)
+      whole_object = parts x (part_last RCurly x.at e (plain_sign RCurly x.at e refl refl closing_brace_plain) refl m)
 
       object_path : Path text f (after (at Binding f)) (rule (at Binding f)) o nothing q (tree (label_here object_pattern no_op o q) (whole_object.slots end))
       object_path = pattern_alone ⟼ by_symbol_as {X' = plain full} (λ l cs vs y d. (refl, refl)) (object_alone ⟼ noded a (part_path whole_object))

@@ -1,15 +1,14 @@
 -- Properties of object patterns (ECMA-262, 14.3.3): names that are bound, and names with what is bound by them.
-use Rattle.std.proofs.Common.{ℕ, ◌+◌, ◌≡◌, inl, inr, max, suc, List, [], ◌∷◌, length, Some, Bool, true, false, not, ◌||◌, IsCharBoundary, refl, sym, ap, subst, arith, ◌∙◌}
+use Rattle.std.proofs.Common.{ℕ, ◌+◌, ◌≡◌, inl, inr, max, suc, List, [], ◌∷◌, length, Some, Bool, true, false, not, IsCharBoundary, refl, sym, ap, subst, arith, ◌∙◌}
 use Rattle.std.specs.Prelude.{Ok, Err, None}
-use Rattle.std.proofs.lemmas.Bool.{false≢true, or_left}
+use Rattle.std.proofs.lemmas.Bool.{false≢true}
 use Rattle.js_base.specs.declared.kind.Kind.{Kind}
-use Rattle.js_base.specs.declared.kind.Kind.TheVariants.{LBrack, RBrack, RCurly, RParen, Colon, Comma, Eof, Eq, PrivateIdentifier}
+use Rattle.js_base.specs.declared.kind.Kind.TheVariants.{LBrack, RBrack, RCurly, RParen, Colon, Comma, Eof, Eq}
 use Rattle.js_base.specs.declared.diagnostic.DiagnosticKind.TheVariants.{ExpectToken}
 use Rattle.js_base.specs.declared.span.Span.{Span}
-use Rattle.js_base.specs.Kinds.{same_kind, one_of_kinds}
-use Rattle.js_base.specs.Texts.{words}
+use Rattle.js_base.specs.Kinds.{one_of_kinds}
+use Rattle.js_base.specs.KindSets.{binding_identifier_kinds}
 use Rattle.js_grammar.specs.Insertion.{is_word as names_any}
-use Rattle.js_grammar.specs.Lexemes.{is_word}
 use Rattle.js_grammar.specs.Trees.{Slots, end, tree, Label, no_op, assignment_pattern, binding_identifier, binding_property, identifier_name}
 use Rattle.js_grammar.specs.Grammar.{Lexeme, Lexemes, Look, last, next, here, ahead, alt, exact, label_of, nothing, Takes, is_seq, is_ahead, is_such, is_node, is_lexeme, ◌▸◌}
 use Rattle.js_grammar.specs.Lexed.{Lexes}
@@ -34,7 +33,7 @@ use Rattle.js_operand_laws.proofs.Operands.{name_signless}
 use Rattle.js_operand_laws.proofs.PropertyNames.{literal_kinds, word_named}
 use Rattle.js_parsing_laws.specs.Answers.{Underived, Answer, Numbered, Stops}
 use Rattle.js_parsing_laws.specs.Arguments.{behind_item, ItemTaken, NoItem}
-use Rattle.js_parsing_laws.specs.Lexemes.{Lex, escaped_word, may_name, name_kinds}
+use Rattle.js_parsing_laws.specs.Lexemes.{Lex, may_name}
 use Rattle.js_parsing_laws.specs.Moves.{Moved, MadeHere, LeafTaken, TakesLeaf, plain_label}
 use Rattle.js_parsing_laws.specs.Stands.{NameHere, StandsHere}
 use Rattle.js_parsing_laws.specs.Nesting.{CanNest, room}
@@ -51,23 +50,13 @@ use Rattle.js_parsing_laws.proofs.Paths.{Path, ◌⟼◌, ◌⟶◌, ◌⟶✗�
 use Rattle.js_parsing_laws.proofs.Signs.{other_kind, plain_sign}
 use Rattle.js_parsing_laws.proofs.Verdicts.{verdict_of, grown_then}
 use Rattle.js_parsing_laws.proofs.Verdicts.{after as grown_behind}
+use Rattle.js_parsing_laws.proofs.NodeTexts.{name_word as name_is_word}
+use Rattle.js_parsing_laws.proofs.PlainSigns.{eq_plain}
 use Rattle.js_pattern_laws.specs.ObjectPatterns.{bound_by_name, property_label, shorthand_of, BoundTaken, NamePassed, NoShorthand}
-use Rattle.js_pattern_laws.proofs.Bindings.{bound_path, item_answers, item_path, no_end_here, on_initialiser, then_any}
-
-colon_plain : (is_word Colon || same_kind PrivateIdentifier Colon) ≡ false
-unfolding words
-colon_plain = refl
-
-eq_plain : (is_word Eq || same_kind PrivateIdentifier Eq) ≡ false
-unfolding words
-eq_plain = refl
+use Rattle.js_pattern_laws.proofs.Bindings.{bound_path, item_answers, item_path, no_end_here, on_initialiser, then_any, ends_itself}
 
 abbrev next_kinds : Look
 next_kinds k w e = one_of_kinds (Comma ∷ RParen ∷ RBrack ∷ RCurly ∷ []) k
-
-ends_itself : covers next_kinds next_kinds ≡ true
-unfolding covers
-ends_itself = refl
 
 -- a node was made behind what was read
 renoded : {text : List ℕ} {f : Flags} {X : Test} {g g' : G} {p q : Parser} {h : Slots → Slots} (ns : List Node) → Path text f X g p g' q h → Path text f X g p g' (record q { nodes = ns }) h
@@ -87,14 +76,14 @@ name_words : covers a_name (λ k w e. names_any k) ≡ true
 unfolding covers
 name_words = refl
 
-name_word : (k : Kind) → one_of_kinds name_kinds k ≡ true → names_any k ≡ true
+name_word : (k : Kind) → one_of_kinds binding_identifier_kinds k ≡ true → names_any k ≡ true
 name_word k h = covered a_name (λ k w e. names_any k) name_words k false false h
 
-no_end_name : (k : Kind) → one_of_kinds name_kinds k ≡ true → one_of_kinds (Eof ∷ []) k ≡ false
+no_end_name : (k : Kind) → one_of_kinds binding_identifier_kinds k ≡ true → one_of_kinds (Eof ∷ []) k ≡ false
 unfolding apart
 no_end_name k h = name_apart (Eof ∷ []) refl k h
 
-module _ {text : List ℕ} {f : Flags} {p q : Parser} (a : At text f p) (k : one_of_kinds name_kinds p.token.kind ≡ true) (m : Moved text f p q) where
+module _ {text : List ℕ} {f : Flags} {p q : Parser} (a : At text f p) (k : one_of_kinds binding_identifier_kinds p.token.kind ≡ true) (m : Moved text f p q) where
   abbrev pub key_label : Label
   key_label = label_here identifier_name no_op p q
 
@@ -102,8 +91,8 @@ module _ {text : List ℕ} {f : Flags} {p q : Parser} (a : At text f p) (k : one
   is_it : (y : Lexeme) → Lex text p.prev_token_end y → y ≡ m.lexeme
   is_it y l = one_read a (name_signless p.token.kind k) l (m.stood, read_as m.lexeme m.tells (name_read p.token.kind k))
 
-  named_kind : (y : Lexeme) → Lex text p.prev_token_end y → one_of_kinds name_kinds y.kind ≡ true
-  named_kind y l = subst (λ (v : Kind). one_of_kinds name_kinds v ≡ true) (m.tells.kind ∙ sym (ap (λ (z : Lexeme). z.kind) (is_it y l))) k
+  named_kind : (y : Lexeme) → Lex text p.prev_token_end y → one_of_kinds binding_identifier_kinds y.kind ≡ true
+  named_kind y l = subst (λ (v : Kind). one_of_kinds binding_identifier_kinds v ≡ true) (m.tells.kind ∙ sym (ap (λ (z : Lexeme). z.kind) (is_it y l))) k
 
   made_so : (x : Lexeme) (ls rest : Lexemes) → Lex text p.prev_token_end x → label_of (record { kind = identifier_name; op = no_op; flags = 0; extent = exact }) (next x ls) x.to rest ≡ key_label
   made_so x ls rest l = rw (begins_here a x l, ap (λ (y : Lexeme). y.to) (is_it x l) ∙ m.ends) refl
@@ -279,7 +268,7 @@ module _ {text : List ℕ} {f : Flags} {p : Parser} (a : At text f p) where
   no_shorthand_there s = no_shorthand (name_at false a s)
 
   module _ (k : may_name f.yield_ f.await_ p.token.kind ≡ true) where
-    listed : one_of_kinds name_kinds p.token.kind ≡ true
+    listed : one_of_kinds binding_identifier_kinds p.token.kind ≡ true
     listed = listed_name f.yield_ f.await_ p.token.kind k
 
     -- a name, and a colon
@@ -292,7 +281,7 @@ module _ {text : List ℕ} {f : Flags} {p : Parser} (a : At text f p) where
 
     named : {q : Parser} {key : NodeId} → TakesLeaf node_kind.IdentifierName op_made.None p q key → NameRead text f false p q key
     unfolding apart
-    named {q} {key} t = word_named a (λ i j. false≢true (sym (name_apart (LBrack ∷ []) refl p.token.kind listed) ∙ ap (one_of_kinds (LBrack ∷ [])) i)) (name_apart literal_kinds refl p.token.kind listed) (name_taken text f p q (Ok key) a (or_left _ _ listed) t)
+    named {q} {key} t = word_named a (λ i j. false≢true (sym (name_apart (LBrack ∷ []) refl p.token.kind listed) ∙ ap (one_of_kinds (LBrack ∷ [])) i)) (name_apart literal_kinds refl p.token.kind listed) (name_taken text f p q (Ok key) a (name_is_word p.token.kind listed) t)
 
     pub name_named : {q : Parser} {key : NodeId} → TakesLeaf node_kind.IdentifierName op_made.None p q key → NameRead text f false p q key
     name_named t = named t

@@ -1,11 +1,10 @@
 -- Formal parameters (ECMA-262, 15.1): one of them, and their list in parentheses.
-use Rattle.std.proofs.Common.{ℕ, ◌≡◌, List, [], ◌∷◌, ◌++◌, length, Option, Some, None, true, false, ◌||◌, refl, ap, subst, arith}
+use Rattle.std.proofs.Common.{ℕ, ◌≡◌, List, [], ◌∷◌, ◌++◌, length, Option, Some, None, false, refl, ap, subst, arith}
 use Rattle.js_base.specs.declared.kind.Kind.{Kind}
-use Rattle.js_base.specs.declared.kind.Kind.TheVariants.{LParen, RParen, LBrack, LCurly, RBrack, RCurly, Comma, Dot3, Eq, PrivateIdentifier}
+use Rattle.js_base.specs.declared.kind.Kind.TheVariants.{LParen, RParen, LBrack, LCurly, RBrack, RCurly, Comma, Dot3, Eq}
 use Rattle.js_base.specs.declared.span.Span.{Span}
-use Rattle.js_base.specs.Kinds.{same_kind, one_of_kinds}
-use Rattle.js_base.specs.Texts.{words}
-use Rattle.js_grammar.specs.Lexemes.{is_word}
+use Rattle.js_base.specs.Kinds.{one_of_kinds}
+use Rattle.js_base.specs.KindSets.{binding_identifier_kinds}
 use Rattle.js_grammar.specs.Trees.{Slots, end, hole, tree, Label, no_op, formal_parameter, formal_parameters}
 use Rattle.js_grammar.specs.Grammar.{Look, seq, alt, nothing, never, empty_slot, ◌▸◌}
 use Rattle.js_grammar.specs.Parsing.{plain, full, still, Goes, Fails}
@@ -26,7 +25,7 @@ use Rattle.js_cursor.specs.Parsers.{Parser}
 use Rattle.js_cursor.specs.declared.stop.Stop.{Stop}
 use Rattle.js_parsing_laws.specs.Answers.{Underived, Answer, Numbered, Stops}
 use Rattle.js_parsing_laws.specs.Arguments.{Partway, behind_item, ItemTaken, NoItem}
-use Rattle.js_parsing_laws.specs.Lexemes.{Lex, name_kinds}
+use Rattle.js_parsing_laws.specs.Lexemes.{Lex}
 use Rattle.js_parsing_laws.specs.Lists.{NoneLeft, OneMore}
 use Rattle.js_parsing_laws.specs.Moves.{Moved, MadeHere, plain_label}
 use Rattle.js_pattern_laws.specs.Bindings.{rest_comma}
@@ -34,10 +33,10 @@ use Rattle.js_pattern_laws.specs.Parameters.{parameters_left}
 use Rattle.js_parsing_laws.specs.States.{At}
 use Rattle.js_operand_laws.proofs.ArgumentLists.{none_there}
 use Rattle.js_operand_laws.proofs.Arrays.{behind_one}
-use Rattle.js_pattern_laws.proofs.Bindings.{binding_read, ended_by, item_answers, no_end_here, on_initialiser}
+use Rattle.js_pattern_laws.proofs.Bindings.{binding_read, ended_by, item_answers, no_end_here, on_initialiser, ends_itself}
 use Rattle.js_parsing_laws.proofs.Signs.{other_kind, plain_sign}
-use Rattle.js_parsing_laws.proofs.Dead.{fails_dead}
 use Rattle.js_pattern_laws.proofs.Lists.{end_due, item_comma, item_due, item_fails, item_last, item_more, last_due, more_from, none_yet, rest_fails, rest_more}
+use Rattle.js_pattern_laws.proofs.ObjectLists.{no_gap}
 use Rattle.js_parsing_laws.proofs.MadeNodes.{node_held, two_held, one_lies, made_lies}
 use Rattle.js_parsing_laws.proofs.Moving.{same_both, stops_behind, stops_so}
 use Rattle.js_operand_laws.proofs.Operands.{by_path}
@@ -45,27 +44,12 @@ use Rattle.js_parsing_laws.proofs.Parts.{part_path, part_path_fails, part_sign, 
 use Rattle.js_parsing_laws.proofs.Paths.{Path, ◌⟼◌, ◌⟶◌, ◌⟶✗◌, fails_at, token, last_called, noded, noded_by, by_symbol_as, label_here}
 use Rattle.js_parsing_laws.proofs.Verdicts.{grown_then}
 use Rattle.js_parsing_laws.proofs.Verdicts.{after as grown_behind}
-
-pub open_plain : (is_word LParen || same_kind PrivateIdentifier LParen) ≡ false
-unfolding words
-open_plain = refl
-
-pub paren_plain : (is_word RParen || same_kind PrivateIdentifier RParen) ≡ false
-unfolding words
-paren_plain = refl
-
-eq_plain : (is_word Eq || same_kind PrivateIdentifier Eq) ≡ false
-unfolding words
-eq_plain = refl
+use Rattle.js_parsing_laws.proofs.PlainSigns.{eq_plain, paren_plain, closing_paren_plain}
 
 -- ---- one parameter
 
 abbrev next_kinds : Look
 next_kinds k w e = one_of_kinds (Comma ∷ RParen ∷ RBrack ∷ RCurly ∷ []) k
-
-ends_itself : covers next_kinds next_kinds ≡ true
-unfolding covers
-ends_itself = refl
 
 module _ {text : List ℕ} {f : Flags} {p q : Parser} (a : At text f p) (x : Answer text f (at Binding f) p q) where
   -- it has no initialiser
@@ -120,11 +104,7 @@ module _ {text : List ℕ} {f : Flags} {p q : Parser} {bound : NodeId} (a : At t
 
 -- what may begin a parameter, of what is read
 abbrev parameter_kinds : List Kind
-parameter_kinds = LBrack ∷ LCurly ∷ name_kinds
-
--- no item takes its comma itself
-no_gap : {text : List ℕ} {s : ℕ} → NoneLeft text never s
-no_gap = fails_dead never refl
+parameter_kinds = LBrack ∷ LCurly ∷ binding_identifier_kinds
 
 module _ {text : List ℕ} {f : Flags} {p : Parser} (a : At text f p) where
   -- the closing parenthesis stands here
@@ -181,7 +161,7 @@ abbrev in_parentheses : Flags → G
 in_parentheses f = tok LParen ▸ parameters_left f
 
 pub list_begins : {text : List ℕ} {f : Flags} {p q : Parser} → At text f p → p.token.kind ≡ LParen → Moved text f p q → Partway text f (in_parentheses f) (parameters_left f) p q [] []
-list_begins a k m = part_sign LParen a k (plain_sign LParen a k refl refl open_plain) refl m
+list_begins a k m = part_sign LParen a k (plain_sign LParen a k refl refl paren_plain) refl m
 
 pub no_params : {text : List ℕ} (f : Flags) {s : ℕ} → Fails rule (Lex text) (plain full) end (in_parentheses f) s → Underived text (at Params f) s
 unfolding rule rule_of
@@ -194,7 +174,7 @@ module _ {text : List ℕ} {f : Flags} {o p : Parser} {js : List (Option NodeId)
 
   module _ {q : Parser} (k : p.token.kind ≡ RParen) (m : Moved text f p q) where
     whole_list : Partway text f (in_parentheses f) nothing o q [] js
-    whole_list = parts x (part_last RParen x.at k (plain_sign RParen x.at k refl refl paren_plain) refl m)
+    whole_list = parts x (part_last RParen x.at k (plain_sign RParen x.at k refl refl closing_paren_plain) refl m)
 
     list_path : Path text f (after (at Params f)) (rule (at Params f)) o nothing q (tree (label_here formal_parameters no_op o q) (whole_list.slots end))
     unfolding rule rule_of

@@ -3,6 +3,7 @@ use Rattle.std.proofs.Common.{ℕ, ◌≡◌, List, [], ◌∷◌, ◌++◌, Opt
 use Rattle.js_base.specs.declared.kind.Kind.{Kind}
 use Rattle.js_base.specs.declared.kind.Kind.TheVariants.{LBrack, LCurly, RBrack, Comma, Dot3}
 use Rattle.js_base.specs.Kinds.{one_of_kinds}
+use Rattle.js_base.specs.KindSets.{binding_identifier_kinds}
 use Rattle.js_grammar.specs.Trees.{end}
 use Rattle.js_grammar.specs.Grammar.{seq, empty_slot}
 use Rattle.js_grammar.specs.Parsing.{plain, full, still, Goes}
@@ -17,7 +18,7 @@ use Rattle.js_cursor.specs.declared.stop.Stop.{Stop}
 use Rattle.js_parsing_laws.specs.Answers.{Stops}
 use Rattle.js_parsing_laws.specs.Arguments.{ItemTaken, NoItem}
 use Rattle.js_pattern_laws.specs.Bindings.{elements_left, rest_comma}
-use Rattle.js_parsing_laws.specs.Lexemes.{Lex, name_kinds}
+use Rattle.js_parsing_laws.specs.Lexemes.{Lex}
 use Rattle.js_parsing_laws.specs.Lists.{NoneLeft, OneMore}
 use Rattle.js_parsing_laws.specs.Moves.{Moved}
 use Rattle.js_parsing_laws.specs.States.{At}
@@ -33,7 +34,7 @@ gap = seq empty_slot (tok Comma)
 
 -- what may begin an element, of what is read
 abbrev element_kinds : List Kind
-element_kinds = LBrack ∷ LCurly ∷ name_kinds
+element_kinds = LBrack ∷ LCurly ∷ binding_identifier_kinds
 
 module _ {text : List ℕ} {f : Flags} {p : Parser} (a : At text f p) where
   no_element_at : one_of_kinds element_kinds p.token.kind ≡ false → NoneLeft text (symbol BElement f) p.prev_token_end

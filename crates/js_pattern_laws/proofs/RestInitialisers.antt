@@ -1,14 +1,12 @@
 -- The initialiser of a rest (ECMA-262, 14.3.3, 15.1): it is told, and only in the wider form anything is derived there.
-use Rattle.std.proofs.Common.{ℕ, ◌≡◌, ◌<◌, ◌||◌, Bool, true, false, List, [], ◌∷◌, length, max, Some, None, IsCharBoundary, refl, sym, ap, subst, arith, ◌∙◌}
+use Rattle.std.proofs.Common.{ℕ, ◌≡◌, ◌<◌, Bool, true, false, List, [], ◌∷◌, length, max, Some, None, IsCharBoundary, refl, sym, ap, subst, arith, ◌∙◌}
 use Rattle.js_base.specs.declared.diagnostic.Diagnostic.{Diagnostic}
-use Rattle.js_base.specs.declared.kind.Kind.TheVariants.{Comma, Dot3, Eq, PrivateIdentifier, RBrack, RCurly, RParen, Undetermined}
+use Rattle.js_base.specs.declared.kind.Kind.TheVariants.{Comma, Dot3, Eq, RBrack, RCurly, RParen, Undetermined}
 use Rattle.js_base.specs.declared.source_type.SourceType.{SourceType}
 use Rattle.js_base.specs.declared.span.Span.{Span}
 use Rattle.js_base.specs.Diagnostics.{class_of}
-use Rattle.js_base.specs.Kinds.{one_of_kinds, same_kind}
-use Rattle.js_base.specs.Texts.{words}
+use Rattle.js_base.specs.Kinds.{one_of_kinds}
 use Rattle.js_grammar.specs.LexicalFaults.{Reached}
-use Rattle.js_grammar.specs.Lexemes.{is_word}
 use Rattle.js_grammar.specs.Marks.{EdgeOf, Mark, StandsAt, the_start}
 use Rattle.js_grammar.specs.Settings.{Goal}
 use Rattle.js_grammar.specs.Trees.{Label, end, tree, no_op, binding_rest_element}
@@ -47,10 +45,11 @@ use Rattle.js_parsing_laws.proofs.Signs.{other_kind, plain_sign}
 use Rattle.js_parsing_laws.proofs.Told.{told_at, told_same}
 use Rattle.js_parsing_laws.proofs.Verdicts.{behind_none, grown_then, told_wider, verdict_of}
 use Rattle.js_parsing_laws.proofs.Verdicts.{after as grown_behind}
+use Rattle.js_parsing_laws.proofs.PlainSigns.{eq_plain}
 use Rattle.js_pattern_laws.specs.declared.forms.RestPlace.{RestPlace}
 use Rattle.js_pattern_laws.specs.declared.forms.RestPlace.TheVariants.{Pattern, Parameters}
 use Rattle.js_pattern_laws.specs.Bindings.{initialiser_kind, rest_initialiser, RestBegins, RestBound}
-use Rattle.js_pattern_laws.proofs.Bindings.{ended_by, item_answers, item_path, no_end_here, on_initialiser}
+use Rattle.js_pattern_laws.proofs.Bindings.{ended_by, item_answers, item_path, no_end_here, on_initialiser, ends_itself}
 
 -- ---- where it begins and ends
 
@@ -103,16 +102,8 @@ module _ {text : List ℕ} {f : Flags} {q r w : Parser} {value : NodeId} (a : At
 
 -- ---- it is read, and told
 
-eq_plain : (is_word Eq || same_kind PrivateIdentifier Eq) ≡ false
-unfolding words
-eq_plain = refl
-
 abbrev next_kinds : Look
 next_kinds k w e = one_of_kinds (Comma ∷ RParen ∷ RBrack ∷ RCurly ∷ []) k
-
-ends_itself : covers next_kinds next_kinds ≡ true
-unfolding covers
-ends_itself = refl
 
 module _ {text : List ℕ} {f : Flags} {p q : Parser} (a : At text f p) (k : p.token.kind ≡ Eq) (m : Moved text f p q) where
   initialiser_due : Path text f behind_item (rule (at Init (plus_in f))) p (symbol Assignment (plus_in f)) q (λ us. us)

@@ -19,7 +19,7 @@ use Rattle.js_operand_laws.specs.PropertyNames.{NameRead}
 use Rattle.js_operand_laws.specs.declared.forms.PropertyName.{PropertyName}
 use Rattle.js_parsing_laws.specs.Arguments.{ItemOutcome, behind_item}
 use Rattle.js_parsing_laws.specs.Answers.{Stops, Stretch, Verdict}
-use Rattle.js_parsing_laws.specs.Lexemes.{Lex, Walked, escaped_word, may_name, spot}
+use Rattle.js_parsing_laws.specs.Lexemes.{Lex, Walked, may_name, spot}
 use Rattle.js_parsing_laws.specs.Moves.{Moved, TakesLeaf}
 use Rattle.js_parsing_laws.specs.States.{At, Same}
 use Rattle.js_pattern_laws.specs.Bindings.{PartOutcome}

@@ -2,7 +2,7 @@
 use Rattle.std.proofs.Common.{◌≡◌, ℕ, ◌+◌, ◌==◌, Bool, true, false, List, [], ◌∷◌, ◌++◌, refl, sym, ap, subst, ◌∙◌, not, ◌&&◌, ◌||◌, arith, Option, Some, None, inl, inr}
 use Rattle.std.specs.Prelude.{is_some, nat_lt, nat_eq, nat_le, IsCharBoundary, Result, Ok, IsTrue}
 use Rattle.std.specs.List.{list_all}
-use Rattle.std.proofs.lemmas.Bool.{eqb-true}
+use Rattle.std.proofs.lemmas.Bool.{eqb-true, or_right}
 use Rattle.std.proofs.lemmas.Bool.Decides.{nat_tests}
 use Rattle.js_base.specs.declared.kind.Kind.{Kind}
 use Rattle.js_base.specs.declared.kind.Kind.TheVariants.{Ident, PrivateIdentifier, Decimal, Float, Binary, Octal, Hex, PositiveExponential, NegativeExponential, DecimalBigInt, BinaryBigInt, OctalBigInt, HexBigInt}
@@ -274,10 +274,6 @@ begins_more c [] x h = go (is_decimal c) refl
 plain_number : (c : ℕ) (v rest : List ℕ) → begins_number (c ∷ v) ≡ true → plain_kind (c ∷ v) rest ≡ number_kind (c ∷ v)
 plain_number c v rest h = plain_of a_number c v rest (opens_number c v h)
 
-or-true : (a b : Bool) → b ≡ true → (a || b) ≡ true
-or-true true b h = refl
-or-true false b h = h
-
 -- the longest number is the longest lexeme
 pub scanned : {text : List ℕ} {i : ℕ} {n : Number} → IsRest number_kind false text i n → stops_number (behind text n.end) ≡ true → IsScanned division text i (record { kind = n.kind; end = n.end; escaped = false; has_separator = n.has_separator })
 scanned {text = text} {i = i} {n = n} x t = go x.word x.stands x.kind x.never x.separated
@@ -296,7 +292,7 @@ scanned {text = text} {i = i} {n = n} x t = go x.word x.stands x.kind x.never x.
                 (none_longer-from (lexemes_in division) (c ∷ w) (behind text n.end) (λ d y more e. ap is_some (plain_number c (w ++ d ∷ y) more (begins_more c w (d ∷ y) f) ∙ m d y more e)));
             kind = p;
             begins = refl;
-            apart = or-true (not (is_number n.kind)) (stops_number (behind text n.end)) t;
+            apart = or_right (not (is_number n.kind)) (stops_number (behind text n.end)) t;
           };
           escaped = sym (not_escaped n.kind (c ∷ w) num);
           separated = b ∙ sym (ap (λ (a : Bool). a && has_separator (c ∷ w)) num);

@@ -32,7 +32,7 @@ use Rattle.js_scan.specs.Punctuators.{punctuator_of, OpensPunctuator, BeginsNone
 use Rattle.js_words.specs.Scans.{IsScanned, IsStopped, NoLexeme}
 use Rattle.js_scan.proofs.Punctuators.{kind_none, kind_some, alone_none}
 
-turned : (a b : ℕ) → (a == b) ≡ false → (b == a) ≡ false
+pub turned : (a b : ℕ) → (a == b) ≡ false → (b == a) ≡ false
 turned a b h = grind (arith, nat_tests)
 
 -- What else a character doesn't begin that begins a punctuator.

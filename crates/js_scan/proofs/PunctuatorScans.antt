@@ -1,7 +1,6 @@
 -- The punctuators that begin with a dot, a question mark or a slash, and what punctuators tell of lexemes.
 use Rattle.std.proofs.Common.{◌≡◌, ℕ, ◌+◌, ◌==◌, Bool, true, false, List, [], ◌∷◌, ◌++◌, refl, sym, ap, subst, ◌∙◌, not, ◌&&◌, arith, Some, None}
 use Rattle.std.proofs.lemmas.Bool.{eqb-true}
-use Rattle.std.proofs.lemmas.Bool.Decides.{nat_tests}
 use Rattle.js_base.specs.declared.kind.Kind.TheVariants.{Dot, Dot3, Question, QuestionDot, Question2, Slash, SlashEq}
 use Rattle.js_base.specs.Texts.{punctuators}
 use Rattle.js_text.specs.Characters.{is_decimal}
@@ -13,9 +12,7 @@ use Rattle.js_words.specs.Places.{Finds, in_radix}
 use Rattle.js_scan.specs.Punctuators.{punctuator_of, opens_no_comment, IsPunctuator}
 use Rattle.js_words.proofs.Places.{then}
 use Rattle.js_scan.proofs.Punctuators.{kind_none}
-
-eq-turned : (a b : ℕ) → (a == b) ≡ false → (b == a) ≡ false
-eq-turned a b h = grind (arith, nat_tests)
+use Rattle.js_scan.proofs.PunctuatorLexemes.{turned}
 
 -- the character that is found
 is-found : {text : List ℕ} {j d : ℕ} → Finds (λ c. c == d) text j true → Word text j (j + 1) (d ∷ [])
@@ -25,7 +22,7 @@ found_next : {text : List ℕ} {i j n : ℕ} {w : List ℕ} (d : ℕ) → Word t
 found_next {text = text} {i = i} {w = w} d s f e = subst (λ (m : ℕ). Word text i m (w ++ d ∷ [])) e (then s (is-found f))
 
 not-found : {c : ℕ} {cs : List ℕ} (x more : List ℕ) (d : ℕ) → begins (λ a. a == d) cs ≡ false → cs ≡ c ∷ x ++ more → (d == c) ≡ false
-not-found {c = c} x more d h e = eq-turned c d (subst (λ (v : List ℕ). begins (λ a. a == d) v ≡ false) e h)
+not-found {c = c} x more d h e = turned c d (subst (λ (v : List ℕ). begins (λ a. a == d) v ≡ false) e h)
 
 -- `...`
 pub three_dots : {text : List ℕ} {i : ℕ} → Word text i (i + 1) (46 ∷ []) → Finds (λ c. c == 46) text (i + 1) true → Finds (λ c. c == 46) text (i + 2) true → IsPunctuator text i (record { kind = Dot3; end = i + 3 })

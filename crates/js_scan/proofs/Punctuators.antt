@@ -2,7 +2,7 @@
 use Rattle.std.proofs.Common.{◌≡◌, ◌<◌, ◌≤◌, ℕ, ◌+◌, ◌==◌, Bool, true, false, List, [], ◌∷◌, ◌++◌, refl, sym, ap, subst, ◌∙◌, not, ◌&&◌, ◌||◌, append_assoc, arith, Option, Some, None, ◌⊎◌, inl, inr, slice_index_or}
 use Rattle.std.specs.Prelude.{is_some, nat_lt, bytes_eq, cond, codes}
 use Rattle.std.specs.List.{list_all, find}
-use Rattle.std.proofs.lemmas.Bool.{cases_lt}
+use Rattle.std.proofs.lemmas.Bool.{cases_lt, and_left}
 use Rattle.std.proofs.lemmas.Slice.Eq.{bytes_eq-Decides}
 use Rattle.js_base.specs.declared.kind.Kind.{Kind}
 use Rattle.js_base.specs.declared.kind.Kind.TheVariants.{QuestionDot, Slash}
@@ -41,11 +41,8 @@ find_none t u (d ∷ ks) f e = go (t d) refl e (λ g. find_none t u ks f g)
     go true g e r = cc
     go false g e r = rw (f d g) (r e)
 
-and-false : (a b : Bool) → a ≡ false → (a && b) ≡ false
-and-false a b h = rw h refl
-
 pub kind_none : (w rest : List ℕ) → punctuator_of w ≡ None → punctuator_kind w rest ≡ None
-kind_none w rest e = find_none (λ k. bytes_eq (text_of k) w) (λ k. bytes_eq (text_of k) w && may_precede k rest) punctuators (λ l h. and-false (bytes_eq (text_of l) w) (may_precede l rest) h) e
+kind_none w rest e = find_none (λ k. bytes_eq (text_of k) w) (λ k. bytes_eq (text_of k) w && may_precede k rest) punctuators (λ l h. and_left (bytes_eq (text_of l) w) (may_precede l rest) h) e
 
 pub written : (w : List ℕ) (k : Kind) → punctuator_of w ≡ Some k → bytes_eq (text_of k) w ≡ true
 written w k e = found-test (λ l. bytes_eq (text_of l) w) punctuators k e
@@ -54,7 +51,7 @@ pub text_written : (w : List ℕ) (k : Kind) → punctuator_of w ≡ Some k → 
 text_written w k e = (bytes_eq-Decides (text_of k) w).0 (written w k e)
 
 pub kind_some : (w rest : List ℕ) (k : Kind) → punctuator_of w ≡ Some k → may_precede k rest ≡ true → punctuator_kind w rest ≡ Some k
-kind_some w rest k e h = find_fewer (λ l. bytes_eq (text_of l) w) (λ l. bytes_eq (text_of l) w && may_precede l rest) punctuators k (λ l g. and-false (bytes_eq (text_of l) w) (may_precede l rest) g) e (both (bytes_eq (text_of k) w) (may_precede k rest) (written w k e) h)
+kind_some w rest k e h = find_fewer (λ l. bytes_eq (text_of l) w) (λ l. bytes_eq (text_of l) w && may_precede l rest) punctuators k (λ l g. and_left (bytes_eq (text_of l) w) (may_precede l rest) g) e (both (bytes_eq (text_of k) w) (may_precede k rest) (written w k e) h)
 
 -- a test that the texts of all punctuators pass
 pub passes : (t : List ℕ → Bool) (w : List ℕ) (k : Kind) → punctuator_of w ≡ Some k → list_all (λ l. t (text_of l)) punctuators ≡ true → t w ≡ true

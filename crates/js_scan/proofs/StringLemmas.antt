@@ -2,8 +2,9 @@
 use Rattle.std.proofs.Common.{◌≡◌, ℕ, suc, ◌+◌, ◌-◌, ◌==◌, Bool, true, false, List, [], ◌∷◌, ◌++◌, refl, sym, ap, subst, ◌∙◌, not, ◌&&◌, ◌||◌, Option, Some, None, ◌⊎◌, inl, inr, append_assoc, take, drop, length, length-append, arith}
 use Rattle.std.specs.Prelude.{is_some}
 use Rattle.std.specs.List.{list_all}
-use Rattle.std.proofs.lemmas.Bool.{eqb-true, eq-eqb}
+use Rattle.std.proofs.lemmas.Bool.{eqb-true, eq-eqb, and_right, and_left}
 use Rattle.std.proofs.lemmas.Bool.Decides.{nat_tests}
+use Rattle.js_scan.proofs.PunctuatorTexts.{differ}
 use Rattle.js_base.specs.declared.kind.Kind.TheVariants.{Str}
 use Rattle.js_text.specs.Characters.{one_of}
 use Rattle.js_text.specs.Escapes.{in_string, Stage, Step, outside, backslash, unicode, nul, due, braced, octal, step, finish, line_feeds, line_feeds_after}
@@ -20,13 +21,6 @@ use Rattle.js_grammar.proofs.CoreNumbers.{nothing-nil}
 use Rattle.js_grammar.proofs.CoreLemmas.{none_longer-from, opens, opens-same}
 use Rattle.js_scan.specs.Strings.{Within, lacks_backslash, is_escaped_word, is_line_feed_word, ends_line}
 use Rattle.js_words.proofs.Plain.{opened_by, Opens}
-
-differs : (c n : ℕ) → (c ≡ n → ⊥) → (c == n) ≡ false
-differs c n h = by (c == n) refl
-  where
-    by : (b : Bool) → (c == n) ≡ b → (c == n) ≡ false
-    by true e = absurd (h (eqb-true c n e))
-    by false e = e
 
 quote-other : (q n : ℕ) → one_of (34 ∷ 39 ∷ []) q ≡ true → list_all (λ c. not (n == c)) (34 ∷ 39 ∷ []) ≡ true → (n == q) ≡ false
 quote-other q n h k = not-true (n == q) (member (λ c. not (n == c)) (34 ∷ 39 ∷ []) q h k)
@@ -80,10 +74,10 @@ plain-lacks c cs f g = rw (f, g, lacks_line_end) refl
 
 pub one_within : (q c : ℕ) (rest : List ℕ) → (c ≡ q → ⊥) → (c ≡ 10 → ⊥) → (c ≡ 13 → ⊥) → (c ≡ 92 → ⊥) → Within q (c ∷ []) rest
 one_within q c rest e f g h =
-    let quote = differs c q e in
-    let feed = differs c 10 f in
-    let carriage = differs c 13 g in
-    let slash = differs c 92 h in
+    let quote = differ c q e in
+    let feed = differ c 10 f in
+    let carriage = differ c 13 g in
+    let slash = differ c 92 h in
     let closes : (v : List ℕ) → closes_string q false (line_feeds (c ∷ v)) ≡ closes_string q false (line_feeds v) = λ v. ap (λ (y : List ℕ). closes_string q false y) (plain-feeds c v carriage) ∙ plain-closes q c (line_feeds v) quote feed slash in
     record {
       closes = λ v more i. closes v;
@@ -209,13 +203,6 @@ inside-of q w =
     let n : length (q ∷ (w ++ q ∷ [])) - 1 ≡ suc (length w) = omega arith in
     ap (λ (m : ℕ). drop 1 (take m (q ∷ (w ++ q ∷ [])))) n ∙ take-all w (q ∷ [])
 
-and-false : (a b : Bool) → b ≡ false → (a && b) ≡ false
-and-false true b e = e
-and-false false b e = refl
-
-or-first : (a b : Bool) → a ≡ false → (a && b) ≡ false
-or-first a b h = rw h refl
-
 pub a_string_kind : (q : ℕ) (w after : List ℕ) → one_of (34 ∷ 39 ∷ []) q ≡ true → Within q w (q ∷ after) → is_right w ≡ true → string_kind (q ∷ (w ++ q ∷ [])) ≡ Some Str
 a_string_kind q w after o i r =
     ap (λ (b : Bool). elim b [ true ↦ Some Str | false ↦ None ])
@@ -225,13 +212,13 @@ a_string_kind q w after o i r =
 no_string : (q : ℕ) (u : List ℕ) → closes_string q false (line_feeds u) ≡ false → string_kind (q ∷ u) ≡ None
 no_string q u h =
     ap (λ (b : Bool). elim b [ true ↦ Some Str | false ↦ None ])
-    (and-false (one_of (34 ∷ 39 ∷ []) q) (closes_string q false (line_feeds u) && is_right (string_inside (q ∷ u))) (or-first (closes_string q false (line_feeds u)) (is_right (string_inside (q ∷ u))) h))
+    (and_right (one_of (34 ∷ 39 ∷ []) q) (closes_string q false (line_feeds u) && is_right (string_inside (q ∷ u))) (and_left (closes_string q false (line_feeds u)) (is_right (string_inside (q ∷ u))) h))
 
 wrong_string : (q : ℕ) (w : List ℕ) → is_right w ≡ false → string_kind (q ∷ (w ++ q ∷ [])) ≡ None
 wrong_string q w h =
     ap (λ (b : Bool). elim b [ true ↦ Some Str | false ↦ None ])
-    (and-false (one_of (34 ∷ 39 ∷ []) q) (closes_string q false (line_feeds (w ++ q ∷ [])) && is_right (string_inside (q ∷ (w ++ q ∷ []))))
-    (and-false (closes_string q false (line_feeds (w ++ q ∷ []))) (is_right (string_inside (q ∷ (w ++ q ∷ [])))) (ap is_right (inside-of q w) ∙ h)))
+    (and_right (one_of (34 ∷ 39 ∷ []) q) (closes_string q false (line_feeds (w ++ q ∷ [])) && is_right (string_inside (q ∷ (w ++ q ∷ []))))
+    (and_right (closes_string q false (line_feeds (w ++ q ∷ []))) (is_right (string_inside (q ∷ (w ++ q ∷ [])))) (ap is_right (inside-of q w) ∙ h)))
 
 pub quote_opens : (q : ℕ) → one_of (34 ∷ 39 ∷ []) q ≡ true → Opens a_string q
 quote_opens q h true = opens-same _ _ (member (λ c. opens (opening c true) a_string) (34 ∷ 39 ∷ []) q h refl)
@@ -303,14 +290,14 @@ lacks-now q w rest i = sym (ap (λ (y : List ℕ). lacks_line_end false (line_fe
 pub longest_open : (q : ℕ) (w rest : List ℕ) → one_of (34 ∷ 39 ∷ []) q ≡ true → Within q w rest → ends_line rest ≡ true → longest is_open_string (q ∷ w) rest ≡ true
 longest_open q w rest o i h =
     both (is_open_string (q ∷ w) rest) (none_longer is_open_string (q ∷ w) rest) (both (one_of (34 ∷ 39 ∷ []) q) (lacks_line_end false (line_feeds w)) o (lacks-now q w rest i))
-    (none_longer-from is_open_string (q ∷ w) rest (λ c x more e. and-false (one_of (34 ∷ 39 ∷ []) q) (lacks_line_end false (line_feeds (w ++ c ∷ x))) (i.lacks (c ∷ x) more e ∙ line_end-lacks c x (sym (ap ends_line e) ∙ h))))
+    (none_longer-from is_open_string (q ∷ w) rest (λ c x more e. and_right (one_of (34 ∷ 39 ∷ []) q) (lacks_line_end false (line_feeds (w ++ c ∷ x))) (i.lacks (c ∷ x) more e ∙ line_end-lacks c x (sym (ap ends_line e) ∙ h))))
 
 -- none of the fronts of these characters is closed
 pub none_closed : (q : ℕ) (cs : List ℕ) → ((u more : List ℕ) → cs ≡ u ++ more → closes_string q false (line_feeds u) ≡ false) → none_begins is_closed_string (q ∷ cs) ≡ true
 none_closed q cs f = none_longer-from is_closed_string [] (q ∷ cs) (λ c x more e.
     let s : c ≡ q = cc in
     let t : cs ≡ x ++ more = cc in
-    ap (λ (y : ℕ). is_closed_string (y ∷ x) more) s ∙ and-false (one_of (34 ∷ 39 ∷ []) q) (closes_string q false (line_feeds x)) (f x more t))
+    ap (λ (y : ℕ). is_closed_string (y ∷ x) more) s ∙ and_right (one_of (34 ∷ 39 ∷ []) q) (closes_string q false (line_feeds x)) (f x more t))
 
 -- the inside is right where no backslash is in it
 right-plainly : (c : ℕ) (cs : List ℕ) → (c == 92) ≡ false → right_from outside (c ∷ cs) ≡ right_from outside cs
@@ -371,7 +358,7 @@ quote_stops (braced false v) q cs o h k = stopped (braced false v) q cs (member 
 quote_stops (octal n v) q cs o h k = absurd (let m = k in cc)
 
 feeds-quote : (a : Bool) (q : ℕ) (v : List ℕ) → one_of (34 ∷ 39 ∷ []) q ≡ true → line_feeds_after a (q ∷ v) ≡ q ∷ line_feeds_after false v
-feeds-quote a q v o = feeds-is a q v false false (quote-is-no q 13 o refl) (and-false a (q == 10) (quote-is-no q 10 o refl))
+feeds-quote a q v o = feeds-is a q v false false (quote-is-no q 13 o refl) (and_right a (q == 10) (quote-is-no q 10 o refl))
 
 quote_left : (q : ℕ) (b : Bool) (x : List ℕ) → one_of (34 ∷ 39 ∷ []) q ≡ true → nothing_left (line_feeds_after b (x ++ q ∷ [])) ≡ false
 quote_left q b [] o = ap nothing_left (feeds-quote b q [] o)

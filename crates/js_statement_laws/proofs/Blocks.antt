@@ -34,7 +34,7 @@ use Rattle.js_cursor.specs.Parsers.{Parser}
 use Rattle.js_cursor.specs.declared.stop.Stop.{Stop}
 use Rattle.js_cursor.specs.declared.stop.Stop.TheVariants.{Fatal, NoMemory}
 use Rattle.js_parsing_laws.specs.Answers.{Grown, Numbered, Stops, Stretch, Underived, Verdict}
-use Rattle.js_parsing_laws.specs.Lexemes.{Lex, Walked, read_kinds, spot, template_tails}
+use Rattle.js_parsing_laws.specs.Lexemes.{Lex, Walked, spot, template_tails, is_read_kind}
 use Rattle.js_parsing_laws.specs.Moves.{Moved, MadeHere, plain_label}
 use Rattle.js_parsing_laws.specs.States.{At, Same}
 use Rattle.js_parsing_laws.specs.Statements.{placed, after_statement, NoStatement, Statement}
@@ -72,7 +72,7 @@ then_some {pass = w} a b l u v = record {
 
 -- no lexeme that is read stands where none is told
 pub none_told : {text : List ℕ} {f : Flags} {q : Parser} → At text f q → q.token.kind ≡ kind.Undetermined → (y : Lexeme) → Lex text q.prev_token_end y → ⊥
-none_told a e y l = false≢true (sym (ap (one_of_kinds read_kinds) (kind_here a e refl y l)) ∙ l.1)
+none_told a e y l = false≢true (sym (ap is_read_kind (kind_here a e refl y l)) ∙ l.1)
 
 -- at a brace a choice is cut down to what begins with it, or with a part of a template that may stand in its place
 pub at_brace : {text : List ℕ} {f : Flags} {q : Parser} {X : Test} {g : G} → At text f q → q.token.kind ≡ kind.RCurly → Goes rule (Lex text) X end g q.prev_token_end (pick first_of X.base g (kind.RCurly ∷ template_tails)) q.prev_token_end (λ us. us) (still 0)

@@ -40,7 +40,7 @@ use Rattle.js_cursor.specs.Parsers.{Parser}
 use Rattle.js_cursor.specs.declared.stop.Stop.{Stop}
 use Rattle.js_cursor.specs.declared.stop.Stop.TheVariants.{Fatal, NoMemory}
 use Rattle.js_parsing_laws.specs.Answers.{Answer, Grown, Numbered, Stops, Underived}
-use Rattle.js_parsing_laws.specs.Lexemes.{Lex, other_goals, read_kinds}
+use Rattle.js_parsing_laws.specs.Lexemes.{Lex, other_goals, is_read_kind}
 use Rattle.js_parsing_laws.specs.Moves.{IsWholeHere, Moved, Moves, MadeHere, plain_label, unpassable}
 use Rattle.js_parsing_laws.specs.Stands.{StandsHere}
 use Rattle.js_parsing_laws.specs.States.{At, Same}
@@ -166,7 +166,7 @@ record Headed (text : List ℕ) (f : Flags) (p : Parser) (k : NodeKind) : Type 0
   alone : Alone text f name p.prev_token_end
   is_here : p.token.kind ≡ word
   is_plain : p.token.escaped ≡ false
-  is_read : one_of_kinds read_kinds word ≡ true
+  is_read : is_read_kind word ≡ true
   holds_one : ends_in_sub (kind_of k) ≡ true
 
 headed_of : {text : List ℕ} {f : Flags} {p : Parser} {k : NodeKind} → At text f p → HeadsHere k p → Headed text f p k

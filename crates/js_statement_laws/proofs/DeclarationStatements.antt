@@ -5,7 +5,7 @@ use Rattle.std.proofs.lemmas.Bool.{and_from, or_left, or_right}
 use Rattle.js_base.specs.declared.diagnostic.Diagnostic.{Diagnostic}
 use Rattle.js_base.specs.declared.kind.Kind.TheVariants as kind
 use Rattle.js_base.specs.declared.span.Span.{Span}
-use Rattle.js_base.specs.Kinds.{one_of_kinds, same_kind}
+use Rattle.js_base.specs.Kinds.{same_kind}
 use Rattle.js_grammar.specs.Trees.{Label, Slots, end, tree, append, of, variable_declaration}
 use Rattle.js_grammar.specs.Grammar.{Lexemes, Look, next, here, seen, is, ended, semicolon, nothing, Takes, is_lexeme, is_look, is_left, is_right, is_ended}
 use Rattle.js_grammar.specs.Conditions.{ends_in_sub}
@@ -31,7 +31,7 @@ use Rattle.js_tree.proofs.HoldingLemmas.{Keeps-trans, Keeps-made}
 use Rattle.js_cursor.specs.Parsers.{Parser}
 use Rattle.js_cursor.specs.declared.stop.Stop.{Stop}
 use Rattle.js_parsing_laws.specs.Answers.{Grown}
-use Rattle.js_parsing_laws.specs.Lexemes.{Lex, read_kinds}
+use Rattle.js_parsing_laws.specs.Lexemes.{Lex, is_read_kind}
 use Rattle.js_parsing_laws.specs.Moves.{IsWholeHere, Moved, MadeHere, plain_label}
 use Rattle.js_parsing_laws.specs.Stands.{StandsHere}
 use Rattle.js_parsing_laws.specs.States.{At, Same, NodesLie}
@@ -72,7 +72,7 @@ module _ {text : List ℕ} {g : G} {s : ℕ} where
 
 -- ---- a declaration
 
-word_read : (k : DeclarationKind) → one_of_kinds read_kinds (declaration_kind k) ≡ true
+pub word_read : (k : DeclarationKind) → is_read_kind (declaration_kind k) ≡ true
 word_read declared.Var = refl
 word_read declared.Const = refl
 word_read declared.Let = refl

@@ -62,7 +62,7 @@ module _ {text : List ℕ} where
   out_of : {f : Flags} {w : Bool} {p q : Parser} {c : Context} {first : Option NodeId} → At text f p → FirstTaken text (minus_in f) w (record p { ctx = c }) q first → FirstTaken text f w p (record q { ctx = p.ctx }) first
   out_of {f} {w} {p} {q} {c} a x = record {
     at = at_under p.ctx (flags_same p (record q { ctx = p.ctx }) refl x.same.follows.source_type x.same.options ∙ a.flags_are) x.at;
-    same = record { follows = follows_on (ctx_set c a.at).0 (follows_on x.same.follows (ctx_set p.ctx x.at.at).0); options = x.same.options; ctx = refl; depth = x.same.depth; visits = x.same.visits; early = x.same.early; lies = x.same.lies; meets = x.same.meets };
+    same = record { follows = follows_on (ctx_set c a.at).0 (follows_on x.same.follows (ctx_set p.ctx x.at.at).0); options = x.same.options; ctx = refl; depth = x.same.depth; visits = x.same.visits; early = x.same.early; lies = x.same.lies };
     forward = x.forward;
     begins = x.begins;
     slots = x.slots;
@@ -81,4 +81,4 @@ module _ {text : List ℕ} where
   first_outside {f} {w} {p} {o} {q} {v} {c} {d} {first} a i h x j = subst (λ (r : Parser). FirstTaken text f w p r first) (sym (j ∙ ap (λ (u : Context). record q { ctx = u }) i)) (out_of a (subst (λ (r : Parser). FirstTaken text (minus_in f) w r q first) h x))
 
 pub first_stops_outside : (text : List ℕ) (f : Flags) (w : Bool) (p o q : Parser) (c : Context) (x : Stop) → IsAt p → o ≡ record p { ctx = c } → Stops o q x ((e : Ending) → NoFirstPart text w e (minus_in f) o.prev_token_end) → Stops p q x ((e : Ending) → NoFirstPart text w e f p.prev_token_end)
-first_stops_outside text f w p o q c x a h z = stops_later q x (ctx_set c a).0 (λ w. w) (λ w. w) (λ n. n) (λ g. g) (λ n e. none_outside w e f (n e)) (subst (λ (r : Parser). Stops r q x ((e : Ending) → NoFirstPart text w e (minus_in f) r.prev_token_end)) h z)
+first_stops_outside text f w p o q c x a h z = stops_later q x (ctx_set c a).0 (λ w. w) (λ w. w) (λ g. g) (λ n e. none_outside w e f (n e)) (subst (λ (r : Parser). Stops r q x ((e : Ending) → NoFirstPart text w e (minus_in f) r.prev_token_end)) h z)

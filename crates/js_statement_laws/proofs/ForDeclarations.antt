@@ -39,7 +39,7 @@ use Rattle.js_cursor.specs.Places.{goal}
 use Rattle.js_cursor.specs.declared.stop.Stop.{Stop}
 use Rattle.js_parsing_laws.specs.Answers.{Grown, Stops, Stretch, Verdict, unclean}
 use Rattle.js_parsing_laws.specs.Classes.{IsEarly}
-use Rattle.js_parsing_laws.specs.Lexemes.{Lex, Walked, other_goals, read_kinds, spot}
+use Rattle.js_parsing_laws.specs.Lexemes.{Lex, Walked, other_goals, spot}
 use Rattle.js_parsing_laws.specs.Moves.{MadeHere, Moved, plain_label}
 use Rattle.js_parsing_laws.specs.Stands.{StandsHere}
 use Rattle.js_parsing_laws.specs.States.{At, Same, NodesLie}
@@ -70,6 +70,7 @@ use Rattle.js_statement_laws.proofs.CompoundStatements.{no_token}
 use Rattle.js_statement_laws.proofs.ForHeads.{no_empty, no_first_part}
 use Rattle.js_statement_laws.proofs.ForParts.{look_in, path_not, stretch_not, verdict_not, without}
 use Rattle.js_statement_laws.proofs.WordLookaheads.{followed, is_word, let_word}
+use Rattle.js_statement_laws.proofs.DeclarationStatements.{word_read}
 
 -- ---- the word, and what it leaves of the three lines
 
@@ -93,11 +94,6 @@ var_kind : (k : DeclarationKind) → is_var k ≡ true → kind.Var ≡ declarat
 var_kind declared.Var e = refl
 var_kind declared.Const e = absurd (false≢true e)
 var_kind declared.Let e = absurd (false≢true e)
-
-word_read : (k : DeclarationKind) → one_of_kinds read_kinds (declaration_kind k) ≡ true
-word_read declared.Var = refl
-word_read declared.Const = refl
-word_read declared.Let = refl
 
 not_semicolon : (k : DeclarationKind) (p : Parser) → StandsHere p (declaration_kind k) true → p.token.kind ≡ kind.Semicolon → ⊥
 not_semicolon declared.Var p h e = let z : kind.Var ≡ kind.Semicolon = sym h.0 ∙ e in cc

@@ -4,6 +4,7 @@ use Rattle.std.proofs.lemmas.Bool.{false≢true, and_from, and_parts}
 use Rattle.js_base.specs.declared.diagnostic.Diagnostic.{Diagnostic}
 use Rattle.js_base.specs.declared.diagnostic.DiagnosticKind.TheVariants.{ForLoopAsyncOf, ForLoopLetReservedWord}
 use Rattle.js_declarations.proofs.SpansMarked.{span_marked}
+use Rattle.js_declarations.proofs.HeadDeclarators.{through_not}
 use Rattle.js_parsing_laws.specs.Told.{unrelated_at}
 use Rattle.js_base.specs.Contexts.{has_flag, in_flag}
 use Rattle.js_base.specs.declared.kind.Kind.{Kind}
@@ -32,7 +33,7 @@ use Rattle.js_lex.specs.Reading.{is_right_angle}
 use Rattle.js_cursor.specs.Parsers.{Parser}
 use Rattle.js_cursor.specs.declared.stop.Stop.{Stop}
 use Rattle.js_parsing_laws.specs.Answers.{Answer, Grown, Numbered, Stops, Stretch, Underived, Verdict}
-use Rattle.js_parsing_laws.specs.Lexemes.{Lex, other_goals}
+use Rattle.js_parsing_laws.specs.Lexemes.{Lex, other_goals, is_read_kind}
 use Rattle.js_parsing_laws.specs.Stands.{StandsHere}
 use Rattle.js_parsing_laws.specs.States.{At}
 use Rattle.js_targets.specs.Taken.{NoTargetFrom, goes_through}
@@ -60,7 +61,7 @@ use Rattle.js_cursor.specs.Moves.{Keeps as KeepsOne}
 use Rattle.js_cursor.specs.Places.{IsAt, goal}
 use Rattle.js_parsing_laws.specs.Answers.{unclean}
 use Rattle.js_parsing_laws.specs.Classes.{EndsParse, IsEarly}
-use Rattle.js_parsing_laws.specs.Lexemes.{read_kinds, spot}
+use Rattle.js_parsing_laws.specs.Lexemes.{spot}
 use Rattle.js_parsing_laws.proofs.Giving.{kept_one}
 use Rattle.js_parsing_laws.proofs.Here.{found, uncut}
 use Rattle.js_parsing_laws.proofs.Moving.{same_both}
@@ -68,6 +69,7 @@ use Rattle.js_parsing_laws.proofs.Paths.{read_of, walked_to}
 use Rattle.js_parsing_laws.proofs.Signs.{none_kept}
 use Rattle.js_parsing_laws.proofs.Told.{told_at, told_same}
 use Rattle.js_parsing_laws.proofs.Verdicts.{grown_both}
+use Rattle.js_parsing_laws.proofs.NameKinds.{name_test}
 use Rattle.js_targets.specs.Taken.{LiteralRead, TakesTarget, no_target_at}
 use Rattle.js_targets.specs.Targets.{IsTarget, is_literal, target_of}
 use Rattle.js_targets.proofs.ArraysConverted.{signs}
@@ -78,7 +80,7 @@ use Rattle.js_expression_laws.specs.HeadOperands.{HeadOperand, NoTargetPart, Ope
 use Rattle.js_expression_laws.proofs.HeadOperands.{seen_part, target_part}
 use Rattle.js_cursor.specs.declared.stop.Stop.TheVariants.{Fatal, NoMemory}
 use Rattle.js_statement_laws.proofs.ForHeads.{last_between, no_empty, no_first_part, on_semicolon}
-use Rattle.js_statement_laws.proofs.Strings.{name_look, name_target}
+use Rattle.js_statement_laws.proofs.Strings.{name_target}
 use Rattle.js_statement_laws.proofs.WordLookaheads.{IsWord, Leads, async_word, at_once, ends_at, followed, is_word, leads_to, let_word, no_word, not_followed, stands_word, ◌⇒◌, ◌⇒✗◌}
 
 -- ---- whatever is read before a lexeme that doesn't stand there
@@ -119,21 +121,6 @@ in_or_of k h = by (same_kind kind.In k) refl h
     by : (b : Bool) → same_kind kind.In k ≡ b → (b || (same_kind kind.Of k || false)) ≡ true → (k ≡ kind.In) ⊎ (k ≡ kind.Of)
     by true e h = inl (sym (kind_of_same kind.In k e))
     by false e h = last (same_kind kind.Of k) refl h
-
--- neither stands there
-through_not : {text : List ℕ} {f : Flags} {q : Parser} → At text f q → ThroughHere q false → (y : Lexeme) → Lex text q.prev_token_end y → IsTrue (seen goes_through y) → ⊥
-through_not a n y l h = by (in_or_of y.kind parts.0)
-  where
-    parts : (one_of_kinds (kind.In ∷ kind.Of ∷ []) y.kind ≡ true) × (not y.escaped ≡ true)
-    parts = and_parts (one_of_kinds (kind.In ∷ kind.Of ∷ []) y.kind) (not y.escaped) h
-
-    plain : (b : Bool) → not b ≡ true → b ≡ false
-    plain true i = absurd (false≢true i)
-    plain false i = refl
-
-    by : (y.kind ≡ kind.In) ⊎ (y.kind ≡ kind.Of) → ⊥
-    by (inl e) = stands_not a refl n.0 y l e (plain y.escaped parts.1)
-    by (inr e) = stands_not a refl n.1 y l e (plain y.escaped parts.1)
 
 pub through_at : (q r : Parser) → r.token ≡ q.token → ThroughHere q true → ThroughHere r true
 through_at q r e (inl h) = inl (ap (λ (z : Token). z.kind) e ∙ h.0, ap (λ (z : Token). z.escaped) e ∙ h.1)
@@ -337,8 +324,8 @@ module _ {text : List ℕ} {f : Flags} (is_await : Bool) {p : Parser} (a : At te
       async_alone : (y z : Lexeme) → Lex text p.prev_token_end y → IsTrue (seen (is kind.Async) y) → Lex text y.to z → IsTrue (seen (is kind.Of) z) → IsAsyncAlone p.token r
       async_alone y z l q m o = by (stands_word p kind.Async)
         where
-          word_passes : IsTrue (seen (name_look f) y)
-          word_passes = subst (λ (k : Kind). name_look f k y.newline y.escaped ≡ true) (kind_of_same kind.Async y.kind (and_parts (same_kind kind.Async y.kind) (not y.escaped) q).0) refl
+          word_passes : IsTrue (seen (name_test f) y)
+          word_passes = subst (λ (k : Kind). name_test f k y.newline y.escaped ≡ true) (kind_of_same kind.Async y.kind (and_parts (same_kind kind.Async y.kind) (not y.escaped) q).0) refl
 
           ends_there : y.to ≡ r.prev_token_end
           ends_there = either_way t.path.verdict
@@ -516,7 +503,7 @@ module _ {text : List ℕ} {f : Flags} {p q : Parser} {id : NodeId} (a : At text
     pub none_marked : (p.token.kind ≡ kind.Async → ⊥) → ThroughHere q true → (start : ℕ) → start ≡ p.token.span.start → length q.errors ≡ length p.errors → Mark (goal q) q.text (no_target_at start q.prev_token_end)
     none_marked m t start d n = subst (λ (v : List ℕ). Mark (goal q) v (no_target_at start q.prev_token_end)) (sym x.answer.at.text_is) it
       where
-        word : (k : Kind) → is_last k ≡ false → is_right_angle k ≡ false → one_of_kinds read_kinds k ≡ true → one_of_kinds (kind.In ∷ kind.Of ∷ []) k ≡ true → StandsHere q k true → (y : Lexeme) × Lex text q.prev_token_end y × IsTrue (seen goes_through y)
+        word : (k : Kind) → is_last k ≡ false → is_right_angle k ≡ false → is_read_kind k ≡ true → one_of_kinds (kind.In ∷ kind.Of ∷ []) k ≡ true → StandsHere q k true → (y : Lexeme) × Lex text q.prev_token_end y × IsTrue (seen goes_through y)
         word k l g r m h =
             let z = found x.answer.at (uncut x.answer.at (ap (same_kind kind.RAngle) h.0 ∙ no_sign k g)) (ap is_last h.0 ∙ l) in
             let w : z.0.kind ≡ k = sym z.2.kind ∙ h.0 in

@@ -7,6 +7,7 @@ use Rattle.js_base.specs.declared.kind.Kind.{Kind}
 use Rattle.js_base.specs.declared.span.Span.{Span}
 use Rattle.js_base.specs.Contexts.{has_flag, in_flag}
 use Rattle.js_base.specs.Kinds.{same_kind, one_of_kinds}
+use Rattle.js_base.specs.KindSets.{binding_identifier_kinds}
 use Rattle.js_grammar.specs.Trees.{Span as TreeSpan, Label, Slots, end, tree, no_op, labeled_statement, label_identifier}
 use Rattle.js_grammar.specs.Grammar.{Lexeme, Lexemes, Look, last, next, here, seen, is, exact, lexeme, seq, such, nothing, label_of, Takes, is_seq, is_lexeme, is_such, ◌▸◌}
 use Rattle.js_grammar.specs.Parsing.{Test, plain, full, always, still, passing, Admits, Goes, Reads, Fails}
@@ -31,14 +32,13 @@ use Rattle.js_cursor.specs.Moves.{OnlyMemory}
 use Rattle.js_cursor.specs.declared.stop.Stop.{Stop}
 use Rattle.js_cursor.specs.declared.stop.Stop.TheVariants.{Fatal, NoMemory}
 use Rattle.js_parsing_laws.specs.Answers.{Grown, Stretch, Underived, Answer, Numbered, Stops}
-use Rattle.js_parsing_laws.specs.Lexemes.{Lex, Walked, may_name, name_kinds, Spot, spot, nowhere, one_more, more_faults, read_again}
+use Rattle.js_parsing_laws.specs.Lexemes.{Lex, Walked, may_name, Spot, spot, nowhere, one_more, more_faults, read_again}
 use Rattle.js_parsing_laws.specs.Nesting.{room}
 use Rattle.js_parsing_laws.specs.Moves.{Moved, MadeHere, plain_label}
 use Rattle.js_parsing_laws.specs.Statements.{placed, no_link, statement_kinds, after_statement, NoStatement, Statement, StatementOutcome, IsLabel}
 use Rattle.js_parsing_laws.specs.States.{At, Same}
 use Rattle.js_parsing_laws.proofs.Signs.{plain_sign}
-use Rattle.js_expression_laws.proofs.Conditionals.{colon_plain}
-use Rattle.js_parsing_laws.proofs.NameKinds.{at_name, listed_name, name_apart, name_passes, name_read, name_whole, names_at}
+use Rattle.js_parsing_laws.proofs.NameKinds.{at_name, listed_name, name_apart, name_passes, name_read, name_whole, names_at, name_test}
 use Rattle.js_parsing_laws.proofs.Dead.{lives}
 use Rattle.js_parsing_laws.proofs.Here.{found, kind_here, uncut}
 use Rattle.js_parsing_laws.proofs.MadeNodes.{leaf_held, two_held, one_lies, from_start}
@@ -47,10 +47,11 @@ use Rattle.js_parsing_laws.proofs.Paths.{Path, ◌⟼◌, ◌⟶◌, ◌⟶✗�
 use Rattle.js_statement_laws.proofs.Statements.{by_statement, no_function, no_function_body, no_symbol, no_lexical, no_expression_ends, before_colon, item_left, sub_left, colon_ends}
 use Rattle.js_statement_laws.specs.LetStatements.{behind_let, LetIsName}
 use Rattle.js_statement_laws.proofs.WordLookaheads.{AsyncIsName, let_word, not_followed, ◌⇒✗◌}
-use Rattle.js_statement_laws.proofs.Strings.{name_look, name_node, name_expression}
+use Rattle.js_statement_laws.proofs.Strings.{name_node, name_expression}
 use Rattle.js_parsing_laws.proofs.Escapes.{read_as, read_plain, keyword_none}
 use Rattle.js_parsing_laws.proofs.Verdicts.{either_way, verdict_of, grown_then}
 use Rattle.js_parsing_laws.proofs.Verdicts.{after as grown_behind}
+use Rattle.js_parsing_laws.proofs.PlainSigns.{colon_plain}
 use Rattle.js_operand_laws.proofs.Operands.{name_signless}
 
 -- ---- what may stand behind
@@ -147,7 +148,7 @@ module _ {text : List ℕ} {f : Flags} {p q : Parser} (a : At text f p) (x : Ans
   is_name : may_name f.yield_ f.await_ p.token.kind ≡ true
   is_name = names_at x.at (λ (b : Bool). b) p.token.kind ∙ i.name
 
-  is_listed : one_of_kinds name_kinds p.token.kind ≡ true
+  is_listed : one_of_kinds binding_identifier_kinds p.token.kind ≡ true
   is_listed = listed_name f.yield_ f.await_ p.token.kind is_name
 
   name : (y : Lexeme) × Lex text p.prev_token_end y × (may_name f.yield_ f.await_ y.kind ≡ true) × (y.to ≡ q.prev_token_end)
@@ -157,7 +158,7 @@ module _ {text : List ℕ} {f : Flags} {p q : Parser} (a : At text f p) (x : Ans
       let k : may_name f.yield_ f.await_ z.0.kind ≡ true = subst (λ (v : Kind). may_name f.yield_ f.await_ v ≡ true) z.2.kind is_name in
       (z.0, (z.1, read_as z.0 z.2 (name_read p.token.kind is_listed)), k, sym z.2.end ∙ i.place)
 
-  looks_so : IsTrue (seen (name_look f) name.0)
+  looks_so : IsTrue (seen (name_test f) name.0)
   looks_so = name_passes f name.0 name.2
 
   -- and the colon
@@ -189,13 +190,13 @@ module _ {text : List ℕ} {f : Flags} {p q : Parser} (a : At text f p) (x : Ans
   name_passed : (ls : Lexemes) → x.pass ls ≡ next name.0 ls
   name_passed = either_way x.verdict (λ c. one_lexeme x.walked name.0 colon.0 (only_name c)) (λ m. absurd (derived m))
 
-  name_path : Path text f (plain full) (lexeme (name_look f)) p nothing q (λ us. us)
+  name_path : Path text f (plain full) (lexeme (name_test f)) p nothing q (λ us. us)
   name_path = record {
     at = x.at;
     further = x.further;
     pass = λ ls. next name.0 ls;
     walked = subst (λ (h : Lexemes → Lexemes). Walked text (spot p) (spot q) h) (λ i ls. name_passed ls i) x.walked;
-    verdict = verdict_of x.verdict (λ c. record { reach = 0; near = omega arith; goes = subst (λ (e : ℕ). Reads rule (Lex text) (plain full) end (lexeme (name_look f)) p.prev_token_end e (λ us. us) (passing name.0)) name.3 (reads_lexeme (name_look f) name.1 looks_so (λ z l h. one_read a (name_signless p.token.kind is_listed) l name.1)) }) (λ m. absurd (derived m));
+    verdict = verdict_of x.verdict (λ c. record { reach = 0; near = omega arith; goes = subst (λ (e : ℕ). Reads rule (Lex text) (plain full) end (lexeme (name_test f)) p.prev_token_end e (λ us. us) (passing name.0)) name.3 (reads_lexeme (name_test f) name.1 looks_so (λ z l h. one_read a (name_signless p.token.kind is_listed) l name.1)) }) (λ m. absurd (derived m));
   }
 
   pub label_path : Path text f (plain full) (symbol LabelIdentifier f) p nothing q (tree (label_here label_identifier no_op p q) end)

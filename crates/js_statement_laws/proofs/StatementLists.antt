@@ -9,8 +9,9 @@ use Rattle.js_base.specs.declared.kind.Kind.TheVariants.{Async, Case, Default, E
 use Rattle.js_base.specs.declared.span.Span.{Span}
 use Rattle.js_base.specs.Contexts.{has_flag, in_flag}
 use Rattle.js_base.specs.Kinds.{same_kind, one_of_kinds}
-use Rattle.js_grammar.specs.Trees.{Label, Slots, end, hole, tree, append, no_op, directive, expression_statement}
-use Rattle.js_grammar.specs.Grammar.{Lexeme, Lexemes, Look, is, here, seen, seq, alt, many, when, such, nothing, Takes, is_nothing, is_seq, is_left, is_right, is_many, is_such}
+use Rattle.js_base.specs.KindSets.{binding_identifier_kinds}
+use Rattle.js_grammar.specs.Trees.{Label, Slots, end, tree, append, no_op, directive, expression_statement}
+use Rattle.js_grammar.specs.Grammar.{Lexeme, Lexemes, Look, is, here, seen, seq, alt, many, such, nothing, Takes, is_nothing, is_seq, is_left, is_right, is_many, is_such}
 use Rattle.js_grammar.specs.Insertion.{goes_on}
 use Rattle.js_grammar.specs.Conditions.{not_string}
 use Rattle.js_grammar.specs.Lexed.{Lexes}
@@ -24,6 +25,7 @@ use Rattle.js_grammar.proofs.Calculus.{Between, Sure, ◌▹◌, ◌▹✗◌, s
 use Rattle.js_grammar.proofs.FirstRules.{by_first}
 use Rattle.js_grammar.proofs.FirstClaims.{firsts}
 use Rattle.js_grammar.proofs.FollowLaws.{expression_ended, surely}
+use Rattle.js_grammar.proofs.Frame.{append_assoc}
 use Rattle.js_grammar.specs.Follow.{surest}
 use Rattle.js_tree.specs.declared.id.NodeId.{NodeId}
 use Rattle.js_tree.specs.declared.kind.NodeKind.{NodeKind}
@@ -35,7 +37,7 @@ use Rattle.js_tree.specs.Holding.{Holds, HoldsAll, Keeps}
 use Rattle.js_tree.proofs.HoldingLemmas.{HoldsAll-none, HoldsAll-next, Holds-below, Keeps-refl, Keeps-trans, Keeps-made}
 use Rattle.js_cursor.specs.Moves.{is_last}
 use Rattle.js_cursor.specs.Parsers.{Parser}
-use Rattle.js_parsing_laws.specs.Lexemes.{Lex, name_kinds, nowhere, keyword_kind}
+use Rattle.js_parsing_laws.specs.Lexemes.{Lex, nowhere, keyword_kind}
 use Rattle.js_parsing_laws.specs.States.{At, Same, NodesLie}
 use Rattle.js_parsing_laws.specs.Nesting.{room}
 use Rattle.js_parsing_laws.specs.Moves.{MadeHere, plain_label}
@@ -48,9 +50,10 @@ use Rattle.js_parsing_laws.proofs.Verdicts.{verdict_of, either_way, and_then}
 use Rattle.js_parsing_laws.proofs.Moving.{same_both, same_itself, same_with, beside_nodes}
 use Rattle.js_parsing_laws.proofs.MadeNodes.{one_held}
 use Rattle.js_parsing_laws.proofs.Paths.{Path, ◌⟶✗◌, not_here, fails_at, noded_by, by_symbol_as, label_here, walked_both}
+use Rattle.js_parsing_laws.proofs.Signs.{other_kind}
 use Rattle.js_statement_laws.specs.LetStatements.{LetIsName}
 use Rattle.js_statement_laws.proofs.WordLookaheads.{AsyncIsName, no_async_here, no_let_here}
-use Rattle.js_statement_laws.proofs.Statements.{none_of_one, to_semicolon, end_path, unended, statement_path, statement_fails, statement_unended, ended_so, no_label_at}
+use Rattle.js_statement_laws.proofs.Statements.{to_semicolon, end_path, unended, statement_path, statement_fails, statement_unended, ended_so, no_label_at}
 use Rattle.js_statement_laws.proofs.Strings.{is_literal, string_first, string_alone, string_expression, first_is_string, stated, stating, string_statement, other_statement}
 
 -- ---- lists that grew, or did not
@@ -266,7 +269,7 @@ module _ {text : List ℕ} {f : Flags} {p : Parser} (a : At text f p) (s : p.tok
   no_async = no_async_here a (λ k e. let q : Str ≡ Async = sym s ∙ k in absurd (cc))
 
   no_label : (X : Test) → Fails rule (Lex text) X end (symbol Labeled f) p.prev_token_end
-  no_label X = no_label_at a (ap (one_of_kinds name_kinds) s) X
+  no_label X = no_label_at a (ap (one_of_kinds binding_identifier_kinds) s) X
 
   -- neither an expression stands here, nor a directive
   pub no_opening : (sl : StatementList) → Underived text (at Expression f) p.prev_token_end → NoList text sl (with_directives sl f) p.prev_token_end
@@ -344,13 +347,8 @@ opening_taken p w id false h = h
 
 -- ---- lists
 
-append_more : (as' bs us : Slots) → append (append as' bs) us ≡ append as' (append bs us)
-append_more end bs us = refl
-append_more (hole ts) bs us = ap hole (append_more ts bs us)
-append_more (tree m ds ts) bs us = ap (λ (v : Slots). tree m ds v) (append_more ts bs us)
-
 append_tree : (h : Slots → Slots) (l : Label) (cs : Slots) → ((us : Slots) → h us ≡ append (h end) us) → (us : Slots) → h (tree l cs us) ≡ append (h (tree l cs end)) us
-append_tree h l cs e us = e (tree l cs us) ∙ (sym (append_more (h end) (tree l cs end) us) ∙ ap (λ (v : Slots). append v us) (sym (e (tree l cs end))))
+append_tree h l cs e us = e (tree l cs us) ∙ (sym (append_assoc (h end) (tree l cs end) us) ∙ ap (λ (v : Slots). append v us) (sym (e (tree l cs end))))
 
 module _ {text : List ℕ} {f : Flags} {sl : StatementList} {g : G} where
   pub none_taken : {p : Parser} {ids : List (Option NodeId)} → At text f p → ids ≡ [] → Taken text f sl g g p p ids
@@ -432,7 +430,7 @@ module _ {text : List ℕ} {f : Flags} {p q : Parser} {ids : List (Option NodeId
   pub statements_follow : Taken text f sl (with_directives sl f) (with_directives sl f) p q ids → (q.token.kind ≡ Str → ⊥) → Taken text f sl (with_directives sl f) (statements sl f) p q ids
   unfolding covers apart
   statements_follow s n =
-      let none = none_of_one Str q.token.kind n in
+      let none = other_kind Str q.token.kind n in
       taken_so s (split sl f ▹ right (part_fails (fails_at s.at {X = plain no_link} (directives f) (Str ∷ []) refl none) (before_list sl))
       ▹ untested sl f (λ y l h. not_here s.at (Str ∷ []) refl none y l (covered (is Str) (λ k w e. one_of_kinds (Str ∷ []) k) refl y.kind y.newline y.escaped h)))
 

@@ -1,17 +1,18 @@
 -- Statements, and the semicolons that end them or are left out.
-use Rattle.js_parsing_laws.proofs.Ahead.{pass_over}
 use Rattle.js_statement_laws.specs.LetStatements.{behind_let, LetIsName}
 use Rattle.js_statement_laws.proofs.WordLookaheads.{AsyncIsName, Leads, at_once, ◌⇒◌, ◌⇒✗◌, async_word, leads_to, let_word, name_in_body, not_followed}
 use Rattle.std.proofs.Common.{ℕ, ◌≡◌, ◌≤◌, max, inl, inr, List, [], ◌∷◌, length, Bool, true, false, not, ◌&&◌, ◌||◌, IsTrue, Some, refl, sym, ap, subst, arith, ◌∙◌}
 use Rattle.std.specs.Prelude.{◌↔◌, Result, Ok, Err, MatchResult}
 use Rattle.js_base.specs.declared.token.Token.{Token}
 use Rattle.std.proofs.lemmas.Bool.{false≢true, not-true, or_left, and_from, and_parts}
+use Rattle.js_expression_laws.proofs.BinaryOperators.{different}
 use Rattle.js_base.specs.declared.kind.Kind.{Kind}
 use Rattle.js_base.specs.declared.kind.Kind.TheVariants.{Colon, Yield, Semicolon, RCurly, Eof, RAngle, LCurly, LBrack, At as at_sign, RegExp}
 use Rattle.js_base.specs.declared.kind.Kind.TheVariants as kind
 use Rattle.js_base.specs.declared.span.Span.{Span}
 use Rattle.js_base.specs.Contexts.{has_flag, in_flag}
 use Rattle.js_base.specs.Kinds.{same_kind, one_of_kinds}
+use Rattle.js_base.specs.KindSets.{binding_identifier_kinds, identifier_name_kinds}
 use Rattle.js_base.proofs.KindLemmas.{kind_of_same}
 use Rattle.js_base.specs.Texts.{words}
 use Rattle.js_grammar.specs.Words.{'let', 'const', 'async', 'function', 'class'}
@@ -30,7 +31,7 @@ use Rattle.js_grammar.specs.Productions.{sym as symbol}
 use Rattle.js_grammar.specs.Table.{rule, rule_of, function_of, identifier, declarator, declarators}
 use Rattle.js_grammar.specs.Follow.{row_of, looser, after}
 use Rattle.js_grammar.proofs.Looks.{covers, covered, apart, not_both}
-use Rattle.js_grammar.proofs.Calculus.{◌▹◌, ◌▹✗◌, left, right, ends_by, looks, by_omission, fails_ended, fails_semicolon, fails_rule, fails_node, fails_alt, inside_plain, here_at, passes_none, ends, closes, weaken_fails_on}
+use Rattle.js_grammar.proofs.Calculus.{◌▹◌, ◌▹✗◌, left, right, ends_by, by_omission, fails_ended, fails_semicolon, fails_rule, fails_node, fails_alt, inside_plain, here_at, passes_none, ends, closes, weaken_fails_on}
 use Rattle.js_grammar.proofs.FollowLaws.{admits, expression_ended}
 use Rattle.js_grammar.proofs.RightEdges.{at_row}
 use Rattle.js_grammar.proofs.First.{starts, starting}
@@ -47,7 +48,7 @@ use Rattle.js_cursor.specs.Parsers.{Parser}
 use Rattle.js_cursor.specs.Moves.{MayEnd, EndsOr, GivesUp, IsUnexpected, OnlyMemory, ends_statement}
 use Rattle.js_cursor.specs.declared.stop.Stop.{Stop}
 use Rattle.js_cursor.specs.declared.stop.Stop.TheVariants.{Fatal, NoMemory}
-use Rattle.js_parsing_laws.specs.Lexemes.{Lex, may_name, name_kinds, other_goals, read_kinds, signs_of, slashes, template_tails, Plain, keyword_kind, read_word}
+use Rattle.js_parsing_laws.specs.Lexemes.{Lex, may_name, other_goals, signs_of, slashes, template_tails, Plain, keyword_kind, is_read_kind}
 use Rattle.js_parsing_laws.specs.States.{At, Same, NodesLie}
 use Rattle.js_parsing_laws.specs.Moves.{IsWholeHere, Moved, MadeHere, LeafTaken, TakesLeaf, plain_label, unpassable}
 use Rattle.js_parsing_laws.specs.Answers.{Underived, Answer, Numbered, Stops, beside}
@@ -55,19 +56,20 @@ use Rattle.js_parsing_laws.specs.Statements.{placed, link_kinds, statement_kinds
 use Rattle.js_declarations.specs.Declarations.{stops_row}
 use Rattle.js_parsing_laws.proofs.Verdicts.{verdict_of, either_way}
 use Rattle.js_parsing_laws.proofs.Moving.{moves, same_both, same_itself, same_with, beside_nodes}
-use Rattle.js_parsing_laws.proofs.NameKinds.{name_whole, names_at, test_named}
+use Rattle.js_parsing_laws.proofs.NameKinds.{name_whole, names_at, test_named, name_test}
 use Rattle.js_parsing_laws.proofs.Here.{kind_here, newline_here, plain_token, told, uncut, unsettled, escaped_here}
-use Rattle.js_parsing_laws.proofs.Signs.{closing_there}
+use Rattle.js_parsing_laws.proofs.Signs.{closing_there, other_kind}
 use Rattle.js_parsing_laws.proofs.Dead.{live, lives}
 use Rattle.js_parsing_laws.proofs.MadeNodes.{leaf_held, one_held, one_lies, LabelLies, from_start}
 use Rattle.js_parsing_laws.proofs.Paths.{begins_by, reads, Path, ◌⟼◌, ◌⟶◌, ◌⟶✗◌, at_kind, not_here, fails_at, last_token, noded, noded_by, by_symbol_as, label_here}
 use Rattle.js_parsing_laws.proofs.Escapes.{read_plain, keyword_plain, plain_or_word}
 use Rattle.js_parsing_laws.proofs.Tight.{plain_so}
-use Rattle.js_statement_laws.proofs.Strings.{name_look, name_node, name_expression}
+use Rattle.js_statement_laws.proofs.Strings.{name_node, name_expression}
 use Rattle.js_parsing_laws.proofs.Giving.{gives_up, gives_up_here, fails_at_word}
 use Rattle.js_parsing_laws.proofs.Classes.{here_ends}
 use Rattle.js_base.specs.declared.diagnostic.DiagnosticKind.TheVariants.{ExpectToken}
 use Rattle.js_parsing_laws.proofs.Slashes.{sign_there}
+use Rattle.js_parsing_laws.proofs.NamedFirsts.{either_of}
 use Rattle.js_operand_laws.specs.declared.forms.FunctionForm.TheVariants.{Declaration}
 use Rattle.js_operand_laws.specs.Functions.{function_line}
 use Rattle.js_operand_laws.proofs.Functions.{none_left}
@@ -82,7 +84,7 @@ a ⟝ b = record { at = a.at; further = a.further; pass = a.pass; walked = a.wal
 
 -- what goes on with no expression on a new line, and is no semicolon and no link: before it one may be left out
 abbrev on_a_line : Row → Look
-on_a_line r k w e = (not e || read_word k) && ((looser 1 true r k w e || beside k w e) && (w && (not (one_of_kinds link_kinds k) && not (same_kind Semicolon k))))
+on_a_line r k w e = (not e || one_of_kinds identifier_name_kinds k) && ((looser 1 true r k w e || beside k w e) && (w && (not (one_of_kinds link_kinds k) && not (same_kind Semicolon k))))
 
 line_omits : (r : Row) → covers (on_a_line r) (may_omit (goes_on r)) ≡ true
 unfolding covers
@@ -161,27 +163,12 @@ no_coloned_semicolon : apart a_colon semicolon_look ≡ true
 unfolding apart
 no_coloned_semicolon = refl
 
-pub either_of : {T : Type 0} (b c : Bool) → (b || c) ≡ true → (b ≡ true → T) → (c ≡ true → T) → T
-either_of true c h g i = g refl
-either_of false c h g i = i h
-
-not_kind : (a k : Kind) → (k ≡ a → ⊥) → same_kind a k ≡ false
-not_kind a k n = go (same_kind a k) refl
-  where
-    go : (b : Bool) → same_kind a k ≡ b → same_kind a k ≡ false
-    go true e = absurd (n (sym (kind_of_same a k e)))
-    go false e = e
-
--- the kind alone, in a list of one
-pub none_of_one : (a k : Kind) → (k ≡ a → ⊥) → one_of_kinds (a ∷ []) k ≡ false
-none_of_one a k n = rw (not_kind a k n) refl
-
 -- one of the two signs that may stand at a regular expression, on a new line
 abbrev slash_on_line : Look
 slash_on_line k w e = one_of_kinds slashes k && (not e && w)
 
 abbrev slash_is : Look
-slash_is k w e = one_of_kinds read_kinds k && not (one_of_kinds other_goals k)
+slash_is k w e = is_read_kind k && not (one_of_kinds other_goals k)
 
 slash_read : covers (λ k w e. one_of_kinds slashes k) slash_is ≡ true
 unfolding covers
@@ -235,7 +222,7 @@ module _ {text : List ℕ} {f : Flags} {q : Parser} (a : At text f q) where
   no_semicolon n y l = go (same_kind Semicolon y.kind) refl
     where
       go : (b : Bool) → same_kind Semicolon y.kind ≡ b → same_kind Semicolon y.kind ≡ false
-      go true h = absurd (not_here a (Semicolon ∷ []) refl (none_of_one Semicolon q.token.kind n) y l (rw h refl))
+      go true h = absurd (not_here a (Semicolon ∷ []) refl (other_kind Semicolon q.token.kind n) y l (rw h refl))
       go false h = h
 
   -- at a brace and at the end of the text
@@ -258,7 +245,7 @@ module _ {text : List ℕ} {f : Flags} {q : Parser} (a : At text f q) where
       let z = sign_there l.0 h in
       let a_slash : one_of_kinds slashes z.lexeme.kind ≡ true = subst (λ (k : Kind). one_of_kinds (signs_of k) z.lexeme.kind ≡ true) e z.is in
       let n : z.lexeme.escaped ≡ false = z.escaped ∙ read_plain y l e refl in
-      let k = and_parts (one_of_kinds read_kinds z.lexeme.kind) _ (covered (λ k w e. one_of_kinds slashes k) slash_is slash_read z.lexeme.kind false false a_slash) in
+      let k = and_parts (is_read_kind z.lexeme.kind) _ (covered (λ k w e. one_of_kinds slashes k) slash_is slash_read z.lexeme.kind false false a_slash) in
       let p : Plain text q.prev_token_end z.lexeme = (z.stands.lex, and_from _ _ k.0 k.1) in
       let o = covered (λ k w e. slash_on_line k w e && S r k w e) (pattern_omits r) (c r) z.lexeme.kind z.lexeme.newline z.lexeme.escaped (and_from _ _ (and_from _ _ a_slash (and_from _ _ (ap not n) (z.newline ∙ (newline_here a y l ∙ w)))) (s z.lexeme p)) in
       subst (λ (j : Kind). may_omit (goes_on r) j y.newline y.escaped ≡ true) (sym e) (subst (λ (b : Bool). may_omit (goes_on r) RegExp b y.escaped ≡ true) z.newline (subst (λ (b : Bool). may_omit (goes_on r) RegExp z.lexeme.newline b ≡ true) z.escaped o))
@@ -407,11 +394,11 @@ colon_ends true = refl
 colon_ends false = refl
 
 -- the two lexemes that a label begins with
-name_first : (f : Flags) {ks ts us : Slots} {i j : ℕ} {ls rest : Lexemes} → Takes rule (identifier label_identifier f) ks ts i ls us j rest → (y : Lexeme) × (ls ≡ next y rest) × (j ≡ y.to) × IsTrue (seen (name_look f) y)
+name_first : (f : Flags) {ks ts us : Slots} {i j : ℕ} {ls rest : Lexemes} → Takes rule (identifier label_identifier f) ks ts i ls us j rest → (y : Lexeme) × (ls ≡ next y rest) × (j ≡ y.to) × IsTrue (seen (name_test f) y)
 name_first f (is_node (is_lexeme {x = y} t)) = (y, refl, refl, t)
 
 module _ {text : List ℕ} {f : Flags} {s : ℕ} where
-  pub labels_fail : {X : Test} → ((y z : Lexeme) (rest : Lexemes) → Lex text s y → Lexes (Lex text) y.to (next z rest) → IsTrue (seen (name_look f) y) → IsTrue (seen (is Colon) z) → ⊥) → Fails rule (Lex text) X end (symbol Labeled f) s
+  pub labels_fail : {X : Test} → ((y z : Lexeme) (rest : Lexemes) → Lex text s y → Lexes (Lex text) y.to (next z rest) → IsTrue (seen (name_test f) y) → IsTrue (seen (is Colon) z) → ⊥) → Fails rule (Lex text) X end (symbol Labeled f) s
   unfolding rule rule_of
   labels_fail r = record { no = λ ts vs k ls rest l d e. by_symbol d l }
     where
@@ -424,7 +411,7 @@ module _ {text : List ℕ} {f : Flags} {s : ℕ} where
 -- where the expression is no name with a colon behind it, no label stands
 module _ {text : List ℕ} {f : Flags} {p q : Parser} (a : At text f p) (x : Answer text f (at Expression f) p q) (m : IsLabel p.token q → ⊥) where
   -- the two lexemes of a label
-  two_stand : (y z : Lexeme) (rest : Lexemes) → Lex text p.prev_token_end y → Lex text y.to z → Lexes (Lex text) y.to (next z rest) → IsTrue (seen (name_look f) y) → IsTrue (seen (is Colon) z) → ⊥
+  two_stand : (y z : Lexeme) (rest : Lexemes) → Lex text p.prev_token_end y → Lex text y.to z → Lexes (Lex text) y.to (next z rest) → IsTrue (seen (name_test f) y) → IsTrue (seen (is Colon) z) → ⊥
   unfolding covers apart
   two_stand y z rest l i ls t c =
       let cs = label_of name_node (next y (next z rest)) y.to (next z rest) in
@@ -434,15 +421,15 @@ module _ {text : List ℕ} {f : Flags} {p q : Parser} (a : At text f p) (x : Ans
       (λ u. let w = u.goes.only (tree cs end end) end y.to (next y (next z rest)) (next z rest) (l, ls) d e in let n = ends w.4 in m (label (subst (λ (v : Lexemes). Lexes (Lex text) q.prev_token_end v) n.2 w.3) (sym n.1)))
       (λ n. n.no (tree cs end end) end y.to (next y (next z rest)) (next z rest) (l, ls) d e)
     where
-      name_kind : one_of_kinds name_kinds y.kind ≡ true
-      name_kind = covered (λ k w e. may_bind k && reads k w e) (λ k w e. one_of_kinds name_kinds k) refl y.kind y.newline y.escaped (and_from _ _ (and_parts (may_bind y.kind) _ (and_parts (may_bind y.kind && not (same_kind Yield y.kind && f.yield_)) _ t).0).0 l.1)
+      name_kind : one_of_kinds binding_identifier_kinds y.kind ≡ true
+      name_kind = covered (λ k w e. may_bind k && reads k w e) (λ k w e. one_of_kinds binding_identifier_kinds k) refl y.kind y.newline y.escaped (and_from _ _ (and_parts (may_bind y.kind) _ (and_parts (may_bind y.kind && not (same_kind Yield y.kind && f.yield_)) _ t).0).0 l.1)
 
-      token_kind : one_of_kinds name_kinds p.token.kind ≡ true
-      token_kind = go (one_of_kinds name_kinds p.token.kind) refl
+      token_kind : one_of_kinds binding_identifier_kinds p.token.kind ≡ true
+      token_kind = go (one_of_kinds binding_identifier_kinds p.token.kind) refl
         where
-          go : (b : Bool) → one_of_kinds name_kinds p.token.kind ≡ b → one_of_kinds name_kinds p.token.kind ≡ true
+          go : (b : Bool) → one_of_kinds binding_identifier_kinds p.token.kind ≡ b → one_of_kinds binding_identifier_kinds p.token.kind ≡ true
           go true e = e
-          go false e = absurd (not_here a name_kinds refl e y l name_kind)
+          go false e = absurd (not_here a binding_identifier_kinds refl e y l name_kind)
 
       colon_kind : Lex text q.prev_token_end z → q.token.kind ≡ Colon
       colon_kind h = go (same_kind Colon q.token.kind) refl
@@ -462,9 +449,9 @@ pub no_label_here : {text : List ℕ} {f : Flags} {s : ℕ} → Underived text (
 no_label_here {text} {f} n X = labels_fail (λ y z rest l i t c. n.no (tree (label_of name_node (next y (next z rest)) y.to (next z rest)) end end) end y.to (next y (next z rest)) (next z rest) (l, i) (name_expression t) (admits (at Expression f) (tree (label_of name_node (next y (next z rest)) y.to (next z rest)) end end) z (covered (is Colon) (looser 1 f.in_ after_expression) (colon_ends f.in_) z.kind z.newline z.escaped c)))
 
 -- at another kind than a name
-pub no_label_at : {text : List ℕ} {f : Flags} {p : Parser} → At text f p → one_of_kinds name_kinds p.token.kind ≡ false → (X : Test) → Fails rule (Lex text) X end (symbol Labeled f) p.prev_token_end
+pub no_label_at : {text : List ℕ} {f : Flags} {p : Parser} → At text f p → one_of_kinds binding_identifier_kinds p.token.kind ≡ false → (X : Test) → Fails rule (Lex text) X end (symbol Labeled f) p.prev_token_end
 unfolding covers apart
-no_label_at {f = f} a n X = fails_at a {X = X} (symbol Labeled f) name_kinds refl n
+no_label_at {f = f} a n X = fails_at a {X = X} (symbol Labeled f) binding_identifier_kinds refl n
 
 -- nor a declaration of a function, as a body
 pub no_function_body : {text : List ℕ} {f : Flags} {p : Parser} {X : Test} → At text f p → one_of_kinds statement_kinds (keyword_kind p.token) ≡ false → Fails rule (Lex text) X end (function_of function_declaration (symbol BindingIdentifier f) false false f) p.prev_token_end
@@ -651,7 +638,7 @@ in_of a h = sym (ap (λ (g : Flags). g.in_) a.flags_are) ∙ h
 
 -- none of the kinds that begin a statement alone
 pub no_own_kind : (k : Kind) → (k ≡ LCurly → ⊥) → (k ≡ Semicolon → ⊥) → (k ≡ kind.If → ⊥) → (k ≡ kind.Do → ⊥) → (k ≡ kind.While → ⊥) → (k ≡ kind.With → ⊥) → (k ≡ kind.Break → ⊥) → (k ≡ kind.Continue → ⊥) → (k ≡ kind.Return → ⊥) → (k ≡ kind.Function → ⊥) → (k ≡ kind.Throw → ⊥) → (k ≡ kind.Switch → ⊥) → (k ≡ kind.Try → ⊥) → (k ≡ kind.For → ⊥) → (k ≡ kind.Debugger → ⊥) → (k ≡ kind.Var → ⊥) → (k ≡ kind.Const → ⊥) → one_of_kinds statement_kinds k ≡ false
-no_own_kind k m a b c d e f g r o h u v w i j l = rw (not_kind LCurly k m, not_kind Semicolon k a, not_kind kind.If k b, not_kind kind.Do k c, not_kind kind.While k d, not_kind kind.With k e, not_kind kind.Break k f, not_kind kind.Continue k g, not_kind kind.Return k r, not_kind kind.Function k o, not_kind kind.Throw k h, not_kind kind.Switch k u, not_kind kind.Try k v, not_kind kind.For k w, not_kind kind.Debugger k i, not_kind kind.Var k j, not_kind kind.Const k l) refl
+no_own_kind k m a b c d e f g r o h u v w i j l = rw (different LCurly k m, different Semicolon k a, different kind.If k b, different kind.Do k c, different kind.While k d, different kind.With k e, different kind.Break k f, different kind.Continue k g, different kind.Return k r, different kind.Function k o, different kind.Throw k h, different kind.Switch k u, different kind.Try k v, different kind.For k w, different kind.Debugger k i, different kind.Var k j, different kind.Const k l) refl
 
 -- the code found no label
 pub no_colon : (p q : Parser) {t : Token} {b : Bool} → t ≡ p.token → IsTrue b ↔ IsLabel t q → b ≡ false → IsLabel p.token q → ⊥

@@ -1,10 +1,9 @@
 -- A string alone: an expression that is a string is nothing else, and a string is an expression.
 use Rattle.std.proofs.Common.{ℕ, ◌≡◌, Bool, true, false, not, ◌&&◌, ◌||◌, IsTrue, nat_eq, refl, sym, ap, subst, ◌∙◌}
-use Rattle.std.proofs.lemmas.Bool.{false≢true, and_parts, eqb-true}
+use Rattle.std.proofs.lemmas.Bool.{false≢true, and_parts, eqb-true, not-true}
+use Rattle.js_parsing_laws.proofs.NameKinds.{name_test}
 use Rattle.js_grammar.specs.Conditions.{not_string}
-use Rattle.js_base.specs.declared.kind.Kind.TheVariants.{Str, Yield, Await}
-use Rattle.js_base.specs.Kinds.{same_kind}
-use Rattle.js_grammar.specs.Insertion.{may_bind}
+use Rattle.js_base.specs.declared.kind.Kind.TheVariants.{Str, Yield}
 use Rattle.js_grammar.specs.Trees.{Span, NodeKind, identifier_reference, string_literal, expression_statement, Op, no_op, Label, Slots, end, hole, tree, append}
 use Rattle.js_grammar.specs.Grammar.{Lexeme, Lexemes, next, Look, Make, Extent, exact, label_of, here, seen, semicolon, is, lexeme, look, ahead, seq, alt, when, such, node, ended, keep, Takes, is_lexeme, is_look, is_ahead, is_seq, is_left, is_right, is_when, is_such, is_node, is_ended, is_keep}
 use Rattle.js_grammar.specs.Productions.{G, Flags, Name, Symbol, Item, ListItem, Statement, ExprStmt, Block, Empty, Var, If, Do, While, With, For, ForIn, ForOf, Continue, Break, Return, Throw, Switch, Try, Debugger, Labeled, Function, Class, Lexical, ImportDecl, ExportDecl, Expression, Assignment, Yield, Arrow', Conditional, Short, Coalesce, Or, And, BitOr, BitXor, BitAnd, Equality, Relational, Shift, Additive, Multiply, Exponent, Unary, Update, LeftHandSide, New, Member, Call, Chain, Primary, Template, IdentifierReference, Object, FuncExpr, ClassExpr, Target}
@@ -190,18 +189,14 @@ pub string_expression : {f : Flags} {ks ts us : Slots} {i j : ℕ} {ls rest : Le
 unfolding rule rule_of
 string_expression {f} (is_node (is_lexeme p)) = as_expression f (is_such (is_right (is_right (is_right (is_right (is_right (is_left (is_node (is_lexeme p)))))))) refl)
 
--- a name is one
-abbrev pub name_look : Flags → Look
-name_look f a w e = may_bind a && not (same_kind Yield a && f.yield_) && not (same_kind Await a && f.await_)
-
 abbrev pub name_node : Make
 name_node = record { kind = identifier_reference; op = no_op; flags = 0; extent = exact }
 
-pub name_expression : {f : Flags} {ks us : Slots} {i : ℕ} {y : Lexeme} {rest : Lexemes} → IsTrue (seen (name_look f) y) → Takes rule (symbol Expression f) ks (tree (label_of name_node (next y rest) y.to rest) end us) i (next y rest) us y.to rest
+pub name_expression : {f : Flags} {ks us : Slots} {i : ℕ} {y : Lexeme} {rest : Lexemes} → IsTrue (seen (name_test f) y) → Takes rule (symbol Expression f) ks (tree (label_of name_node (next y rest) y.to rest) end us) i (next y rest) us y.to rest
 unfolding rule rule_of
 name_expression {f} h = as_expression f (is_such (is_right (is_left (is_such (is_node (is_lexeme h)) refl))) refl)
 
-pub name_target : {f : Flags} {ks us : Slots} {i : ℕ} {y : Lexeme} {rest : Lexemes} → IsTrue (seen (name_look f) y) → Takes rule (symbol Target f) ks (tree (label_of name_node (next y rest) y.to rest) end us) i (next y rest) us y.to rest
+pub name_target : {f : Flags} {ks us : Slots} {i : ℕ} {y : Lexeme} {rest : Lexemes} → IsTrue (seen (name_test f) y) → Takes rule (symbol Target f) ks (tree (label_of name_node (next y rest) y.to rest) end us) i (next y rest) us y.to rest
 unfolding rule rule_of
 name_target h = is_such (is_left (is_such (is_left (is_such (is_node (is_lexeme h)) refl)) refl)) refl
 
@@ -368,12 +363,8 @@ parts_of expression_statement o fl sp end h = absurd (false≢true (sym h))
 parts_of expression_statement o fl sp (hole us) h = absurd (false≢true (sym h))
 parts_of _ o fl sp cs h = absurd (false≢true (sym h))
 
-not_not : (b : Bool) → not b ≡ true → b ≡ false
-not_not true h = absurd (false≢true h)
-not_not false h = refl
-
 never_stated : (g : G) {ks ts us : Slots} {i j : ℕ} {ls rest : Lexemes} → Takes rule g ks ts i ls us j rest → no_statement g ≡ true → string_stated ts ≡ true → ⊥
-never_stated (node m a) (is_node {cs = cs} {j = j} {ls = ls} {rest = rest} d) h q = let z = parts_of m.kind m.op m.flags (label_of m ls j rest).span cs (not_not _ q) in false≢true (sym (ap not z.0) ∙ h)
+never_stated (node m a) (is_node {cs = cs} {j = j} {ls = ls} {rest = rest} d) h q = let z = parts_of m.kind m.op m.flags (label_of m ls j rest).span cs (not-true _ q) in false≢true (sym (ap not z.0) ∙ h)
 never_stated _ d h q = absurd (false≢true h)
 
 -- A statement of a string alone begins with it.
@@ -385,7 +376,7 @@ stated (when c a) (is_when t d) h q = stated a d h q
 stated (such n c) (is_such d t) h q = stated (rule n) d (stating_line n h) q
 stated (node m a) (is_node {cs = cs} {j = j} {ls = ls} {rest = rest} d) h q =
     let l = label_of m ls j rest in
-    let z = parts_of m.kind m.op m.flags l.span cs (not_not _ q) in
+    let z = parts_of m.kind m.op m.flags l.span cs (not-true _ q) in
     ended_string a d (second (is_statement m.kind) _ h z.0) z.1
 stated (keep a b) (is_keep d e) h q = absurd (never_stated b e h q)
 stated _ d h q = absurd (false≢true h)

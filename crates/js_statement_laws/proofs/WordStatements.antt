@@ -8,6 +8,7 @@ use Rattle.js_base.specs.declared.kind.Kind.TheVariants as kind
 use Rattle.js_base.specs.declared.source_type.SourceType.{SourceType}
 use Rattle.js_base.specs.declared.span.Span.{Span}
 use Rattle.js_base.specs.Kinds.{same_kind, one_of_kinds}
+use Rattle.js_base.specs.KindSets.{binding_identifier_kinds, identifier_name_kinds}
 use Rattle.js_base.specs.Contexts.{has_flag, yield_flag, await_flag}
 use Rattle.js_grammar.specs.Trees.{Slots, end, hole, tree, append, Label, no_op, debugger_statement, label_identifier, throw_statement}
 use Rattle.js_grammar.specs.Grammar.{Lexeme, Lexemes, Look, here, seen, may_omit, ended, semicolon, empty_slot, next, nothing, such, Takes, is_seq, is_lexeme, is_look, ◌▸◌}
@@ -41,9 +42,9 @@ use Rattle.js_cursor.specs.Places.{goal}
 use Rattle.js_cursor.specs.declared.stop.Stop.{Stop}
 use Rattle.js_cursor.specs.declared.stop.Stop.TheVariants.{Fatal, NoMemory}
 use Rattle.js_parsing_laws.specs.Answers.{Grown, Underived, Numbered, Stops, unclean}
-use Rattle.js_parsing_laws.specs.Lexemes.{Lex, Walked, name_kinds, read_kinds, read_word, nowhere, spot, may_name}
+use Rattle.js_parsing_laws.specs.Lexemes.{Lex, Walked, nowhere, spot, may_name, is_read_kind}
 use Rattle.js_parsing_laws.specs.Stands.{NameHere, StandsHere}
-use Rattle.js_parsing_laws.proofs.NamedFirsts.{fails_unnamed}
+use Rattle.js_parsing_laws.proofs.NamedFirsts.{fails_unnamed, either_of}
 use Rattle.js_parsing_laws.proofs.NameKinds.{listed_here, name_at, a_name}
 use Rattle.js_parsing_laws.specs.Moves.{IsWholeHere, LeafTaken, Moved, MadeHere, plain_label}
 use Rattle.js_parsing_laws.specs.States.{At, Same}
@@ -57,7 +58,7 @@ use Rattle.js_parsing_laws.proofs.MadeNodes.{leaf_held, node_held, one_held, one
 use Rattle.js_parsing_laws.proofs.Moving.{moves, same_both, same_itself, same_with, stops_behind}
 use Rattle.js_operand_laws.proofs.Operands.{name_leaf}
 use Rattle.js_parsing_laws.proofs.Paths.{Path, ◌⟼◌, ◌⟶◌, ◌⟶✗◌, at_kind, token, last_token, noded, noded_by, by_symbol_as, label_here, walked_both, walked_from, walked_one}
-use Rattle.js_statement_laws.proofs.Statements.{◌⟝◌, by_statement, by_such_statement, closes_or_line, either_of, end_path, ended_so, expression_path, never_open, no_close, no_semicolon, no_symbol, omits_at_end, omitted_so, semicolon_closes, semicolon_look, semicolon_path, to_semicolon_of, unended, whole_semicolon}
+use Rattle.js_statement_laws.proofs.Statements.{◌⟝◌, by_statement, by_such_statement, closes_or_line, end_path, ended_so, expression_path, never_open, no_close, no_semicolon, no_symbol, omits_at_end, omitted_so, semicolon_closes, semicolon_look, semicolon_path, to_semicolon_of, unended, whole_semicolon}
 use Rattle.js_parsing_laws.proofs.Ahead.{pass_over}
 use Rattle.js_parsing_laws.proofs.Told.{told_at, told_same}
 use Rattle.js_parsing_laws.proofs.Verdicts.{after as grown_behind, grown_both, grown_first, grown_on, grown_then, verdict_of}
@@ -156,7 +157,7 @@ record Jump (text : List ℕ) (f : Flags) (p : Parser) (k : NodeKind) : Type 0 w
   alone : Alone text f name p.prev_token_end
   is_here : p.token.kind ≡ word
   is_plain : p.token.escaped ≡ false
-  is_read : one_of_kinds read_kinds word ≡ true
+  is_read : is_read_kind word ≡ true
   shut : ends_in_sub (kind_of k) ≡ false
 
 jump_of : {text : List ℕ} {f : Flags} {p : Parser} {k : NodeKind} → At text f p → JumpsHere k p → Jump text f p k
@@ -183,7 +184,7 @@ record Jumped (text : List ℕ) (f : Flags) (k : Kind) (p r : Parser) (label : O
   keeps : Keeps p.nodes r.nodes
 
 -- no statement ends at a name
-no_name_ends : (k : Kind) → one_of_kinds name_kinds k ≡ true → ends_statement k ≡ true → ⊥
+no_name_ends : (k : Kind) → one_of_kinds binding_identifier_kinds k ≡ true → ends_statement k ≡ true → ⊥
 unfolding apart
 no_name_ends k h e = not_both a_name (λ k w e. ends_statement k) refl k false false h e
 
@@ -217,7 +218,7 @@ module _ {text : List ℕ} {f : Flags} {q : Parser} (a : At text f q) where
   unfolding rule rule_of
   label_read h m = by_symbol_as {X' = plain full} (λ l cs vs y d. (refl, refl)) (noded a (name_leaf a (name_at true a h) m))
 
-module _ {text : List ℕ} {f : Flags} {p q : Parser} (k : Kind) (a : At text f p) (e : p.token.kind ≡ k) (n : p.token.escaped ≡ false) (i : one_of_kinds read_kinds k ≡ true) (m : Moved text f p q) where
+module _ {text : List ℕ} {f : Flags} {p q : Parser} (k : Kind) (a : At text f p) (e : p.token.kind ≡ k) (n : p.token.escaped ≡ false) (i : is_read_kind k ≡ true) (m : Moved text f p q) where
   word_passed : {X : Test} {g : G} → Path text f X (tok k ▸ g) p g q (λ us. us)
   word_passed = token k a e n i m
 
@@ -444,8 +445,8 @@ pub late_marked : {text : List ℕ} {f : Flags} {p q : Parser} (s : Span) → At
 late_marked {p = p} {q = q} s a h e m = subst (λ (t : List ℕ). Mark (goal q) t (late_operand s)) (sym m.same.follows.text) (subst (λ (v : SourceType). Mark (goal_of v) p.text (late_operand s)) (sym m.same.follows.source_type) (word_marked s a h e))
 
 -- a word that is read may be passed
-pub word_here : {text : List ℕ} {f : Flags} {p : Parser} (k : Kind) → At text f p → StandsHere p k true → read_word k ≡ true → IsWholeHere p
-word_here k a h r = word_whole a (ap read_word h.0 ∙ r)
+pub word_here : {text : List ℕ} {f : Flags} {p : Parser} (k : Kind) → At text f p → StandsHere p k true → one_of_kinds identifier_name_kinds k ≡ true → IsWholeHere p
+word_here k a h r = word_whole a (ap (one_of_kinds identifier_name_kinds) h.0 ∙ r)
 
 pub jump_whole : {text : List ℕ} {f : Flags} {p : Parser} {k : NodeKind} → At text f p → JumpsHere k p → IsWholeHere p
 jump_whole a (inl (e, h)) = word_here kind.Break a h refl

@@ -11,7 +11,7 @@ use Rattle.js_grammar.specs.Productions.{G, Flags, Name, Symbol, at, tok, op, br
 use Rattle.js_grammar.specs.Productions.{sym as symbol}
 use Rattle.js_grammar.specs.Table.{rule, rule_of}
 use Rattle.js_parsing_laws.specs.ArrayLiterals.{elements}
-use Rattle.js_targets.specs.Targets.{is_elision, is_spread, is_property, is_assignment, is_equals, is_wide}
+use Rattle.js_targets.specs.Targets.{is_elision, is_spread, is_assignment, is_equals, is_wide, is_property}
 
 -- ---- no operand is a gap, a spread, a property or an assignment
 
@@ -125,7 +125,7 @@ rooted (is_marked d) h = absurd (false≢true h)
 rooted (is_ended q d e) h = absurd (false≢true h)
 rooted (is_kept q) h = absurd (false≢true h)
 
-contrary : (b : Bool) → not b ≡ true → b ≡ true → ⊥
+pub contrary : (b : Bool) → not b ≡ true → b ≡ true → ⊥
 contrary true h e = false≢true h
 contrary false h e = false≢true e
 

@@ -5,7 +5,7 @@ use Rattle.js_base.specs.declared.kind.Kind.{Kind}
 use Rattle.js_base.specs.declared.kind.Kind.TheVariants.{Await, Yield, Eq, Colon, Comma, Dot3, LBrack, RBrack, LCurly, RCurly}
 use Rattle.js_base.specs.Kinds.{same_kind}
 use Rattle.js_grammar.specs.Trees.{Label, Slots, end, tree, of, no_op, assignment_target_rest, assignment_expression, assignment_target_with_default, elision, object_expression}
-use Rattle.js_grammar.specs.Grammar.{Lexeme, Lexemes, Look, next, here, seen, is, commas, is_commas, is_ahead, is_keep, seq, such, many, nothing, never, empty_slot, when, ◌▸◌, ◌◇◌, Takes, is_nothing, is_lexeme, is_empty_slot, is_seq, is_left, is_right, is_when, is_many, is_such, is_node, is_look, is_text, is_marked, is_ended, is_kept}
+use Rattle.js_grammar.specs.Grammar.{Lexeme, Lexemes, Look, next, here, seen, is, commas, is_commas, is_ahead, seq, such, many, nothing, never, empty_slot, when, ◌▸◌, ◌◇◌, Takes, is_nothing, is_lexeme, is_empty_slot, is_seq, is_left, is_right, is_when, is_many, is_such, is_node}
 use Rattle.js_grammar.specs.Parsing.{always}
 use Rattle.js_grammar.specs.Productions.{G, Flags, Symbol, at, tok, mk, op, opt, slot, branches, IdentifierReference, Init, Property, TargetProperty, plus_in, Argument, Assignment, LeftHandSide, Primary, SimpleTarget, Target, ArrayTarget, ObjectTarget, TargetElement}
 use Rattle.js_grammar.specs.Productions.{sym as symbol}
@@ -14,6 +14,7 @@ use Rattle.js_base.specs.Texts.{words}
 use Rattle.js_grammar.specs.Insertion.{is_word, may_bind, other_operators}
 use Rattle.js_grammar.proofs.Frame.{framed}
 use Rattle.js_grammar.proofs.Looks.{covers, covered}
+use Rattle.js_grammar.proofs.CoverInitialisers.{deep}
 use Rattle.js_targets.specs.Targets.{is_array}
 use Rattle.js_parsing_laws.proofs.FreeOfIn.{any_in}
 use Rattle.js_targets.proofs.Targets.{by_primary, of_assignment, target_left_hand_side}
@@ -61,7 +62,7 @@ by_array : (f : Flags) {ts : Slots} {i j : ℕ} {x : Lexeme} {ls rest : Lexemes}
 unfolding rule rule_of
 by_array f q d = record { label = _; slots = _; array = refl; derived = is_right (is_right (is_right (is_right (is_right (is_right (is_right (is_right (is_right (is_right (is_left (is_node (is_seq (is_lexeme q) d)))))))))))) }
 
-spread_one : (f : Flags) {i j : ℕ} {x : Lexeme} {ls rest : Lexemes} → IsTrue (seen (is Dot3) x) → One (at Assignment (plus_in f)) x.to ls j rest → One (at Argument f) i (next x ls) j rest
+pub spread_one : (f : Flags) {i j : ℕ} {x : Lexeme} {ls rest : Lexemes} → IsTrue (seen (is Dot3) x) → One (at Assignment (plus_in f)) x.to ls j rest → One (at Argument f) i (next x ls) j rest
 unfolding rule rule_of
 spread_one f q t = record { label = _; slots = tree t.label t.slots end; derived = is_right (is_node (is_seq (is_lexeme q) (is_such t.derived refl))) }
 
@@ -198,26 +199,6 @@ with_comma : (f : Flags) {i j k : ℕ} {x : Lexeme} {ls mid rest : Lexemes} → 
 with_comma f e q t = λ vs. let y = t vs in (tree e.label e.slots y.0, more_items f (is_right (is_seq (is_such e.derived refl) (is_lexeme q))) y.1)
 
 -- ---- by induction over how large a derivation is
-
-abbrev pub deep : {r : Symbol → G} {g : G} {ks ts us : Slots} {i j : ℕ} {ls rest : Lexemes} → Takes r g ks ts i ls us j rest → ℕ
-deep is_nothing = 0
-deep (is_lexeme p) = 0
-deep (is_look p) = 0
-deep (is_text p) = 0
-deep (is_ahead d) = suc (deep d)
-deep is_empty_slot = 0
-deep (is_seq d e) = suc (deep d + deep e)
-deep (is_left d) = suc (deep d)
-deep (is_right d) = suc (deep d)
-deep (is_when q d) = suc (deep d)
-deep (is_many d) = suc (deep d)
-deep (is_commas d) = suc (deep d)
-deep (is_such d q) = suc (deep d)
-deep (is_marked d) = suc (deep d)
-deep (is_node d) = suc (deep d)
-deep (is_ended q d e) = suc (deep d + deep e)
-deep (is_keep d e) = suc (deep d + deep e)
-deep (is_kept q) = 0
 
 -- targets whose derivations are smaller than n are assignments
 abbrev UpTo : Flags → ℕ → Type 0

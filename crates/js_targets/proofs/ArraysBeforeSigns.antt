@@ -1,5 +1,5 @@
 -- Array targets before `=` (ECMA-262, 13.15.5), where what stands there was read as an expression.
-use Rattle.std.proofs.Common.{ℕ, ◌≡◌, ◌⊎◌, inl, inr, Bool, true, false, not, ◌&&◌, ◌||◌, IsTrue, Some, List, refl, sym, ap, subst, ◌∙◌}
+use Rattle.std.proofs.Common.{ℕ, ◌≡◌, ◌⊎◌, inl, inr, Bool, true, false, not, ◌&&◌, IsTrue, Some, List, refl, sym, ap, subst, ◌∙◌}
 use Rattle.std.proofs.lemmas.Bool.{false≢true, and_parts, and_from}
 use Rattle.js_base.specs.declared.kind.Kind.{Kind}
 use Rattle.js_base.specs.declared.kind.Kind.TheVariants.{Eq}
@@ -21,9 +21,9 @@ use Rattle.js_cursor.specs.Parsers.{Parser}
 use Rattle.js_parsing_laws.specs.Answers.{Answer, Stretch, Underived}
 use Rattle.js_parsing_laws.specs.Lexemes.{Lex}
 use Rattle.js_parsing_laws.specs.States.{At}
-use Rattle.js_targets.specs.Targets.{is_array, is_literal, is_object, target_of}
+use Rattle.js_targets.specs.Targets.{is_array, is_literal, target_of}
 use Rattle.js_targets.proofs.ArrayTargets.{array_up, object_up}
-use Rattle.js_targets.proofs.Targets.{by_primary, of_short}
+use Rattle.js_targets.proofs.Targets.{by_primary, of_short, array_literal}
 use Rattle.js_parsing_laws.proofs.Verdicts.{either_way}
 
 -- the slots of an assignment to an array or object target
@@ -63,9 +63,6 @@ target_no_literal l cs t e = target_kind l.kind l.op l.flags l.span cs t e
 pub no_array : (k : NodeKind) → is_literal k ≡ false → is_array k ≡ false
 no_array array_expression h = absurd (false≢true (sym h))
 no_array _ h = refl
-
-array_literal : (k : NodeKind) → is_array k ≡ true → is_literal k ≡ true
-array_literal k h = ap (λ (b : Bool). b || is_object k) h
 
 object_literal : {k : NodeKind} → k ≡ object_expression → is_literal k ≡ true
 object_literal e = subst (λ (k : NodeKind). is_literal k ≡ true) (sym e) refl

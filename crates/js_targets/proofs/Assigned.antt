@@ -2,7 +2,7 @@
 use Rattle.js_base.specs.Operators.{row_of as row_in, assignment_operators}
 use Rattle.std.specs.Prelude.{IsSome, is_some}
 use Rattle.std.proofs.Common.{ℕ, ◌≡◌, ◌⊎◌, inl, inr, List, [], ◌∷◌, Bool, true, false, not, ◌&&◌, ◌||◌, IsTrue, Option, Some, None, refl, sym, ap, subst, ◌∙◌}
-use Rattle.std.proofs.lemmas.Bool.{false≢true, and_parts, and_from, or_left, or_right}
+use Rattle.std.proofs.lemmas.Bool.{false≢true, and_parts, and_from, or_left, or_right, not-true}
 use Rattle.js_base.specs.declared.kind.Kind.{Kind}
 use Rattle.js_base.specs.declared.kind.Kind.TheVariants.{Eq, RAngle, PrivateIdentifier, Yield}
 use Rattle.js_base.specs.Kinds.{same_kind, one_of_kinds}
@@ -25,7 +25,7 @@ use Rattle.js_cursor.specs.Moves.{is_last}
 use Rattle.js_parsing_laws.proofs.Giving.{fails_unescaped}
 use Rattle.js_parsing_laws.specs.Answers.{Underived, Answer}
 use Rattle.js_parsing_laws.specs.States.{At}
-use Rattle.js_parsing_laws.specs.Lexemes.{Lex, other_goals, read_kinds}
+use Rattle.js_parsing_laws.specs.Lexemes.{Lex, other_goals, is_read_kind}
 use Rattle.js_targets.specs.Others.{NoYield, OnlyOthers}
 use Rattle.js_targets.specs.Targets.{target_of}
 use Rattle.js_targets.proofs.Covers.{row_of_target, target_path, target_fails, target_unread}
@@ -45,28 +45,24 @@ abbrev is_assign : Look
 is_assign k w e = one_of_kinds assign_operators k
 
 abbrev assigns_so : Look
-assigns_so k w e = (one_of_kinds read_kinds k && not (is_word k || same_kind PrivateIdentifier k)) && (not (same_kind RAngle k) && not (is_last k))
+assigns_so k w e = (is_read_kind k && not (is_word k || same_kind PrivateIdentifier k)) && (not (same_kind RAngle k) && not (is_last k))
 
 assign_facts : covers is_assign assigns_so ≡ true
 unfolding covers words
 assign_facts = refl
 
 pub record Assigns (k : Kind) : Type 0 where
-  pub is_read : one_of_kinds read_kinds k ≡ true
+  pub is_read : is_read_kind k ≡ true
   pub unescaped : (is_word k || same_kind PrivateIdentifier k) ≡ false
   pub no_angle : same_kind RAngle k ≡ false
   pub no_end : is_last k ≡ false
 
-negated : (b : Bool) → not b ≡ true → b ≡ false
-negated true h = absurd (false≢true h)
-negated false h = refl
-
 pub assigns : (k : Kind) → one_of_kinds assign_operators k ≡ true → Assigns k
 assigns k h =
     let x = and_parts _ _ (covered is_assign assigns_so assign_facts k false false h) in
-    let a = and_parts (one_of_kinds read_kinds k) _ x.0 in
+    let a = and_parts (is_read_kind k) _ x.0 in
     let b = and_parts (not (same_kind RAngle k)) _ x.1 in
-    record { is_read = a.0; unescaped = negated _ a.1; no_angle = negated _ b.0; no_end = negated _ b.1 }
+    record { is_read = a.0; unescaped = not-true _ a.1; no_angle = not-true _ b.0; no_end = not-true _ b.1 }
 
 abbrev has_row : Look
 has_row k w e = is_some (row_in assignment_operators k)
@@ -106,7 +102,7 @@ module _ {text : List ℕ} {X : Test} {s : ℕ} (g : Kind → G) where
       alone : (b : Bool) → (b || false) ≡ true → b ≡ true
       alone true q = refl
       alone false q = absurd (false≢true q)
-  one_branch (k ∷ j ∷ js) o h d f = first_or_later k j js o (same_kind k o) refl h f (λ e. subst (λ (v : Kind). one_of_kinds (j ∷ js) v ≡ false) (kind_of_same k o e) (negated _ (and_parts (not (one_of_kinds (j ∷ js) k)) _ d).0)) (λ m. one_branch (j ∷ js) o m (and_parts (not (one_of_kinds (j ∷ js) k)) _ d).1 (λ i n. f i (or_right (same_kind k i) _ n)))
+  one_branch (k ∷ j ∷ js) o h d f = first_or_later k j js o (same_kind k o) refl h f (λ e. subst (λ (v : Kind). one_of_kinds (j ∷ js) v ≡ false) (kind_of_same k o e) (not-true _ (and_parts (not (one_of_kinds (j ∷ js) k)) _ d).0)) (λ m. one_branch (j ∷ js) o m (and_parts (not (one_of_kinds (j ∷ js) k)) _ d).1 (λ i n. f i (or_right (same_kind k i) _ n)))
 
 -- ---- the slots of an assignment
 

@@ -16,7 +16,7 @@ use Rattle.js_tree.specs.Nodes.{Node, label, node_at, empty_program}
 use Rattle.js_tree.specs.Holding.{Stands, StandsAll, no_slots, next_child, next_hole, AreDistinct, AreWithin, Holds, Keeps}
 use Rattle.js_tree.proofs.HoldingLemmas.{Stands-kept, Stands-within, Keeps-refl, Keeps-trans, Keeps-made, Keeps-longer, AreWithin-wider, StandsAll-wider}
 use Rattle.js_parsing_laws.specs.Moves.{plain_label}
-use Rattle.js_targets.specs.Targets.{Within, in_literal, in_property, within, is_parens, is_elision, is_spread, is_property, is_assignment, operator_places, literal_places, argument_places, property_places, is_object, is_literal, is_target, is_pattern, pattern_kind, target_of, target_in, Stood, Only, relabelled, literal_tree, target_by, slot_of, rest_slot, reference_slot, behind_first, shorthand_slot, named_slot, property_slot, element_slot, are_none, followed, before_all, elements_in, places_of, places_in, made_span, Noted, unnoted, Blames, IsIn, Slotted, Converts, Refuses, Converted, converts, refuses, one_slot, one_node, OfNode, Noded}
+use Rattle.js_targets.specs.Targets.{Within, in_literal, in_property, within, is_elision, is_spread, is_assignment, operator_places, literal_places, argument_places, property_places, is_object, is_literal, is_target, is_pattern, pattern_kind, target_of, target_in, Stood, Only, relabelled, literal_tree, target_by, slot_of, rest_slot, reference_slot, behind_first, shorthand_slot, named_slot, property_slot, element_slot, are_none, followed, before_all, elements_in, places_of, places_in, made_span, Noted, unnoted, Blames, IsIn, Slotted, Converts, Refuses, Converted, converts, refuses, one_slot, one_node, OfNode, Noded, is_parens, is_property}
 use Rattle.js_targets.specs.declared.widening.Widening.{Widening}
 use Rattle.js_targets.specs.declared.widening.Widening.TheVariants.{Rest}
 use Rattle.js_tree.specs.declared.kind.NodeKind.TheVariants as node
@@ -31,18 +31,9 @@ use Rattle.js_parsing_laws.specs.States.{NodesLie}
 use Rattle.js_parsing_laws.proofs.MadeNodes.{LabelLies}
 use Rattle.js_base.specs.Spans.{LiesIn}
 use Rattle.std.proofs.lemmas.List.Elements.{All-same, All-push, All-get_or}
+use Rattle.js_grammar.proofs.Frame.{append_assoc as append_both, append_end}
 
 -- ---- slots and numbers
-
-append_both : (ts us vs : Slots) → append (append ts us) vs ≡ append ts (append us vs)
-append_both end us vs = refl
-append_both (hole ts) us vs = ap hole (append_both ts us vs)
-append_both (tree l ds ts) us vs = ap (tree l ds) (append_both ts us vs)
-
-pub append_end : (ts : Slots) → append ts end ≡ ts
-append_end end = refl
-append_end (hole ts) = ap hole (append_end ts)
-append_end (tree l ds ts) = ap (tree l ds) (append_end ts)
 
 pub within_left : (lo hi : ℕ) (rs ss : List ℕ) → AreWithin lo hi (rs ++ ss) → AreWithin lo hi rs
 within_left lo hi [] ss w = tt
@@ -440,7 +431,7 @@ no_one_child l o (next_child b h no_slots) = absurd (cc)
 no_one_child l o (next_child {l = m} {cs = ds} b h (next_child {l = n} {cs = es} {us = vs} b' h' a)) = two_elements l m ds (tree n es vs) refl
 no_one_child l o (next_child {l = m} {cs = ds} b h (next_hole {us = vs} a)) = two_elements l m ds (hole vs) refl
 
-tree_of : (r : Option Tree) (ts : Slots) → slot_of r ≡ Some ts → (t : Tree) × (r ≡ Some t) × (ts ≡ tree t.label t.slots end)
+pub tree_of : (r : Option Tree) (ts : Slots) → slot_of r ≡ Some ts → (t : Tree) × (r ≡ Some t) × (ts ≡ tree t.label t.slots end)
 tree_of (Some t) ts e = (t, refl, sym (some_is e))
 tree_of None ts e = absurd (cc)
 
@@ -599,7 +590,7 @@ item_assigned o {id = id} last found g v = λ l cs rs s d a.
     let z = kind_here {id = id} is_assignment g s in
     answer_as (one_node found) (sym (places_assigned o l cs (places_in (within l.kind) cs) z)) (sym (assigned_slot last l cs (own_of l cs) a (no_spread l.kind z) z)) (v l cs rs s d z)
 
-property_kind : (k : NodeKind) → is_property k ≡ true → k ≡ object_property
+pub property_kind : (k : NodeKind) → is_property k ≡ true → k ≡ object_property
 property_kind object_property h = refl
 property_kind _ h = absurd (false≢true h)
 

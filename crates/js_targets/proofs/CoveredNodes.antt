@@ -5,9 +5,9 @@ use Rattle.js_grammar.specs.Trees.{Label, Slots, end, tree}
 use Rattle.js_tree.specs.declared.id.NodeId.{NodeId}
 use Rattle.js_tree.specs.Nodes.{Node, label, node_at, empty_program}
 use Rattle.js_tree.specs.Holding.{Stands, stands, StandsAll, no_slots, next_child, next_hole, AreWithin, AreDistinct, Holds}
-use Rattle.js_targets.specs.Targets.{is_parens, is_target, target_in, target_of, TargetNode, IsTarget, Stood, Only}
+use Rattle.js_targets.specs.Targets.{is_target, target_in, target_of, TargetNode, IsTarget, Stood, Only, is_parens}
 
-label_at : {ns : List Node} {id : ℕ} {l : Label} {cs : Slots} {rs : List ℕ} → Stands ns id l cs rs → l ≡ label (get_or ns id empty_program)
+pub label_at : {ns : List Node} {id : ℕ} {l : Label} {cs : Slots} {rs : List ℕ} → Stands ns id l cs rs → l ≡ label (get_or ns id empty_program)
 label_at (stands id h a) = refl
 
 pub label_of_node : {ns : List Node} {lo hi : ℕ} {id : NodeId} {l : Label} {cs : Slots} → Holds ns lo hi id.0 l cs → l ≡ label (node_at ns id)

@@ -124,7 +124,7 @@ front (one_more w i r) h ms = front_of w (one refl)
 front (read_again w ds k i) h ms = front_of w (one refl)
 front (more_faults w ds n) h ms = front w h ms
 
-all_stand : (text : List ℕ) (s : ℕ) (ls : Lexemes) → Lexes (Lex text) s ls → Lexes (StandsBehind all_faults text) s ls
+pub all_stand : (text : List ℕ) (s : ℕ) (ls : Lexemes) → Lexes (Lex text) s ls → Lexes (StandsBehind all_faults text) s ls
 all_stand text s (last x) l = l.0
 all_stand text s (next x ls) l = (l.0.0, all_stand text x.to ls l.1)
 

@@ -22,7 +22,7 @@ use Rattle.js_parsing_laws.proofs.Characters.{characters}
 use Rattle.js_grammar.proofs.Looks.{apart, not_both}
 use Rattle.std.specs.Prelude.{IsUtf8, IsCharBoundary}
 use Rattle.js_targets.specs.Taken.{target_name}
-use Rattle.js_targets.specs.Targets.{literal_kind, Each, IsIn, Closed, Narrow, Fits, in_literal, in_property, within, is_elision, is_spread, is_property, is_assignment, is_equals, is_wide, is_object, is_literal, is_pattern, is_target, target_of, relabelled, pattern_kind, literal_tree, slot_of, rest_slot, shorthand_slot, behind_first, reference_slot, named_slot, property_slot, element_slot, are_none, followed, before_all, before_value, elements_in, operator_places, literal_places, places_of, places_in, made_span}
+use Rattle.js_targets.specs.Targets.{literal_kind, Each, IsIn, Closed, Narrow, Fits, in_literal, in_property, within, is_elision, is_spread, is_assignment, is_equals, is_wide, is_object, is_literal, is_pattern, is_target, target_of, relabelled, pattern_kind, literal_tree, slot_of, rest_slot, shorthand_slot, behind_first, reference_slot, named_slot, property_slot, element_slot, are_none, followed, before_all, before_value, elements_in, operator_places, literal_places, places_of, places_in, made_span, is_property}
 use Rattle.js_targets.specs.declared.widening.Widening.{Widening}
 use Rattle.js_targets.specs.declared.widening.Widening.TheVariants.{Rest, RestTarget, Operator}
 use Rattle.js_targets.proofs.ArrayTargets.{with_operator}
@@ -78,7 +78,7 @@ one_of_each P [] w i h = absurd i
 one_of_each P (v ∷ ws) w (inl e) h = subst P e h.0
 one_of_each P (v ∷ ws) w (inr i) h = one_of_each P ws w i h.1
 
-kind_is : {k : Kind} (x : Lexeme) → IsTrue (seen (is k) x) → x.kind ≡ k
+pub kind_is : {k : Kind} (x : Lexeme) → IsTrue (seen (is k) x) → x.kind ≡ k
 kind_is {k} x q = sym (kind_of_same k x.kind (and_parts (same_kind k x.kind) _ q).0)
 
 some_is : {a b : Slots} → Some a ≡ Some b → a ≡ b

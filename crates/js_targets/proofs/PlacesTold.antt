@@ -1,5 +1,5 @@
 -- What is told of places where an array literal is wider than a target (ECMA-262, 13.15.5).
-use Rattle.std.proofs.Common.{ℕ, ◌≡◌, ◌≤◌, ◌+◌, ◌⊎◌, inl, inr, Bool, true, false, not, ◌||◌, List, [], ◌∷◌, ◌++◌, length, drop, zero, suc, None, refl, sym, ap, subst, arith, ◌∙◌}
+use Rattle.std.proofs.Common.{ℕ, ◌≡◌, ◌≤◌, ◌+◌, ◌⊎◌, inl, inr, Bool, true, false, not, List, [], ◌∷◌, ◌++◌, length, drop, zero, suc, None, refl, sym, ap, subst, arith, ◌∙◌}
 use Rattle.std.specs.Prelude.{IsCharBoundary, IsUtf8, slice_get, Some}
 use Rattle.std.proofs.Math.Seq.{drop-cons}
 use Rattle.std.proofs.lemmas.Option.{slice_get_within, get_or_from_slice_get}
@@ -7,14 +7,13 @@ use Rattle.std.proofs.lemmas.Bool.{false≢true, and_from, or_right}
 use Rattle.js_base.specs.declared.diagnostic.Diagnostic.{Diagnostic}
 use Rattle.js_base.specs.declared.diagnostic.DiagnosticKind.TheVariants.{RestElementTrailingComma, InvalidAssignmentTargetDefaultValueOperator, InvalidRestAssignmentTarget, SpreadLastElement}
 use Rattle.js_base.specs.declared.kind.Kind.{Kind}
-use Rattle.js_base.specs.declared.kind.Kind.TheVariants.{Comma, Dot3, RBrack, RParen, RCurly, RAngle, Undetermined, PrivateIdentifier}
+use Rattle.js_base.specs.declared.kind.Kind.TheVariants.{Comma, Dot3, RBrack, RParen, RCurly, RAngle, Undetermined}
 use Rattle.js_base.specs.declared.span.Span.{Span}
 use Rattle.js_base.specs.declared.token.Token.{Token}
 use Rattle.js_base.specs.Kinds.{same_kind, one_of_kinds}
-use Rattle.js_base.specs.Texts.{words}
 use Rattle.js_base.proofs.KindLemmas.{kind_of_same}
 use Rattle.js_grammar.specs.Grammar.{Lexeme}
-use Rattle.js_grammar.specs.Lexemes.{division, is_word, is_escaped}
+use Rattle.js_grammar.specs.Lexemes.{division, is_escaped}
 use Rattle.js_grammar.specs.Marks.{Mark, a_lexeme, the_start, the_end}
 use Rattle.js_parsing_laws.specs.Told.{unrelated_at}
 use Rattle.js_grammar.specs.Productions.{Flags}
@@ -39,6 +38,7 @@ use Rattle.js_parsing_laws.proofs.Paths.{read_of}
 use Rattle.js_parsing_laws.proofs.Signs.{plain_of}
 use Rattle.js_parsing_laws.proofs.Told.{told_at, told_same}
 use Rattle.js_parsing_laws.proofs.Verdicts.{grown_both, grown_then}
+use Rattle.js_parsing_laws.proofs.PlainSigns.{comma_plain}
 
 -- it is told of by an early diagnostic
 told_early : (w : Widening) (d : Diagnostic) → TellsOf w d → IsEarly d
@@ -50,10 +50,6 @@ told_early (Operator s) d e = ap (λ (x : Diagnostic). class_of x.kind) e
 
 abbrev closers : List Kind
 closers = RParen ∷ RBrack ∷ RCurly ∷ []
-
-comma_plain : (is_word Comma || same_kind PrivateIdentifier Comma) ≡ false
-unfolding words
-comma_plain = refl
 
 -- a comma, as it is told
 record CommaThere (text : List ℕ) (e : ℕ) (t : Token) : Type 0 where

@@ -1,6 +1,7 @@
 -- What properties of object literals are converted to, node by node (ECMA-262, 13.15.5).
 use Rattle.std.proofs.Common.{ℕ, ◌≡◌, ◌<◌, inl, inr, ◌+◌, ◌*◌, ◌/◌, ◌%◌, suc, Bool, true, false, List, [], ◌∷◌, ◌++◌, length, Option, Some, None, refl, sym, ap, subst, arith, ◌∙◌, append-nil}
 use Rattle.std.specs.Prelude.{get_or, nat_eq}
+use Rattle.js_grammar.proofs.Frame.{append_end}
 use Rattle.js_grammar.specs.Productions.{has_flag, shorthand_flag}
 use Rattle.js_grammar.specs.Trees.{Label, Slots, end, tree, append, no_op, assignment_target_property_identifier, assignment_target_property_property}
 use Rattle.js_tree.specs.declared.flags.NodeFlags.{NodeFlags}
@@ -11,7 +12,7 @@ use Rattle.js_tree.specs.Holding.{Stands, StandsAll, no_slots, next_child, next_
 use Rattle.js_tree.proofs.HoldingLemmas.{Stands-within, Keeps-refl, Keeps-trans, Keeps-made, AreWithin-wider}
 use Rattle.js_targets.specs.declared.widening.Widening.{Widening}
 use Rattle.js_targets.specs.Targets.{IsIn, Stood, Two, in_literal, in_property, relabelled, initialiser_in, reference_slot, shorthand_slot, before_value, followed, named_slot, property_slot, property_places, element_slot, elements_in, places_in, Noted, unnoted, Blames, Slotted, Converted, converts, refuses, one_node, OfNode, Noded}
-use Rattle.js_targets.proofs.ConvertedNodes.{own_of, spots_at, append_end, within_left, within_right, made_of, refused_of, holds_node, noded_lies, renoted, answer_as, ElementAnswer, PropertyAnswer}
+use Rattle.js_targets.proofs.ConvertedNodes.{own_of, spots_at, within_left, within_right, made_of, refused_of, holds_node, noded_lies, renoted, answer_as, ElementAnswer, PropertyAnswer}
 use Rattle.js_targets.proofs.ReusedNodes.{children_of, in_left, in_right, distinct_left, distinct_right, distinct_apart, slotted_on, slotted_hole, slotted_wider, slotted_old, slotted_node}
 
 -- ---- the flag of a shorthand

@@ -17,7 +17,7 @@ use Rattle.js_grammar.proofs.Behind.{lexed_behind}
 use Rattle.js_parsing_laws.specs.Lexemes.{Lex}
 use Rattle.js_targets.specs.declared.widening.Widening.{Widening}
 use Rattle.js_targets.specs.declared.widening.Widening.TheVariants.{Rest, RestTarget, Operator}
-use Rattle.js_targets.specs.Targets.{Each, Spanned, Spotted, in_literal, within, is_elision, is_spread, is_property, is_assignment, is_object, is_literal, literal_kind, is_equals, made_span, operator_places, literal_places, argument_places, property_places, places_of, places_in}
+use Rattle.js_targets.specs.Targets.{Each, Spanned, Spotted, in_literal, within, is_elision, is_spread, is_assignment, is_object, is_literal, literal_kind, is_equals, made_span, operator_places, literal_places, argument_places, property_places, places_of, places_in, is_property}
 use Rattle.js_targets.proofs.Properties.{PropertyOf, a_shorthand, a_value, a_method, a_spread as a_spread_property, property_of, PropertyStep, property, last_property, property_step}
 use Rattle.js_targets.proofs.ArrayElements.{no_gap, Operated, operated, Step, gap, item, final, step_of, Element, an_expression, a_spread, element_of}
 use Rattle.js_targets.proofs.Edges.{Ends, taken, one_ends, then_ends, ends_then, spanned}

@@ -1,6 +1,7 @@
 -- A simple target is a left-hand side whose tree, with its outer parentheses taken off, is the target's (ECMA-262, 8.6.4).
 use Rattle.std.proofs.Common.{ℕ, ◌≡◌, Bool, true, false, not, cond, ◌&&◌, ◌||◌, IsTrue, Option, Some, None, refl, ap, sym, subst, ◌∙◌}
 use Rattle.std.proofs.lemmas.Bool.{false≢true, and_parts}
+use Rattle.js_targets.proofs.ArrayElements.{contrary}
 use Rattle.js_grammar.specs.Trees.{NodeKind, Op, Span, Label, Slots, end, hole, tree, Tree, function_expression, arrow_function_expression, array_expression, object_expression}
 use Rattle.js_base.specs.declared.kind.Kind.TheVariants.{LParen, RParen}
 use Rattle.js_grammar.specs.Grammar.{Lexeme, Lexemes, next, seen, is, nothing, never, lexeme, look, text, ahead, empty_slot, seq, alt, when, many, commas, such, marked, node, ended, keep, kept, Takes, is_nothing, is_lexeme, is_look, is_text, is_ahead, is_empty_slot, is_seq, is_left, is_right, is_when, is_many, is_commas, is_such, is_marked, is_node, is_ended, is_keep, is_kept}
@@ -9,7 +10,7 @@ use Rattle.js_grammar.specs.Productions.{G, Flags, Name, Symbol, at, mk, parens,
 use Rattle.js_grammar.specs.Table.{rule, rule_of, member_access, call_access, paren_expression}
 use Rattle.js_grammar.proofs.Calculus.{slots_are}
 use Rattle.js_parsing_laws.specs.ArrayLiterals.{array_of}
-use Rattle.js_targets.specs.Targets.{is_parens, is_member, is_name, is_array, is_object, is_literal, literal_kind, target_in, target_of}
+use Rattle.js_targets.specs.Targets.{is_member, is_name, is_array, is_object, is_literal, literal_kind, target_in, target_of, is_parens}
 use Rattle.js_parsing_laws.proofs.FreeOfIn.{any_in}
 
 -- ---- what may be a target
@@ -56,10 +57,6 @@ other_at _ f h = absurd (false≢true h)
 other_line : (n : Symbol) → other_name n.name ≡ true → other (rule n) ≡ true
 unfolding rule
 other_line n h = other_at n.name n.flags h
-
-contrary : (b : Bool) → not b ≡ true → b ≡ true → ⊥
-contrary true h e = false≢true h
-contrary false h e = false≢true e
 
 none : {g : G} {ks ts us : Slots} {i j : ℕ} {ls rest : Lexemes} → Takes rule g ks ts i ls us j rest → other g ≡ true → first_may_be ts ≡ true → ⊥
 none (is_left {a = a} {b = b} d) h q = none d (and_parts (other a) (other b) h).0 q

@@ -1,10 +1,9 @@
 -- A target is derived as a literal whose elements are those of the target, over the same lexemes; where targets aren't wide, nowhere is this literal wider than a target (ECMA-262, 13.15.5).
 use Rattle.std.proofs.Common.{ℕ, zero, suc, ◌+◌, ◌<◌, arith, ◌≡◌, Bool, true, false, not, cond, ◌&&◌, ◌||◌, IsTrue, List, [], ◌∷◌, ◌++◌, Option, Some, None, refl, sym, ap, subst, ◌∙◌}
-use Rattle.std.proofs.lemmas.Bool.{false≢true, and_parts, or_left, or_right}
+use Rattle.std.proofs.lemmas.Bool.{false≢true, or_left, or_right}
 use Rattle.js_base.specs.declared.kind.Kind.{Kind}
 use Rattle.js_base.specs.declared.kind.Kind.TheVariants.{Eq, Await, Yield, Colon, Comma, Dot3, RBrack, RCurly}
 use Rattle.js_base.specs.Kinds.{same_kind, one_of_kinds}
-use Rattle.js_base.proofs.KindLemmas.{kind_of_same}
 use Rattle.js_grammar.specs.Trees.{NodeKind, Op, Span, Label, Slots, end, hole, tree, Tree, of, no_op, init, identifier_reference, static_member_expression, computed_member_expression, private_field_expression, parenthesized_expression, array_expression, object_expression, assignment_expression, spread_element, array_assignment_target, object_assignment_target, assignment_target_rest, assignment_target_with_default, assignment_target_property_identifier, assignment_target_property_property}
 use Rattle.js_grammar.specs.Grammar.{Lexeme, Lexemes, next, here, seen, is, such, many, ◌▸◌, Takes, is_nothing, is_lexeme, is_empty_slot, is_seq, is_left, is_right, is_when, is_many, is_commas, is_such, is_node, is_ahead}
 use Rattle.js_grammar.specs.Insertion.{other_operators}
@@ -15,20 +14,19 @@ use Rattle.js_grammar.specs.Productions.{sym as symbol}
 use Rattle.js_grammar.specs.Table.{rule, rule_of, name}
 use Rattle.js_grammar.proofs.Behind.{lexed_behind}
 use Rattle.js_grammar.proofs.Calculus.{label_is, slots_are}
+use Rattle.js_grammar.proofs.CoverInitialisers.{deep}
 use Rattle.js_parsing_laws.specs.Lexemes.{Lex}
 use Rattle.js_targets.specs.declared.widening.Widening.{Widening}
 use Rattle.js_targets.specs.declared.widening.Widening.TheVariants.{Rest}
 use Rattle.js_targets.specs.Taken.{target_name}
-use Rattle.js_targets.specs.Targets.{Each, Closed, Shut, in_literal, within, is_literal, literal_kind, is_pattern, is_target, is_parens, target_in, target_of, relabelled, pattern_kind, before_all, before_value, followed, named_slot, elements_in, argument_places, places_of, places_in}
+use Rattle.js_targets.specs.Targets.{Each, Closed, Shut, in_literal, within, is_literal, literal_kind, is_pattern, is_target, target_in, target_of, relabelled, pattern_kind, before_all, before_value, followed, named_slot, elements_in, argument_places, places_of, places_in, is_parens}
 use Rattle.js_targets.proofs.ArrayElements.{gap_label}
-use Rattle.js_targets.proofs.ArrayTargets.{target_step, target_last, literal_items, with_operator, default_label, assigned_label, by_other, more_items, left_line, target_property, last_property, properties, bound_word, deep}
+use Rattle.js_targets.proofs.ArrayTargets.{target_step, target_last, literal_items, with_operator, default_label, assigned_label, by_other, more_items, left_line, target_property, last_property, properties, bound_word}
 use Rattle.js_parsing_laws.proofs.FreeOfIn.{any_in}
-use Rattle.js_targets.proofs.LiteralsAsTargets.{all_of, rest_before, literal_before, simple_before, element_before}
+use Rattle.js_targets.proofs.LiteralsAsTargets.{all_of, rest_before, literal_before, simple_before, element_before, kind_is}
 use Rattle.js_targets.proofs.Properties.{property_label, named}
 use Rattle.js_targets.proofs.Targets.{by_braces, by_brackets, by_primary, of_assignment, target_left_hand_side}
-
-kind_is : {k : Kind} (x : Lexeme) → IsTrue (seen (is k) x) → x.kind ≡ k
-kind_is {k} x q = sym (kind_of_same k x.kind (and_parts (same_kind k x.kind) _ q).0)
+use Rattle.js_targets.proofs.ArraysBeforeSigns.{target_no_literal}
 
 -- ---- simple targets
 
@@ -58,9 +56,6 @@ no_literal_kind : (k : NodeKind) (o : Op) (fl : ℕ) (p : Span) (cs : Slots) (t 
 no_literal_kind array_expression o fl p cs t e = absurd (cc)
 no_literal_kind object_expression o fl p cs t e = absurd (cc)
 no_literal_kind _ o fl p cs t e = refl
-
-pub target_no_literal : (l : Label) (cs : Slots) (t : Tree) → target_of l cs ≡ Some t → is_literal l.kind ≡ false
-target_no_literal l cs t e = no_literal_kind l.kind l.op l.flags l.span cs t e
 
 target_label : (l : Label) (cs : Slots) (t : Tree) (a b : Bool) → is_parens l.kind ≡ a → is_target l.kind ≡ b → (target_in cs ≡ Some t → is_target t.label.kind ≡ true) → cond a (target_in cs) (cond b (Some (record { label = l; slots = cs })) None) ≡ Some t → is_target t.label.kind ≡ true
 target_label l cs t true b p q f e = f e

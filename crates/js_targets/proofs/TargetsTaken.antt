@@ -27,7 +27,7 @@ use Rattle.js_cursor.specs.Parsers.{Parser}
 use Rattle.js_cursor.specs.Places.{goal}
 use Rattle.js_cursor.specs.declared.stop.Stop.{Stop}
 use Rattle.js_parsing_laws.specs.Answers.{Grown, Numbered, Stops, Stretch, Underived, Verdict, clean, unclean, wider}
-use Rattle.js_parsing_laws.specs.Lexemes.{Lex, read_kinds, spot}
+use Rattle.js_parsing_laws.specs.Lexemes.{Lex, spot, is_read_kind}
 use Rattle.js_parsing_laws.specs.Stands.{StandsHere}
 use Rattle.js_targets.specs.Taken.{EndsTarget, PlacesTold, TargetTaken, behind_target, target_name, no_target_at, refusal_at}
 use Rattle.js_parsing_laws.specs.States.{At, Same, NodesLie}
@@ -67,7 +67,7 @@ some_of : (l : Label) (r : Option Slots) (ts : Slots) → slot_of (literal_tree 
 some_of l (Some ds) ts e = (ds, refl, (let k : tree (relabelled (pattern_kind (is_object l.kind)) l) ds end ≡ ts = cc in sym k))
 some_of l None ts e = absurd (cc)
 
-within_reused : (lo a b : ℕ) (rs qs : List ℕ) → AreWithin lo a rs → lo ≤ a → a ≤ b → Each (Reused rs a b) qs → AreWithin lo b qs
+pub within_reused : (lo a b : ℕ) (rs qs : List ℕ) → AreWithin lo a rs → lo ≤ a → a ≤ b → Each (Reused rs a b) qs → AreWithin lo b qs
 within_reused lo a b rs [] w i j h = tt
 within_reused lo a b rs (q ∷ qs) w i j h = ((one h.0).0, (one h.0).1, within_reused lo a b rs qs w i j h.1)
   where
@@ -75,10 +75,10 @@ within_reused lo a b rs (q ∷ qs) w i j h = ((one h.0).0, (one h.0).1, within_r
     one (inl m) = let x = below_in lo a rs q w m in (x.0, let y = x.1 in omega arith)
     one (inr m) = let x = m.0 in (omega arith, m.1)
 
-held_node : {ns : List Node} {below lo hi : ℕ} {id : NodeId} {l : Label} {cs : Slots} {qs : List ℕ} → StandsAll ns below (Some id ∷ []) (tree l cs end) qs → AreWithin lo hi qs → AreDistinct qs → Holds ns lo hi id.0 l cs
+pub held_node : {ns : List Node} {below lo hi : ℕ} {id : NodeId} {l : Label} {cs : Slots} {qs : List ℕ} → StandsAll ns below (Some id ∷ []) (tree l cs end) qs → AreWithin lo hi qs → AreDistinct qs → Holds ns lo hi id.0 l cs
 held_node {lo = lo} {hi = hi} (next_child {rs = rs} b h no_slots) w d = record { numbers = rs; stands = h; within = subst (λ (xs : List ℕ). AreWithin lo hi xs) (append-nil rs) w; distinct = subst AreDistinct (append-nil rs) d }
 
-held_of : {os ns : List Node} {lo : ℕ} {rs : List ℕ} {id : NodeId} {l : Label} {cs : Slots} → AreWithin lo (length os) rs → lo ≤ length os → length os ≤ length ns → Slotted os ns rs (Some id ∷ []) (tree l cs end) → Holds ns lo (length ns) id.0 l cs
+pub held_of : {os ns : List Node} {lo : ℕ} {rs : List ℕ} {id : NodeId} {l : Label} {cs : Slots} → AreWithin lo (length os) rs → lo ≤ length os → length os ≤ length ns → Slotted os ns rs (Some id ∷ []) (tree l cs end) → Holds ns lo (length ns) id.0 l cs
 held_of {os} {ns} {lo} {rs} w i j x = held_node x.stands (within_reused lo (length os) (length ns) rs x.numbers w i j x.reused) x.distinct
 
 -- an assignment operator may stand behind a target
@@ -117,7 +117,7 @@ module _ {text : List ℕ} {f : Flags} {p q : Parser} {left : NodeId} (a : At te
           let r = read_of z.0 (sym z.2.kind) g.is_read in
           (z.0, (z.1, r), assign_behind f.in_ z.0 (and_from (one_of_kinds assign_operators z.0.kind) (not z.0.escaped) (subst (λ (v : Kind). one_of_kinds assign_operators v ≡ true) z.2.kind u) (ap not n)))
 
-      word : (w : Kind) → is_last w ≡ false → one_of_kinds read_kinds w ≡ true → one_of_kinds (In ∷ Of ∷ assign_operators) w ≡ true → has_flag in_flag q.ctx ≡ false → StandsHere q w true → (y : Lexeme) × Lex text q.prev_token_end y × IsTrue (seen (behind_target f.in_) y)
+      word : (w : Kind) → is_last w ≡ false → is_read_kind w ≡ true → one_of_kinds (In ∷ Of ∷ assign_operators) w ≡ true → has_flag in_flag q.ctx ≡ false → StandsHere q w true → (y : Lexeme) × Lex text q.prev_token_end y × IsTrue (seen (behind_target f.in_) y)
       word w l r m n h =
           let z = found x.answer.at c (ap is_last h.0 ∙ l) in
           let kind : z.0.kind ≡ w = sym z.2.kind ∙ h.0 in

@@ -2,7 +2,6 @@
 use Rattle.std.proofs.Common.{ℕ, ◌≡◌, Bool, true, false, IsTrue, List, length, refl, sym, ap, subst, ◌∙◌}
 use Rattle.std.specs.Prelude.{Ok}
 use Rattle.js_base.specs.Contexts.{has_flag, in_flag}
-use Rattle.js_base.specs.Kinds.{one_of_kinds}
 use Rattle.js_base.specs.declared.kind.Kind.{Kind}
 use Rattle.js_base.specs.declared.kind.Kind.TheVariants.{Eof}
 use Rattle.js_grammar.specs.Follow.{after, first_edge, looser}
@@ -20,7 +19,7 @@ use Rattle.js_tree.specs.declared.kind.NodeKind.TheVariants as made
 use Rattle.js_cursor.specs.Parsers.{Parser}
 use Rattle.js_parsing_laws.specs.Answers.{Answers}
 use Rattle.js_parsing_laws.specs.Heads.{widened}
-use Rattle.js_parsing_laws.specs.Lexemes.{Lex, read_kinds}
+use Rattle.js_parsing_laws.specs.Lexemes.{Lex, is_read_kind}
 use Rattle.js_parsing_laws.specs.States.{At, Standing, flags_of}
 use Rattle.js_parsing_laws.proofs.Here.{kind_here}
 use Rattle.js_parsing_laws.proofs.Moving.{standing, standing_for}
@@ -63,7 +62,7 @@ expression_read {p} {q} {id} s i x e k =
     let a : At p.text f p = standing_for s refl (λ j. record f { in_ = i j }) in
     let z = x p.text f a in
     let b = z.answer.at in
-    let y = reads_so true (standing b) (sym (ap (one_of_kinds read_kinds) k)) in
+    let y = reads_so true (standing b) (sym (ap is_read_kind k)) in
     let l = subst (λ (t : List ℕ). Lex t q.prev_token_end y.0) b.text_is y.1 in
     read_before {n = an_expression} a refl z e tt y.0 l (λ ts. admitted f ts y.0 (kind_here b k refl y.0 l))
 

@@ -1,8 +1,8 @@
 use Rattle.std.proofs.Common.{refl, sym, ap, ◌∙◌}
 use Rattle.js_base.specs.declared.kind.Kind.TheVariants.{Async, LParen}
 use Rattle.js_base.specs.Kinds.{one_of_kinds}
+use Rattle.js_base.specs.KindSets.{binding_identifier_kinds}
 use Rattle.std.proofs.Common.{◌∷◌}
-use Rattle.js_parsing_laws.specs.Lexemes.{name_kinds}
 use Rattle.js_operand_laws.proofs.Members.{stands_so}
 use Rattle.js_expression_laws.proofs.AsyncHeads.{async_begins, async_on_new_line, no_async_word}
 use Rattle.js_arrows.proofs.arrow.begins_async_head.Goals as goal
@@ -14,4 +14,4 @@ pub returns-then-is_on_new_line : goal.returns-then-is_on_new_line
 returns-then-is_on_new_line g c = (c.in_ok-next.ensures.same, async_on_new_line (stands_so c.args.p.now Async c.if-not-stands.false c.stands.ensures) c.in_ok-next.ensures.answer (sym c.is_on_new_line.ensures ∙ c.if-is_on_new_line.true))
 
 pub returns : goal.returns
-returns g c = async_begins (stands_so c.args.p.now Async c.if-not-stands.false c.stands.ensures) c.in_ok-next.ensures.same c.in_ok-next.ensures.answer (sym c.is_on_new_line.ensures ∙ c.if-is_on_new_line.false) _ (c.begins_parameters.ensures ∙ ap (one_of_kinds (LParen ∷ name_kinds)) c.kind.ensures)
+returns g c = async_begins (stands_so c.args.p.now Async c.if-not-stands.false c.stands.ensures) c.in_ok-next.ensures.same c.in_ok-next.ensures.answer (sym c.is_on_new_line.ensures ∙ c.if-is_on_new_line.false) _ (c.begins_parameters.ensures ∙ ap (one_of_kinds (LParen ∷ binding_identifier_kinds)) c.kind.ensures)

@@ -6,11 +6,12 @@ use Rattle.js_base.specs.declared.kind.Kind.TheVariants.{Question}
 use Rattle.js_base.specs.declared.span.Span.{Span}
 use Rattle.js_base.specs.declared.token.Token.{Token}
 use Rattle.js_expression_laws.specs.Rests.{Asked}
-use Rattle.js_expression_laws.proofs.Conditionals.{test_alone, no_assign_here, question_plain, asked_here, asked_later, first_fails, colon_fails, colon_missing, second_fails, conditional_answers}
+use Rattle.js_expression_laws.proofs.Conditionals.{test_alone, no_assign_here, asked_here, asked_later, first_fails, colon_fails, colon_missing, second_fails, conditional_answers}
 use Rattle.js_parsing_laws.proofs.Signs.{other_kind, plain_sign}
 use Rattle.js_parsing_laws.proofs.Moving.{standing, stops_behind, same_both}
 use Rattle.js_parsing_laws.proofs.Nesting.{nested_room, nests_later, later_room}
 use Rattle.js_parsing_laws.proofs.Verdicts.{after, grown_then}
+use Rattle.js_parsing_laws.proofs.PlainSigns.{question_plain}
 use Rattle.js_expressions.proofs.assignment.parse_conditional_expression_rest.Goals as goal
 
 pub returns-then-not-at-clause-answers : goal.returns-then-not-at-clause-answers

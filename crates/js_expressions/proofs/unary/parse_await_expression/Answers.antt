@@ -1,6 +1,7 @@
 use Rattle.std.proofs.Common.{◌∙◌, ap, arith}
+use Rattle.js_base.specs.Kinds.{one_of_kinds}
+use Rattle.js_base.specs.KindSets.{identifier_name_kinds}
 use Rattle.std.proofs.lemmas.Result.{err_from_is_err_and}
-use Rattle.js_parsing_laws.specs.Lexemes.{read_word}
 use Rattle.js_parsing_laws.proofs.Moving.{standing, stops_behind}
 use Rattle.js_parsing_laws.proofs.Nesting.{nested_room}
 use Rattle.js_parsing_laws.proofs.Verdicts.{grown_then}
@@ -9,7 +10,7 @@ use Rattle.js_expression_laws.proofs.Awaits.{await_answers, await_fails, awaits_
 use Rattle.js_expressions.proofs.unary.parse_await_expression.Goals as goal
 
 pub advance-requires-clause-whole : goal.advance-requires-clause-whole
-advance-requires-clause-whole t c = word_whole c.requires.at (ap read_word c.requires.word.kind)
+advance-requires-clause-whole t c = word_whole c.requires.at (ap (one_of_kinds identifier_name_kinds) c.requires.word.kind)
 
 pub unary-requires : goal.unary-requires
 unary-requires t c = let m = c.in_ok-advance.ensures _ _ c.requires.at in c.requires.nests _ _ (standing m.at) (nested_room c.requires.at m)

@@ -1,7 +1,8 @@
 use Rattle.std.proofs.Common.{refl, sym, ap, arith, ◌∙◌}
+use Rattle.js_base.specs.Kinds.{one_of_kinds}
+use Rattle.js_base.specs.KindSets.{identifier_name_kinds}
 use Rattle.std.proofs.lemmas.Bool.{false≢true}
 use Rattle.std.proofs.lemmas.Result.{err_from_is_err_and}
-use Rattle.js_parsing_laws.specs.Lexemes.{read_word}
 use Rattle.js_parsing_laws.proofs.Moving.{standing, stops_behind}
 use Rattle.js_parsing_laws.proofs.Nesting.{nested_room, nests_later}
 use Rattle.js_parsing_laws.proofs.Verdicts.{grown_then}
@@ -11,7 +12,7 @@ use Rattle.js_expression_laws.proofs.Yields.{argued_is, argument_answers, argume
 use Rattle.js_expressions.proofs.yield_expression.parse_yield_expression.Goals as goal
 
 pub advance-requires-clause-whole : goal.advance-requires-clause-whole
-advance-requires-clause-whole g c = word_whole c.requires.at (ap read_word c.requires.word.kind)
+advance-requires-clause-whole g c = word_whole c.requires.at (ap (one_of_kinds identifier_name_kinds) c.requires.word.kind)
 
 pub end_span-span-requires : goal.end_span-span-requires
 end_span-span-requires g c = let m = c.in_ok-advance.ensures _ _ c.requires.at in let a = m.further in let s = c.cur_start-start.ensures in omega arith

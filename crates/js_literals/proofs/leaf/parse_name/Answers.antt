@@ -1,4 +1,4 @@
-use Rattle.std.proofs.Common.{◌≡◌, [], subst}
+use Rattle.std.proofs.Common.{[], subst}
 use Rattle.js_base.specs.declared.token.Token.{Token}
 use Rattle.js_tree.specs.declared.op.Op.TheVariants as op
 use Rattle.js_parsing_laws.specs.Moves.{MadeHere, plain_label}

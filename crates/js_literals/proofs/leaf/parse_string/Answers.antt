@@ -1,4 +1,4 @@
-use Rattle.std.proofs.Common.{◌≡◌, [], subst, ◌∙◌}
+use Rattle.std.proofs.Common.{◌≡◌, [], subst}
 use Rattle.js_base.specs.declared.span.Span.{Span}
 use Rattle.js_base.specs.Kinds.{same_kind}
 use Rattle.js_tree.specs.declared.kind.NodeKind.TheVariants as node

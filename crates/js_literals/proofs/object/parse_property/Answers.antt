@@ -1,14 +1,15 @@
 use Rattle.std.proofs.Common.{[], ◌∷◌, ap, sym, refl, ◌∙◌}
+use Rattle.js_base.specs.Kinds.{one_of_kinds}
+use Rattle.js_base.specs.KindSets.{identifier_name_kinds}
 use Rattle.js_base.specs.declared.kind.Kind.TheVariants.{Dot3, Star}
 use Rattle.js_grammar.specs.Productions.{at, Property}
-use Rattle.js_parsing_laws.specs.Lexemes.{read_word}
 use Rattle.js_parsing_laws.proofs.NameKinds.{or_kind}
 use Rattle.js_operand_laws.proofs.PropertyForms.{dots_only, dots_stand, star_stands}
 use Rattle.js_operand_laws.proofs.Wholes.{item_by}
 use Rattle.js_literals.proofs.object.parse_property.Goals as goal
 
 pub parse_word_property-requires-clause-word : goal.parse_word_property-requires-clause-word
-parse_word_property-requires-clause-word g c = sym (ap read_word c.cur_kind.ensures) ∙ (sym c.is_read_word.ensures ∙ c.if-is_read_word.true)
+parse_word_property-requires-clause-word g c = sym (ap (one_of_kinds identifier_name_kinds) c.cur_kind.ensures) ∙ (sym c.is_identifier_name.ensures ∙ c.if-is_identifier_name.true)
 
 pub parse_spread_element-requires-clause-sign : goal.parse_spread_element-requires-clause-sign
 parse_spread_element-requires-clause-sign g c = dots_stand c.requires.at (sym c.cur_kind-2.ensures ∙ c.in-Dot3.is)
@@ -20,7 +21,7 @@ pub parse_generator_method-requires-clause-sign : goal.parse_generator_method-re
 parse_generator_method-requires-clause-sign g c = star_stands c.requires.at (sym c.cur_kind-2.ensures ∙ c.in-Star.is)
 
 pub parse_other_property-requires-clause-no_word : goal.parse_other_property-requires-clause-no_word
-parse_other_property-requires-clause-no_word g c = sym (ap read_word c.cur_kind.ensures) ∙ (sym c.is_read_word.ensures ∙ c.if-is_read_word.false)
+parse_other_property-requires-clause-no_word g c = sym (ap (one_of_kinds identifier_name_kinds) c.cur_kind.ensures) ∙ (sym c.is_identifier_name.ensures ∙ c.if-is_identifier_name.false)
 
 pub parse_other_property-requires-clause-no_sign : goal.parse_other_property-requires-clause-no_sign
 parse_other_property-requires-clause-no_sign g c = or_kind Dot3 (Star ∷ []) _ (λ k. c.in_default.not-Dot3 (c.cur_kind-2.ensures ∙ k)) (or_kind Star [] _ (λ k. c.in_default.not-Star (c.cur_kind-2.ensures ∙ k)) refl)

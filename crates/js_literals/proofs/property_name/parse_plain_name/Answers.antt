@@ -1,4 +1,4 @@
-use Rattle.std.proofs.Common.{refl, sym, ap, ◌∙◌}
+use Rattle.std.proofs.Common.{sym, ap, ◌∙◌}
 use Rattle.js_base.specs.KindSets.{number_kinds}
 use Rattle.js_base.specs.Kinds.{one_of_kinds}
 use Rattle.js_operand_laws.proofs.PropertyNames.{none_literal, number_outcome, number_plain, number_whole, string_outcome, string_plain, word_outcome}

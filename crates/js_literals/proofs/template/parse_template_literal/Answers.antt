@@ -1,8 +1,9 @@
 use Rattle.std.proofs.Common.{arith, ◌∙◌}
 use Rattle.std.proofs.lemmas.Result.{err_from_is_err_and}
+use Rattle.std.proofs.lemmas.Bool.{not-true, not-false}
 use Rattle.js_parsing_laws.proofs.Moving.{standing}
 use Rattle.js_parsing_laws.proofs.Nesting.{nests_later}
-use Rattle.js_operand_laws.proofs.Templates.{is_not, is_so, part_here, part_less, part_standing, parts_first, parts_next, parts_room, parts_stop, parts_stop_later, template_made}
+use Rattle.js_operand_laws.proofs.Templates.{part_here, part_less, part_standing, parts_first, parts_next, parts_room, parts_stop, parts_stop_later, template_made}
 use Rattle.js_literals.proofs.template.parse_template_literal.Goals as goal
 
 pub parts-init : goal.parts-init
@@ -20,7 +21,7 @@ expression_with_in-requires-clause-nests g c = nests_later c.requires.nests (let
 pub returns-in_err-expression : goal.returns-in_err-expression
 returns-in_err-expression g c =
     let p = err_from_is_err_and c.from_residual-in_err-expression.result c.from_residual-in_err-expression.ensures.1 in
-    rw (p.1, p.2) (λ text f a. let x = c.parts.invariant.goes text f a in parts_stop _ _ (is_not c.parts.part.is_last c.parts-test.true) x (c.in_err-expression.ensures text f x.way.at))
+    rw (p.1, p.2) (λ text f a. let x = c.parts.invariant.goes text f a in parts_stop _ _ (not-true c.parts.part.is_last c.parts-test.true) x (c.in_err-expression.ensures text f x.way.at))
 
 pub re_lex_part-requires : goal.re_lex_part-requires
 re_lex_part-requires g c = record { at = standing (c.in_ok-expression.ensures _ _ (c.parts.invariant.goes _ _ c.requires.at).way.at).answer.at }
@@ -28,7 +29,7 @@ re_lex_part-requires g c = record { at = standing (c.in_ok-expression.ensures _ 
 pub returns-in_err-re_lex_part : goal.returns-in_err-re_lex_part
 returns-in_err-re_lex_part g c =
     let p = err_from_is_err_and c.from_residual-in_err-re_lex_part.result c.from_residual-in_err-re_lex_part.ensures.1 in
-    rw (p.1, p.2) (λ text f a. let x = c.parts.invariant.goes text f a in let y = c.in_ok-expression.ensures text f x.way.at in parts_stop_later _ _ (is_not c.parts.part.is_last c.parts-test.true) x y (c.in_err-re_lex_part.ensures text f y.answer.at))
+    rw (p.1, p.2) (λ text f a. let x = c.parts.invariant.goes text f a in let y = c.in_ok-expression.ensures text f x.way.at in parts_stop_later _ _ (not-true c.parts.part.is_last c.parts-test.true) x y (c.in_err-re_lex_part.ensures text f y.answer.at))
 
 pub pass_part-requires-in-parts : goal.pass_part-requires-in-parts
 pass_part-requires-in-parts g c = record { at = part_standing (c.in_ok-re_lex_part.ensures _ _ (c.in_ok-expression.ensures _ _ (c.parts.invariant.goes _ _ c.requires.at).way.at).answer.at).at }
@@ -41,10 +42,10 @@ parts-smaller g c =
     part_less x.way.at y b (c.in_ok-part-2.ensures _ _ b.at)
 
 pub parts-preserved : goal.parts-preserved
-parts-preserved g c = parts_next (is_not c.parts.part.is_last c.parts-test.true) c.parts.invariant c.in_ok-expression.ensures c.in_ok-re_lex_part.ensures c.in_ok-part-2.ensures c.in_ok-push-2.ensures.items c.in_ok-push-3.ensures.items
+parts-preserved g c = parts_next (not-true c.parts.part.is_last c.parts-test.true) c.parts.invariant c.in_ok-expression.ensures c.in_ok-re_lex_part.ensures c.in_ok-part-2.ensures c.in_ok-push-2.ensures.items c.in_ok-push-3.ensures.items
 
 pub end_span-span-requires : goal.end_span-span-requires
 end_span-span-requires g c = let x = (c.parts.invariant.goes _ _ c.requires.at).way.further in let s = c.parts.invariant.start_is in omega arith
 
 pub returns : goal.returns
-returns g c = λ text f a. let z = c.parts.invariant.goes text f a in template_made a (is_so c.parts.part.is_last c.parts-test.false) z (c.end_span-span.ensures.start ∙ c.parts.invariant.start_is) c.end_span-span.ensures.end c.in_ok-node.ensures
+returns g c = λ text f a. let z = c.parts.invariant.goes text f a in template_made a (not-false c.parts.part.is_last c.parts-test.false) z (c.end_span-span.ensures.start ∙ c.parts.invariant.start_is) c.end_span-span.ensures.end c.in_ok-node.ensures

@@ -3,8 +3,8 @@ use Rattle.js_parsing_laws.specs.Moves.{unpassable}
 use Rattle.std.proofs.lemmas.Result.{err_from_is_err_and}
 use Rattle.js_base.specs.declared.kind.Kind.TheVariants.{LBrack, LParen, RAngle}
 use Rattle.js_base.specs.Kinds.{one_of_kinds, same_kind}
+use Rattle.js_base.specs.KindSets.{identifier_name_kinds}
 use Rattle.js_base.specs.declared.token.Token.{Token}
-use Rattle.js_parsing_laws.specs.Lexemes.{read_word}
 use Rattle.js_parsing_laws.proofs.Giving.{gives_up}
 use Rattle.js_parsing_laws.proofs.Here.{uncut}
 use Rattle.js_parsing_laws.proofs.Moving.{standing}
@@ -93,4 +93,4 @@ refuse_optional_link-requires-clause-mark t c = link_marked _ c.requires.at c.re
 pub returns-then-lacks_link : goal.returns-then-lacks_link
 returns-then-lacks_link t c = λ text f a.
     let m = c.in_ok-advance.ensures text f a in
-    no_optional_name a c.requires.sign m (stands_so c.advance.new.p LParen c.if-stands.false c.stands.ensures) (stands_so c.advance.new.p LBrack c.if-stands-2.false c.stands-2.ensures) _ c.refuse_optional_link.result (gives_up _ _ _ c.refuse_optional_link.result m.at c.refuse_optional_link.ensures (λ d u. subst EndsParse (sym u) refl) (no_name m.at (ap read_word (sym c.cur_kind-2.ensures) ∙ c.lacks_link.ensures c.if-lacks_link.true)))
+    no_optional_name a c.requires.sign m (stands_so c.advance.new.p LParen c.if-stands.false c.stands.ensures) (stands_so c.advance.new.p LBrack c.if-stands-2.false c.stands-2.ensures) _ c.refuse_optional_link.result (gives_up _ _ _ c.refuse_optional_link.result m.at c.refuse_optional_link.ensures (λ d u. subst EndsParse (sym u) refl) (no_name m.at (ap (one_of_kinds identifier_name_kinds) (sym c.cur_kind-2.ensures) ∙ c.lacks_link.ensures c.if-lacks_link.true)))

@@ -1,4 +1,6 @@
 use Rattle.std.proofs.Common.{◌≡◌, ap, arith, sym, subst, true}
+use Rattle.js_base.specs.Kinds.{one_of_kinds}
+use Rattle.js_base.specs.KindSets.{identifier_name_kinds}
 use Rattle.std.specs.Prelude.{MatchResult}
 use Rattle.js_grammar.specs.Productions.{at, Primary}
 use Rattle.js_tree.specs.declared.kind.NodeKind.TheVariants as node
@@ -6,7 +8,6 @@ use Rattle.js_tree.specs.declared.op.Op.TheVariants as op
 use Rattle.js_cursor.specs.Moves.{OnlyMemory}
 use Rattle.js_cursor.specs.Parsers.{Parser}
 use Rattle.js_parsing_laws.specs.Answers.{Outcome}
-use Rattle.js_parsing_laws.specs.Lexemes.{read_word}
 use Rattle.js_parsing_laws.specs.Moves.{IsWholeHere, TakesLeaf}
 use Rattle.js_parsing_laws.specs.Nesting.{room}
 use Rattle.js_parsing_laws.proofs.Nesting.{nests_later}
@@ -38,7 +39,7 @@ pub parse_name-requires-clause-whole : goal.parse_name-requires-clause-whole
 parse_name-requires-clause-whole g c = subst (λ (v : Parser). IsWholeHere v) (sym (found_so c.args.p.now c.function_stands.new.p c.if-branch.false c.in_ok-function_stands.ensures).0) (name_whole c.requires.at (listed_here c.args.p.now c.requires.name))
 
 pub parse_name-requires-clause-word : goal.parse_name-requires-clause-word
-parse_name-requires-clause-word g c = subst (λ (v : Parser). read_word v.token.kind ≡ true) (sym (found_so c.args.p.now c.function_stands.new.p c.if-branch.false c.in_ok-function_stands.ensures).0) (name_word c.args.p.now.token.kind (listed_here c.args.p.now c.requires.name))
+parse_name-requires-clause-word g c = subst (λ (v : Parser). one_of_kinds identifier_name_kinds v.token.kind ≡ true) (sym (found_so c.args.p.now c.function_stands.new.p c.if-branch.false c.in_ok-function_stands.ensures).0) (name_word c.args.p.now.token.kind (listed_here c.args.p.now c.requires.name))
 
 pub returns : goal.returns
 returns g c = λ text f a.

@@ -9,7 +9,7 @@ use Rattle.js_tree.specs.declared.flags.NodeFlags.{NodeFlags}
 use Rattle.js_tree.specs.declared.op.Op.TheVariants as op
 use Rattle.js_tree.specs.Labels.{kind_of, label_of}
 use Rattle.js_tree.specs.Nodes.{Node, label, node_at}
-use Rattle.js_targets.specs.Targets.{is_elision, is_spread, is_assignment, is_property, is_object, is_literal, literal_places, relabelled, Noted, noted_in}
+use Rattle.js_targets.specs.Targets.{is_elision, is_spread, is_assignment, is_object, is_literal, literal_places, relabelled, Noted, noted_in, is_property}
 use Rattle.js_targets.specs.declared.widening.Widening.TheVariants.{Rest}
 use Rattle.js_targets.proofs.ConvertedNodes.{ElementAnswer, ElementLoop, ElementsAnswer, RestAnswer, TargetAnswer, literal_none, literal_some, argument_below, argument_less, argument_stood, child_less, child_stood, element_hole, element_item, elements_keep, elements_none, elements_some, item_assigned, item_property, no_elision, no_property, no_spread_element, no_assignment, item_spread, item_target, last_child, loop_begins, loop_ends, loop_hole, loop_next, loop_refuses, map_ok, next_child', no_more, relabels, rest_made, rest_not_last, rest_unconverted, rest_without, target_literal, target_simple}
 use Rattle.js_targets.proofs.PropertyNodes.{property_shorthand, property_without, property_refused, property_made, value_less, value_stood}

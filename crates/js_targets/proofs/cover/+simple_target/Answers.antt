@@ -1,7 +1,7 @@
 use Rattle.std.proofs.Common.{arith, ap, sym, subst, ◌∙◌, Option}
 use Rattle.js_tree.specs.declared.id.NodeId.{NodeId}
 use Rattle.js_tree.specs.Labels.{kind_of}
-use Rattle.js_targets.specs.Targets.{is_parens, is_target, IsTarget}
+use Rattle.js_targets.specs.Targets.{is_target, IsTarget, is_parens}
 use Rattle.js_targets.proofs.CoveredNodes.{empty_parens, in_the_parens, itself, no_target, child_stood, child_less}
 use Rattle.js_targets.proofs.ConvertedNodes.{SimpleAnswer, simple_none, simple_inside, simple_itself, simple_refused}
 use Rattle.js_targets.proofs.cover.+simple_target.Goals as goal
