@@ -1,5 +1,5 @@
 -- The walk that finds the shorthands with an initialiser.
-use Rattle.std.proofs.Common.{◌≡◌, ℕ, ◌<◌, Bool, true, false, cond, ◌&&◌, List, [], ◌∷◌, ◌++◌, length, map, Option, Some, get_or, slice_get, nat_lt, refl, ap, sym, ◌∙◌, subst, arith, lt-ltb, append_assoc, append-nil}
+use Rattle.std.proofs.Common.{◌≡◌, ℕ, ◌<◌, Bool, true, false, cond, ◌&&◌, List, [], ◌∷◌, ◌++◌, length, map, Option, get_or, nat_lt, refl, ap, sym, ◌∙◌, subst, arith, lt-ltb, append_assoc, append-nil}
 use Rattle.js_base.specs.declared.span.Span.{Span}
 use Rattle.js_grammar.specs.Trees.{Label, Slots, Tree, Span as TreeSpan}
 use Rattle.js_grammar.specs.CoverInitialisers.{is_shorthand, has_third, is_initialised, initialised_in}
@@ -9,6 +9,8 @@ use Rattle.js_tree.specs.Covering.{is_covering, placed}
 use Rattle.js_tree.specs.Holding.{Stands, stands, StandsAll, no_slots, next_child, next_hole, IsTree}
 use Rattle.js_tree.specs.Parts.{below_all}
 use Rattle.js_tree.proofs.StackLemmas.{Stacked, bottom, Stacked-push, Stacked-pop, Stacked-none}
+use Rattle.js_tree.proofs.CountLemmas.{first_is}
+use Rattle.js_tree.proofs.HoldingLemmas.{Stands-below}
 
 -- the spans in a node and its slots
 abbrev pub spans_of : Label → Slots → List TreeSpan
@@ -58,10 +60,6 @@ pub record Found (ns : List Node) (ids : List NodeId) (found : List Span) (whole
   pub stacked : Stacked (Means ns) ids rest
   pub parts : whole ≡ done ++ rest
 
-first_is : (ns : List Node) (p : Node) → slice_get ns 0 ≡ Some p → get_or ns 0 empty_program ≡ p
-first_is [] p e = absurd (let k = e in cc)
-first_is (n ∷ ns) p e = let q : n ≡ p = cc in q
-
 pub Found-start : (ns : List Node) (t : Tree) → IsTree ns t → Found ns (below_all (length ns) (node_at ns (record { 0 = 0 })).children) [] (initialised_in t.slots)
 Found-start ns t h =
     rw (first_is ns h.program h.first) record { done = []; is = refl; rest = initialised_in t.slots ++ []; stacked = stacked_all [] [] (h.children).stands (bottom refl); parts = sym (append-nil (initialised_in t.slots)) }
@@ -73,9 +71,6 @@ map_append (x ∷ a) b = ap (λ (v : List Span). placed x ∷ v) (map_append a b
 own_span : (b : Bool) (s : TreeSpan) → map placed (cond b (s ∷ []) []) ≡ cond b (placed s ∷ []) []
 own_span true s = refl
 own_span false s = refl
-
-stands_below : {ns : List Node} {id : ℕ} {l : Label} {cs : Slots} {rs : List ℕ} → Stands ns id l cs rs → id < length ns
-stands_below (stands id h a) = h
 
 opened : {ns : List Node} {l : Label} {cs : Slots} {rs : List ℕ} (id : NodeId) (n : ℕ) (ps : List NodeId) (u : List TreeSpan) (done whole : List TreeSpan) → id.0 ≡ n → Stands ns n l cs rs → Stacked (Means ns) ps u → whole ≡ done ++ (spans_of l cs ++ u) → Found ns (ps ++ below_all id.0 (node_at ns id).children) (map placed done ++ cond (is_covering (node_at ns id)) ((node_at ns id).span ∷ []) []) whole
 opened {ns} id n ps u done whole e (stands {cs} {rs} m h a) r q =
@@ -99,7 +94,7 @@ Found-step {ns} ps id found whole w =
     (opened id id.0 ps x.rest w.done whole refl (x.means).stands x.stacked (w.parts ∙ ap (λ (v : List TreeSpan). w.done ++ v) (x.whole ∙ ap (λ (v : List TreeSpan). v ++ x.rest) (x.means).is)))
 
 pub Found-below : {ns : List Node} (ps : List NodeId) (id : NodeId) (found : List Span) (whole : List TreeSpan) → Found ns (ps ++ id ∷ []) found whole → id.0 < length ns
-Found-below ps id found whole w = let x = Stacked-pop ps id w.rest w.stacked in stands_below (x.means).stands
+Found-below ps id found whole w = let x = Stacked-pop ps id w.rest w.stacked in Stands-below (x.means).stands
 
 pub Found-end : {ns : List Node} (found : List Span) (whole : List TreeSpan) → Found ns [] found whole → found ≡ map placed whole
 Found-end found whole w = w.is ∙ ap (map placed) (sym (append-nil w.done) ∙ ap (λ (v : List TreeSpan). w.done ++ v) (sym (Stacked-none w.stacked)) ∙ sym w.parts)

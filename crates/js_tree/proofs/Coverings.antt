@@ -1,6 +1,6 @@
 -- Whether a shorthand with an initialiser may be reached from each number (CoverInitializedName, ECMA-262, 13.2.5).
 use Rattle.std.proofs.Common.{◌≡◌, ℕ, zero, suc, ◌+◌, ◌<◌, ◌≤◌, Bool, true, false, cond, ◌&&◌, ◌||◌, List, [], ◌∷◌, ◌++◌, length, take, set, Option, Some, None, nat_lt, get_or, refl, ap, sym, ◌∙◌, arith, inl, inr, lt-ltb, le-ltb, ltb-true, add-one, length-set}
-use Rattle.std.proofs.lemmas.Bool.{cases_lt}
+use Rattle.std.proofs.lemmas.Bool.{cases_lt, or_parts}
 use Rattle.std.proofs.lemmas.List.{get_or_append_left, get_or_push, length_push}
 use Rattle.js_base.specs.declared.span.Span.{Span}
 use Rattle.js_grammar.specs.Trees.{Label, Slots}
@@ -104,10 +104,6 @@ AreCovers-flags ns covers id f h =
 abbrev AreKnown : List Node → List Bool → ℕ → Type 0
 AreKnown ms covers lo = (i : ℕ) → lo ≤ i → i < length ms → get_or covers i false ≡ (may_cover (get_or ms i empty_program) || covered_in covers i (get_or ms i empty_program).children)
 
-neither : (a b : Bool) → (a || b) ≡ false → (a ≡ false) × (b ≡ false)
-neither true b h = absurd (let k = h in cc)
-neither false b h = (refl, h)
-
 third_of : (a c : Bool) (b d : Bool) → (a && c) ≡ false → d ≡ c → ((a && b) && d) ≡ false
 third_of true c true d h e = e ∙ h
 third_of true c false d h e = refl
@@ -117,13 +113,13 @@ mutual
   none_from : (covers : List Bool) (lo hi : ℕ) {ms : List Node} {id : ℕ} {l : Label} {cs : Slots} {rs : List ℕ} → AreKnown ms covers lo → AreWithin lo hi rs → Stands ms id l cs rs → get_or covers id false ≡ false → (is_initialised l cs ≡ false) × (initialised_in cs ≡ [])
   none_from covers lo hi {ms} k w (stands {cs} id h a) e =
       let n = get_or ms id empty_program in
-      let z = neither (may_cover n) (covered_in covers id n.children) (sym (k id w.0 h) ∙ e) in
+      let z = or_parts (may_cover n) (covered_in covers id n.children) (sym (k id w.0 h) ∙ e) in
       (third_of (is_property (label n).kind) (nat_lt 2 (length n.children)) _ (has_third cs) z.0 (third_is a), none_below covers lo hi k w.2 a z.1)
 
   none_below : (covers : List Bool) (lo hi : ℕ) {ms : List Node} {below : ℕ} {ids : List (Option NodeId)} {cs : Slots} {rs : List ℕ} → AreKnown ms covers lo → AreWithin lo hi rs → StandsAll ms below ids cs rs → covered_in covers below ids ≡ false → initialised_in cs ≡ []
   none_below covers lo hi k w no_slots e = refl
   none_below covers lo hi {below = below} k w (next_child {id = id} {ids = ids} {l = l} {cs = cs} {us = us} {rs = rs} {ss = ss} b h a) e =
-      let z = neither (nat_lt id.0 below && get_or covers id.0 false) (covered_in covers below ids) e in
+      let z = or_parts (nat_lt id.0 below && get_or covers id.0 false) (covered_in covers below ids) e in
       let one = none_from covers lo hi k (AreWithin-left lo hi rs ss w) h (sym (ap (λ (t : Bool). t && get_or covers id.0 false) (lt-ltb id.0 below b)) ∙ z.0) in
       let others = none_below covers lo hi k (AreWithin-right lo hi rs ss w) a z.1 in
       λ j. cond (one.0 j) (l.span ∷ []) [] ++ (one.1 j ++ others j)

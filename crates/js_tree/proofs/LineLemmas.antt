@@ -1,5 +1,5 @@
 -- A text with line feeds, character by character.
-use Rattle.std.proofs.Common.{◌≡◌, ◌==◌, ◌&&◌, ◌+◌, ◌<◌, ℕ, Bool, true, false, List, [], ◌∷◌, ◌++◌, length, drop, get_or, refl, sym, ap, ◌∙◌, arith, append_assoc, append-nil}
+use Rattle.std.proofs.Common.{◌≡◌, ◌==◌, ◌&&◌, ◌+◌, ◌<◌, ℕ, Bool, true, false, List, [], ◌∷◌, ◌++◌, length, drop, get_or, sym, ap, ◌∙◌, arith, append_assoc, append-nil}
 use Rattle.std.specs.Prelude.{encode_utf8, encode_utf8_all}
 use Rattle.std.proofs.lemmas.List.{drop_more, length_push, drop_all}
 use Rattle.std.proofs.lemmas.Bool.{ne_eqb}
@@ -28,14 +28,6 @@ feed_behind a c rest e f = ap (λ (b : Bool). elim b [ true ↦ 10 ∷ line_feed
 
 pub other : (a : Bool) (c : ℕ) (rest : List ℕ) → (c == 13) ≡ false → (a && (c == 10)) ≡ false → line_feeds_after a (c ∷ rest) ≡ c ∷ line_feeds_after false rest
 other a c rest e f = ap (λ (b : Bool). elim b [ true ↦ 10 ∷ line_feeds_after true rest | false ↦ elim (a && (c == 10)) [ true ↦ line_feeds_after false rest | false ↦ c ∷ line_feeds_after false rest ] ]) e ∙ ap (λ (b : Bool). elim b [ true ↦ line_feeds_after false rest | false ↦ c ∷ line_feeds_after false rest ]) f
-
-pub right_false : (a b : Bool) → b ≡ false → (a && b) ≡ false
-right_false true b e = e
-right_false false b e = refl
-
-pub left_false : (a b : Bool) → a ≡ false → (a && b) ≡ false
-left_false true b e = absurd (let k = e in cc)
-left_false false b e = refl
 
 -- a character that counts as itself, at the end
 pub pushed : (us vs cs : List ℕ) (a : Bool) (c : ℕ) → (c ≡ 13 → ⊥) → (a && (c == 10)) ≡ false → vs ≡ us ++ encode_utf8 c → vs ++ encode_utf8_all (line_feeds_after (c == 13) cs) ≡ us ++ encode_utf8_all (line_feeds_after a (c ∷ cs))

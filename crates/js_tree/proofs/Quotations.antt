@@ -3,7 +3,7 @@ use Rattle.std.proofs.Common.{◌≡◌, ◌<◌, ◌≤◌, ℕ, suc, ◌+◌, 
 use Rattle.std.specs.Prelude.{chars, encode_utf8_all, IsUtf8, IsCharBoundary, slice_range, is_some, IsSome}
 use Rattle.std.proofs.Math.Seq.{take-append_seam}
 use Rattle.std.proofs.Math.Utf8.{scalars, scalar}
-use Rattle.std.proofs.lemmas.Bool.{eqb-true}
+use Rattle.std.proofs.lemmas.Bool.{eqb-true, and_right}
 use Rattle.std.proofs.lemmas.List.{get_or_at, take_at}
 use Rattle.std.proofs.lemmas.Str.{encode_ascii, encodes-chars, encodes-append, scalars-chars, chars_from_encodes, IsCharBoundary-after_ascii, IsCharBoundary-before_ascii}
 use Rattle.js_base.specs.declared.kind.Kind.TheVariants.{Str}
@@ -30,10 +30,6 @@ nothing_read (c ∷ cs) h = by (c == 13) h
     by true h = cc
     by false h = cc
 
-and_false : (a b : Bool) → b ≡ false → (a && b) ≡ false
-and_false true b e = e
-and_false false b e = refl
-
 -- the string goes on with a character that doesn't close it
 not_yet : (q c : ℕ) (e : Bool) (cs : List ℕ) → (not e && (c == q)) ≡ false → closes_string q e (c ∷ cs) ≡ true → closes_string q (not e && (c == 92)) cs ≡ true
 not_yet q c e cs f h = both-right (e || not (c == 10)) (closes_string q (not e && (c == 92)) cs) (sym (ap (λ (b : Bool). elim b [ true ↦ nothing_left cs | false ↦ (e || not (c == 10)) && closes_string q (not e && (c == 92)) cs ]) f) ∙ h)
@@ -58,7 +54,7 @@ ends_with_quote q e a [] o h = absurd (let k = h in cc)
 ends_with_quote q e a (c ∷ cs) o h = by (c == 13) (a && (c == 10)) (λ f x k. ends_with_quote q f x cs o k) h
   where
     feed : (not e && (10 == q)) ≡ false
-    feed = and_false (not e) (10 == q) (not-true (10 == q) (member (λ c. not (10 == c)) (34 ∷ 39 ∷ []) q o refl))
+    feed = and_right (not e) (10 == q) (not-true (10 == q) (member (λ c. not (10 == c)) (34 ∷ 39 ∷ []) q o refl))
 
     by : (b d : Bool) → ((f x : Bool) → closes_string q f (line_feeds_after x cs) ≡ true → EndsWith q cs)
         → closes_string q e (elim b [ true ↦ 10 ∷ line_feeds_after true cs | false ↦ elim d [ true ↦ line_feeds_after false cs | false ↦ c ∷ line_feeds_after false cs ] ]) ≡ true → EndsWith q (c ∷ cs)
