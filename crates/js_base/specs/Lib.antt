@@ -9,3 +9,5 @@ pub mod Places
 pub mod Sources
 pub mod Spans
 pub mod Diagnostics
+pub use Rattle.part_memory.specs as part_memory
+pub use Rattle.part_text.specs as part_text

@@ -1,7 +1,7 @@
 //! What is wrong with a text, and where.
 
 use crate::span::Span;
-use js_memory::List;
+use part_memory::List;
 
 /// The classes of diagnostics: by what kind of rule a text is refused.
 #[derive(Debug, Clone, Copy, PartialEq, Eq)]

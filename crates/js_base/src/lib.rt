@@ -31,6 +31,11 @@ pub use operator_map::{
     map_update_operator,
 };
 pub use options::ParseOptions;
+pub use part_memory::{Ledger, List, NoMemory, Steps, TickLedger};
+pub use part_text::{
+    CodePointEscape, CodePointStep, InvalidEscape, JsStr, Text, decode_name, decode_string,
+    decode_template, invalid_escape,
+};
 pub use precedence::{Precedence, kind_to_precedence};
 pub use source_type::SourceType;
 pub use span::{Span, Spans};

@@ -2,7 +2,7 @@
 
 ghost use Rattle.std.specs.Prelude.{◌≡◌, ◌+◌, ◌^◌, ◌<◌, ◌≤◌, min, max};
 
-use js_memory::List;
+use part_memory::List;
 
 /// Byte places in a text: from `start` up to but not including `end`, with `start` at most `end`.
 #[derive(Debug, Clone, Copy, PartialEq, Eq)]

@@ -6,7 +6,7 @@ ghost use Rattle.js_base.specs.declared.kind.Kind.TheVariants.{Eof};
 
 use crate::kind::Kind;
 use crate::span::Span;
-use js_memory::List;
+use part_memory::List;
 
 /// A placed lexeme (ECMA-262, chapter 12).
 #[derive(Debug, Clone, Copy, PartialEq, Eq)]

@@ -16,14 +16,14 @@ use Rattle.js_grammar.specs.Settings.{Goal}
 use Rattle.js_grammar.specs.Table.{rule}
 use Rattle.js_grammar.proofs.Alike.{lex-same}
 use Rattle.js_grammar.proofs.Calculus.{here_at}
-use Rattle.js_lex.specs.Reading.{LexemeBehind}
-use Rattle.js_words.specs.Scans.{NoLexeme}
-use Rattle.js_words.proofs.KindsOfLexemes.{hashbang_is}
-use Rattle.js_lex.proofs.TriviaLemmas.{some_width}
-use Rattle.js_parsing_laws.specs.Lexemes.{Faultless, Lex, is_read_kind}
-use Rattle.js_statement_laws.specs.StatementLists.{with_directives}
-use Rattle.js_statement_laws.specs.declared.forms.StatementList.TheVariants.{Text}
-use Rattle.js_parsing_laws.proofs.Kept.{faults_aside}
+use Rattle.parse_shared.specs.js_lex.Reading.{LexemeBehind}
+use Rattle.parse_shared.specs.part_words.Scans.{NoLexeme}
+use Rattle.parse_shared.proofs.part_words.KindsOfLexemes.{hashbang_is}
+use Rattle.parse_shared.proofs.js_lex.TriviaLemmas.{some_width}
+use Rattle.parse_shared.specs.laws_shared.Lexemes.{Faultless, Lex, is_read_kind}
+use Rattle.parse_statements.specs.laws_statements.StatementLists.{with_directives}
+use Rattle.parse_statements.specs.laws_statements.declared.forms.StatementList.TheVariants.{Text}
+use Rattle.parse_shared.proofs.laws_shared.Kept.{faults_aside}
 use Rattle.js_core.specs.Kept.{each_of, each_read, comments_before, blanks_before, TellsEach, TellsRead}
 use Rattle.js_core.specs.Readings.{AreRead, AreReadAnyhow, from_text_start, behind_a_hashbang, anyhow_from_start, anyhow_behind_hashbang}
 use Rattle.js_core.proofs.Hashbangs.{program_label, behind_comment, behind_hashbang, without_hashbang, from_hashbang, from_start, alone}

@@ -7,7 +7,7 @@ use Rattle.js_base.specs.declared.kind.Kind.{Kind}
 use Rattle.js_base.specs.declared.kind.Kind.TheVariants.{HashbangComment}
 use Rattle.std.proofs.Common.{◌⊎◌, inl, inr, ◌==◌, eqb-true}
 use Rattle.std.specs.Prelude.{codes}
-use Rattle.js_text.specs.Characters.{one_of}
+use Rattle.js_base.specs.part_text.Characters.{one_of}
 use Rattle.js_grammar.specs.Trivia.{after, within_line}
 use Rattle.js_grammar.specs.Lexed.{Lex, all_faults}
 use Rattle.js_grammar.specs.LexicalLaws.{AtSlashOrBrace}

@@ -4,3 +4,4 @@ pub mod Hashbangs
 pub mod Lists
 pub mod Walks
 pub mod Readings
+pub use Rattle.parse_shared.proofs.laws_shared as laws_shared

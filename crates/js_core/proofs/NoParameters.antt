@@ -5,11 +5,11 @@ use Rattle.js_grammar.specs.Productions.{Flags, at, Params}
 use Rattle.js_grammar.specs.Table.{rule, rule_of}
 use Rattle.js_grammar.proofs.FollowLaws.{fails_by}
 use Rattle.js_grammar.proofs.Looks.{covers, apart}
-use Rattle.js_cursor.specs.Parsers.{Parser}
-use Rattle.js_parsing_laws.specs.Answers.{Underived}
-use Rattle.js_parsing_laws.specs.States.{At}
-use Rattle.js_parsing_laws.proofs.Paths.{fails_at}
-use Rattle.js_parsing_laws.proofs.Signs.{other_kind}
+use Rattle.parse_shared.specs.js_cursor.Parsers.{Parser}
+use Rattle.parse_shared.specs.laws_shared.Answers.{Underived}
+use Rattle.parse_shared.specs.laws_shared.States.{At}
+use Rattle.parse_shared.proofs.laws_shared.Paths.{fails_at}
+use Rattle.parse_shared.proofs.laws_shared.Signs.{other_kind}
 
 pub no_parameters_here : {text : List ℕ} {f : Flags} {p : Parser} → At text f p → (p.token.kind ≡ LParen → ⊥) → Underived text (at Params f) p.prev_token_end
 unfolding rule rule_of covers apart

@@ -19,49 +19,49 @@ use Rattle.js_grammar.specs.Table.{rule, rule_of}
 use Rattle.js_grammar.proofs.Behind.{lexed_behind}
 use Rattle.js_grammar.proofs.Looks.{covers}
 use Rattle.js_grammar.proofs.Calculus.{◌▹◌, more_of, here_at, ends, label_is, slots_are}
-use Rattle.js_lex.specs.States.{goal_of}
-use Rattle.js_lex.specs.declared.output.LexerOutput.{LexerOutput}
-use Rattle.js_tree.specs.declared.id.NodeId.{NodeId}
-use Rattle.js_tree.specs.Holding.{HoldsAll, program_tree}
-use Rattle.js_cursor.specs.Parsers.{Parser}
-use Rattle.js_cursor.specs.Places.{goal}
-use Rattle.js_cursor.specs.Moves.{is_last}
-use Rattle.js_cursor.specs.Starts.{Starts}
-use Rattle.js_cursor.specs.Tokens.{IsToken, whole as whole_token, sign as sign_token, nothing as no_token}
-use Rattle.js_cursor.specs.declared.stop.Stop.{Stop}
-use Rattle.js_cursor.specs.declared.stop.Stop.TheVariants.{Fatal, NoMemory}
-use Rattle.js_parsing_laws.specs.Answers.{Stretch, Verdict, clean, unclean, wider}
-use Rattle.js_parsing_laws.specs.Lexemes.{IsRight, Lex, goal_for, is_read, other_goals, signs}
-use Rattle.js_parsing_laws.specs.Heads.{widened}
-use Rattle.js_parsing_laws.specs.NodeTexts.{NodeFits}
-use Rattle.js_parsing_laws.specs.States.{At, IsPlain, whole, sign, nothing as no_lexeme, flags_of, Standing, NodesLie, SpansLie}
-use Rattle.js_statement_laws.specs.StatementLists.{at_end, with_directives, statements, NoList, Taken, AllTaken, AllRefused}
-use Rattle.js_statement_laws.specs.declared.forms.StatementList.TheVariants.{Text}
-use Rattle.js_parsing_laws.proofs.Beginning.{begins, begins_with_hashbang, behind_first, none_noted}
-use Rattle.js_parsing_laws.proofs.Escapes.{read_plain}
-use Rattle.js_parsing_laws.proofs.Giving.{fails_none}
-use Rattle.js_parsing_laws.proofs.Here.{alike, told, plain_there, kind_here}
-use Rattle.js_parsing_laws.proofs.Paths.{at_kind, read_of}
-use Rattle.js_statement_laws.proofs.StatementLists.{none_left, text_ends}
-use Rattle.js_parsing_laws.proofs.Verdicts.{grown_some}
-use Rattle.js_cursor.specs.Starts.{is_module, is_commonjs}
-use Rattle.js_tree.specs.Nodes.{Node, empty_program}
-use Rattle.js_tree.proofs.HoldingLemmas.{HoldsAll-wider, HoldsAll-append, HoldsAll-one, Holds-kept, Holds-wider, Keeps-refl}
+use Rattle.parse_shared.specs.js_lex.States.{goal_of}
+use Rattle.parse_shared.specs.js_lex.declared.output.LexerOutput.{LexerOutput}
+use Rattle.parse_shared.specs.js_tree.declared.id.NodeId.{NodeId}
+use Rattle.parse_shared.specs.js_tree.Holding.{HoldsAll, program_tree}
+use Rattle.parse_shared.specs.js_cursor.Parsers.{Parser}
+use Rattle.parse_shared.specs.js_cursor.Places.{goal}
+use Rattle.parse_shared.specs.js_cursor.Moves.{is_last}
+use Rattle.parse_shared.specs.js_cursor.Starts.{Starts}
+use Rattle.parse_shared.specs.js_cursor.Tokens.{IsToken, whole as whole_token, sign as sign_token, nothing as no_token}
+use Rattle.parse_shared.specs.js_cursor.declared.stop.Stop.{Stop}
+use Rattle.parse_shared.specs.js_cursor.declared.stop.Stop.TheVariants.{Fatal, NoMemory}
+use Rattle.parse_shared.specs.laws_shared.Answers.{Stretch, Verdict, clean, unclean, wider}
+use Rattle.parse_shared.specs.laws_shared.Lexemes.{IsRight, Lex, goal_for, is_read, other_goals, signs}
+use Rattle.parse_shared.specs.laws_shared.Heads.{widened}
+use Rattle.parse_shared.specs.laws_shared.NodeTexts.{NodeFits}
+use Rattle.parse_shared.specs.laws_shared.States.{At, IsPlain, whole, sign, nothing as no_lexeme, flags_of, Standing, NodesLie, SpansLie}
+use Rattle.parse_statements.specs.laws_statements.StatementLists.{at_end, with_directives, statements, NoList, Taken, AllTaken, AllRefused}
+use Rattle.parse_statements.specs.laws_statements.declared.forms.StatementList.TheVariants.{Text}
+use Rattle.parse_shared.proofs.laws_shared.Beginning.{begins, begins_with_hashbang, behind_first, none_noted}
+use Rattle.parse_shared.proofs.laws_shared.Escapes.{read_plain}
+use Rattle.parse_shared.proofs.laws_shared.Giving.{fails_none}
+use Rattle.parse_shared.proofs.laws_shared.Here.{alike, told, plain_there, kind_here}
+use Rattle.parse_shared.proofs.laws_shared.Paths.{at_kind, read_of}
+use Rattle.parse_statements.proofs.laws_statements.StatementLists.{none_left, text_ends}
+use Rattle.parse_shared.proofs.laws_shared.Verdicts.{grown_some}
+use Rattle.parse_shared.specs.js_cursor.Starts.{is_module, is_commonjs}
+use Rattle.parse_shared.specs.js_tree.Nodes.{Node, empty_program}
+use Rattle.parse_shared.proofs.js_tree.HoldingLemmas.{HoldsAll-wider, HoldsAll-append, HoldsAll-one, Holds-kept, Holds-wider, Keeps-refl}
 use Rattle.std.specs.Prelude.{Result, Ok, Err, MatchResult}
 use Rattle.std.specs.Prelude.{Some}
 use Rattle.js_base.specs.Contexts.{has_flag, reads_await, in_flag, yield_flag, await_flag, return_flag, new_target_flag}
-use Rattle.js_cursor.specs.Moves.{Passed}
-use Rattle.js_parsing_laws.specs.Moves.{MadeHere, plain_label}
-use Rattle.js_tree.specs.declared.kind.NodeKind.TheVariants.{Hashbang}
-use Rattle.js_tree.specs.declared.op.Op.TheVariants as op
+use Rattle.parse_shared.specs.js_cursor.Moves.{Passed}
+use Rattle.parse_shared.specs.laws_shared.Moves.{MadeHere, plain_label}
+use Rattle.parse_shared.specs.js_tree.declared.kind.NodeKind.TheVariants.{Hashbang}
+use Rattle.parse_shared.specs.js_tree.declared.op.Op.TheVariants as op
 use Rattle.js_base.specs.declared.span.Span.{Span}
-use Rattle.js_lex.specs.Kept.{IsEmpty}
-use Rattle.js_words.specs.Scans.{NoLexeme}
-use Rattle.js_lex.specs.States.{State}
+use Rattle.parse_shared.specs.js_lex.Kept.{IsEmpty}
+use Rattle.parse_shared.specs.part_words.Scans.{NoLexeme}
+use Rattle.parse_shared.specs.js_lex.States.{State}
 use Rattle.js_core.proofs.Hashbangs.{hashbang_label, program_label, behind_comment, alone}
 use Rattle.js_core.proofs.Fronts.{Front, LooseFront, Parts, kind_of_hashbang, none_begins, at_the_start, behind_a_comment, loosely_at_start, loosely_behind}
-use Rattle.js_parsing_laws.proofs.MadeNodes.{leaf_held, one_lies_in}
-use Rattle.js_parsing_laws.proofs.Moving.{standing, beside_nodes}
+use Rattle.parse_shared.proofs.laws_shared.MadeNodes.{leaf_held, one_lies_in}
+use Rattle.parse_shared.proofs.laws_shared.Moving.{standing, beside_nodes}
 use Rattle.js_core.specs.Readings.{options_of}
 use Rattle.js_core.specs.Readings.{parameters, ReadingBy, IsOnlyReadingBy, HasNoReadingBy, HasNoLooseReading}
 use Rattle.js_core.specs.Taken.{FoundNothing, ReadOrNot, ProgramTaken, ProgramStops}
@@ -72,18 +72,18 @@ use Rattle.js_grammar.specs.CoverInitialisers.{with_cover}
 use Rattle.js_grammar.specs.Lexemes.{hashbang as hashbang_goal}
 use Rattle.js_grammar.specs.Options.{Options, is_module as in_module, is_commonjs as in_commonjs}
 use Rattle.js_grammar.specs.Settings.{Goal, script, module_goal, commonjs, unambiguous}
-use Rattle.js_lex.specs.Comments.{each_at, comment_at, irregular_at, html_fault_at}
-use Rattle.js_lex.specs.Reading.{in_a_module, is_kept, kept_token, LexemeBehind, GivesFirst, GivesNext}
-use Rattle.js_parsing_laws.specs.Lexemes.{Faultless, KeptFor, TriviaKept, kept_before, Spot, spot, Walked, nowhere, one_more, read_again, more_faults}
-use Rattle.js_parsing_laws.proofs.KeptTokens.{before_next, trivia_kept}
+use Rattle.parse_shared.specs.js_lex.Comments.{each_at, comment_at, irregular_at, html_fault_at}
+use Rattle.parse_shared.specs.js_lex.Reading.{in_a_module, is_kept, kept_token, LexemeBehind, GivesFirst, GivesNext}
+use Rattle.parse_shared.specs.laws_shared.Lexemes.{Faultless, KeptFor, TriviaKept, kept_before, Spot, spot, Walked, nowhere, one_more, read_again, more_faults}
+use Rattle.parse_shared.proofs.laws_shared.KeptTokens.{before_next, trivia_kept}
 use Rattle.js_core.specs.Kept.{KeepsRight, each_of, comments_before, blanks_before, TellsEach, IsKeptOf}
-use Rattle.js_parsing_laws.proofs.Paths.{behind_walk}
+use Rattle.parse_shared.proofs.laws_shared.Paths.{behind_walk}
 use Rattle.js_core.proofs.Walks.{first_comments, first_blanks, all_kept, walk_tells, walk_unasked, keeps_still, kept_none}
 use Rattle.js_base.specs.declared.token.Token.{Token}
-use Rattle.js_parsing_laws.proofs.Kept.{kept_for, faults_aside}
-use Rattle.js_parsing_laws.proofs.Paths.{walked_from}
+use Rattle.parse_shared.proofs.laws_shared.Kept.{kept_for, faults_aside}
+use Rattle.parse_shared.proofs.laws_shared.Paths.{walked_from}
 use Rattle.std.proofs.lemmas.List.Elements.{All-same, All-nil, All-cons}
-use Rattle.js_parsing_laws.specs.Classes.{IsEarly}
+use Rattle.parse_shared.specs.laws_shared.Classes.{IsEarly}
 use Rattle.std.proofs.lemmas.Str.{IsCharBoundary-start}
 use Rattle.js_base.specs.Spans.{LiesIn}
 

@@ -5,11 +5,11 @@ use Rattle.js_base.specs.declared.token.Token.{Token}
 use Rattle.js_grammar.specs.Grammar.{Lexeme, Lexemes, last, next}
 use Rattle.js_grammar.specs.Lexed.{Lexes, Lex as StandsBehind, Passing, all_faults}
 use Rattle.js_grammar.specs.Settings.{Goal}
-use Rattle.js_lex.specs.Reading.{is_kept, kept_token}
-use Rattle.js_lex.specs.declared.comment.Comment.{Comment}
+use Rattle.parse_shared.specs.js_lex.Reading.{is_kept, kept_token}
+use Rattle.parse_shared.specs.js_lex.declared.comment.Comment.{Comment}
 use Rattle.js_base.specs.declared.diagnostic.Diagnostic.{Diagnostic}
-use Rattle.js_parsing_laws.specs.Lexemes.{Faultless, TriviaKept, Spot, News, onward, with_faults, IsNew, Walked, nowhere, one_more, read_again, more_faults}
-use Rattle.js_parsing_laws.proofs.Paths.{behind_walk}
+use Rattle.parse_shared.specs.laws_shared.Lexemes.{Faultless, TriviaKept, Spot, News, onward, with_faults, IsNew, Walked, nowhere, one_more, read_again, more_faults}
+use Rattle.parse_shared.proofs.laws_shared.Paths.{behind_walk}
 use Rattle.js_core.specs.Kept.{each_of, comments_before, blanks_before, TellsEach}
 
 -- a lexeme that stands without faults stands whichever pass

@@ -7,11 +7,11 @@ use Rattle.js_grammar.specs.Grammar.{Lexeme, Lexemes, last, next}
 use Rattle.js_grammar.specs.Lexed.{Lexes}
 use Rattle.js_grammar.specs.Options.{Options}
 use Rattle.js_grammar.specs.Settings.{Goal}
-use Rattle.js_lex.specs.Comments.{each_at, comment_at, irregular_at}
-use Rattle.js_lex.specs.Reading.{Tells}
-use Rattle.js_lex.specs.declared.comment.Comment.{Comment}
-use Rattle.js_lex.specs.declared.output.LexerOutput.{LexerOutput}
-use Rattle.js_parsing_laws.specs.Lexemes.{Faultless}
+use Rattle.parse_shared.specs.js_lex.Comments.{each_at, comment_at, irregular_at}
+use Rattle.parse_shared.specs.js_lex.Reading.{Tells}
+use Rattle.parse_shared.specs.js_lex.declared.comment.Comment.{Comment}
+use Rattle.parse_shared.specs.js_lex.declared.output.LexerOutput.{LexerOutput}
+use Rattle.parse_shared.specs.laws_shared.Lexemes.{Faultless}
 use Rattle.js_core.specs.Readings.{AreRead, from_text_start, behind_a_hashbang, ReadingBy, Reading}
 
 -- what the trivia before each lexeme gives, one behind the other

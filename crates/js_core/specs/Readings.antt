@@ -1,51 +1,30 @@
 -- What it is that a tree is a reading of a text, and what diagnostics tell of it.
-use Rattle.std.specs.Prelude.{ℕ, ◌≡◌, Bool, true, false, ◌||◌, List, ◌++◌}
-use Rattle.std.specs.List.{All}
-use Rattle.js_base.specs.declared.diagnostic.Diagnostic.{Diagnostic}
-use Rattle.js_base.specs.declared.diagnostic.DiagnosticClass.TheVariants.{Lexical}
+use Rattle.std.specs.Prelude.{ℕ, ◌≡◌, Bool, true, false, List}
 use Rattle.js_base.specs.declared.kind.Kind.TheVariants.{Eof}
-use Rattle.js_base.specs.Diagnostics.{class_of}
-use Rattle.js_base.specs.Spans.{LiesIn}
 use Rattle.js_grammar.specs.Trees.{Tree}
 use Rattle.js_grammar.specs.Grammar.{Lexeme, Lexemes, last, next, Derives}
 use Rattle.js_grammar.specs.Lexed.{Lexes}
 use Rattle.js_grammar.specs.Lexemes.{hashbang}
-use Rattle.js_grammar.specs.Marks.{Mark}
-use Rattle.js_grammar.specs.Options.{Options, is_module, is_commonjs}
+use Rattle.js_grammar.specs.Options.{Options, program_flags}
 use Rattle.js_grammar.specs.Productions.{Flags, at, Program}
 use Rattle.js_grammar.specs.CoverInitialisers.{with_cover}
-use Rattle.js_grammar.specs.Settings.{Goal, script, unambiguous}
+use Rattle.js_grammar.specs.Settings.{Goal}
 use Rattle.js_grammar.specs.Table.{rule}
-use Rattle.js_lex.specs.Reading.{LexemeBehind}
-use Rattle.js_cursor.specs.Places.{IsFault}
-use Rattle.js_parsing_laws.specs.Heads.{widened}
-use Rattle.js_parsing_laws.specs.Lexemes.{Faultless, Lex}
+use Rattle.parse_shared.specs.js_lex.Reading.{LexemeBehind}
+use Rattle.parse_shared.specs.laws_shared.Heads.{widened}
+use Rattle.parse_shared.specs.laws_shared.Lexemes.{Faultless, Lex}
 use Rattle.js_core.specs.EarlyErrors.{MeetsEarlyRules}
+pub use Rattle.js_grammar.specs.Found.{AreOf}
+pub use Rattle.js_grammar.specs.Options.{read_at}
 use Rattle.js_base.specs.declared.options.ParseOptions.{ParseOptions}
 
 -- options as the grammar speaks of them
 abbrev pub options_of : ParseOptions → Options
 options_of o = record { allow_return = o.allow_return_outside_function; preserve_parens = o.preserve_parens; allow_v8 = o.allow_v8_intrinsics }
 
--- The goal at which a text is read: an unambiguous one as a script, since what shows a module isn't read yet.
-abbrev pub read_at : Goal → Goal
-read_at unambiguous = script
-read_at goal = goal
-
--- The parameters at the top of a text (ECMA-262, 16.1 and 16.2): `return` and `new.target` may stand in a text of CommonJS, which is the body of a function.
+-- the parameters at the top of a text: those of Program
 abbrev pub parameters : Goal → Options → Flags
-parameters goal o = record {
-  in_ = true;
-  yield_ = false;
-  await_ = is_module goal;
-  awaits = is_module goal;
-  return_ = is_commonjs goal || o.allow_return;
-  new_target = is_commonjs goal;
-  module_goal = is_module goal;
-  v8 = o.allow_v8;
-  cover = false;
-  wide = false;
-}
+parameters goal o = program_flags goal o
 
 -- a hashbang comment at the text's start (ECMA-262, 12.5), and lexemes from its end on
 pub record BehindHashbang (text : List ℕ) (goal : Goal) (ls : Lexemes) : Type 0 where
@@ -108,13 +87,3 @@ pub record IsOnlyReadingBy (cover : Bool) (text : List ℕ) (goal : Goal) (o : O
 pub record IsOnlyReading (text : List ℕ) (goal : Goal) (o : Options) (tree : Tree) : Type 0 where
   pub reading : Reading text goal o tree
   pub only : (t : Tree) (r : Reading text goal o t) → (t ≡ tree) × (r.strict.lexemes ≡ reading.strict.lexemes)
-
--- Diagnostics of a text: faults of lexemes, of the class Lexical, and behind them what the parser found. Each has what its kind says at its span, which lies in the text and splits no character.
-pub record AreOf (goal : Goal) (text : List ℕ) (found : List Diagnostic) : Type 0 where
-  pub faults : List Diagnostic
-  pub told : List Diagnostic
-  pub in_order : found ≡ faults ++ told
-  pub faulty : All (IsFault goal text) faults
-  pub lexical : All (λ d. class_of d.kind ≡ Lexical) faults
-  pub marked : All (Mark goal text) told
-  pub lie : All (λ d. LiesIn d.span text) found

@@ -3,18 +3,18 @@ use Rattle.std.specs.Prelude.{ℕ, ◌≡◌, ◌⊎◌, Bool, true, false, List
 use Rattle.js_base.specs.declared.options.ParseOptions.{ParseOptions}
 use Rattle.js_base.specs.declared.source_type.SourceType.{SourceType}
 use Rattle.js_grammar.specs.Trees.{Slots, Tree}
-use Rattle.js_lex.specs.States.{goal_of}
-use Rattle.js_tree.specs.declared.id.NodeId.{NodeId}
-use Rattle.js_tree.specs.Holding.{HoldsAll, program_tree}
-use Rattle.js_cursor.specs.Parsers.{Parser}
-use Rattle.js_cursor.specs.Places.{IsAt}
-use Rattle.js_cursor.specs.declared.stop.Stop.{Stop}
-use Rattle.js_cursor.specs.declared.stop.Stop.TheVariants.{Fatal, NoMemory}
+use Rattle.parse_shared.specs.js_lex.States.{goal_of}
+use Rattle.parse_shared.specs.js_tree.declared.id.NodeId.{NodeId}
+use Rattle.parse_shared.specs.js_tree.Holding.{HoldsAll, program_tree}
+use Rattle.parse_shared.specs.js_cursor.Parsers.{Parser}
+use Rattle.parse_shared.specs.js_cursor.Places.{IsAt}
+use Rattle.parse_shared.specs.js_cursor.declared.stop.Stop.{Stop}
+use Rattle.parse_shared.specs.js_cursor.declared.stop.Stop.TheVariants.{Fatal, NoMemory}
 use Rattle.js_core.specs.Kept.{IsKeptOf}
 use Rattle.js_core.specs.Readings.{options_of, ReadingBy, HasNoReadingBy, HasNoLooseReading, IsOnlyReadingBy}
 use Rattle.std.specs.List.{All}
-use Rattle.js_parsing_laws.specs.Classes.{IsEarly, EndedByLast}
-use Rattle.js_parsing_laws.specs.States.{NodesLie}
+use Rattle.parse_shared.specs.laws_shared.Classes.{IsEarly, EndedByLast}
+use Rattle.parse_shared.specs.laws_shared.States.{NodesLie}
 
 -- it stands in a text of this source type
 pub record IsOf (text : List ℕ) (s : SourceType) (p : Parser) : Type 0 where

@@ -1,16 +1,14 @@
 //! How one function reads whatever nests.
 
-ghost use Rattle.js_parsing_laws.specs.Nesting.{Reads};
+ghost use Rattle.js_core.specs.Prelude.{Reads};
 
-use js_cursor::{ParserImpl, Stop};
-use js_expressions::sequence::parse_sequence_expression;
-use js_lex::RuntimeParserConfig;
-use js_parsing_laws::nested::{Goal, MethodForm, Nested};
-use js_pattern_laws::patterns::Patterns;
-use js_patterns::binding::parse_binding_pattern;
-use js_patterns::parameters::parse_formal_parameters;
-use js_statement_laws::sequences::Sequences;
-use js_tree::NodeId;
+use parse_operators::sequence::parse_sequence_expression;
+use parse_patterns::binding::parse_binding_pattern;
+use parse_patterns::parameters::parse_formal_parameters;
+use parse_shared::nested::{Goal, MethodForm, Nested};
+use parse_shared::{NodeId, ParserImpl, RuntimeParserConfig, Stop};
+use parse_statements::patterns::Patterns;
+use parse_statements::sequences::Sequences;
 
 /// A function that reads whatever is asked for. It is one over the config that is told when the program runs: a bound on
 /// a function over any config can't be stated yet.

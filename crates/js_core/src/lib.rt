@@ -6,9 +6,16 @@ mod parse;
 mod program;
 
 pub use parse::{
-    Parser, parse_assignment_expression_or_higher, parse_binary_expression_or_higher,
+    RuntimeParser, parse_assignment_expression_or_higher, parse_binary_expression_or_higher,
     parse_binding_pattern, parse_directives_and_statements, parse_expr, parse_formal_parameters,
     parse_function_body, parse_lhs_expression_or_higher, parse_property_name,
     parse_statement_list_item, try_parse_parenthesized_arrow_function_expression,
+};
+pub use parse_targets::grammar::CoverGrammar;
+pub use parse_targets::ids::{
+    ArrayAssignmentTargetId, ArrayExpressionId, AssignmentExpressionId, AssignmentTargetId,
+    AssignmentTargetMaybeDefaultId, AssignmentTargetPropertyId, AssignmentTargetWithDefaultId,
+    ExpressionId, ObjectAssignmentTargetId, ObjectExpressionId, ObjectPropertyId,
+    SimpleAssignmentTargetId,
 };
 pub use program::parse_program;

@@ -1,42 +1,29 @@
 //! The one function that recurses, and the calls for others.
 
 ghost use Rattle.std.specs.Prelude.{◌≡◌, true, not, MatchResult};
-ghost use Rattle.js_base.specs.Contexts.{has_flag, in_flag};
-ghost use Rattle.js_base.specs.Places.{is_single};
+ghost use Rattle.js_core.specs.Prelude.{AllRefused, AllTaken, Answers, Assignment, at, Binding, Body, CanNest, Exponent, Expression, has_flag, in_flag, is_single, LeftHandSide, NamesProperty, parameters_of, Params, placed, Reading, ReadsWhole, Ready, room, Standing, TakesStatement, Text, TriesArrow};
 ghost use Rattle.js_core.specs.Calls.{above};
-ghost use Rattle.js_grammar.specs.Productions.{at, Assignment, Binding, Body, Exponent, Expression, LeftHandSide, Params};
-ghost use Rattle.js_expression_laws.specs.Lists.{TriesArrow};
-ghost use Rattle.js_operand_laws.specs.PropertyNames.{NamesProperty};
-ghost use Rattle.js_parsing_laws.specs.Answers.{Answers};
-ghost use Rattle.js_parsing_laws.specs.Methods.{ReadsWhole, parameters_of};
-ghost use Rattle.js_parsing_laws.specs.Nesting.{CanNest, Reading, Ready, room};
-ghost use Rattle.js_parsing_laws.specs.Statements.{TakesStatement, placed};
-ghost use Rattle.js_statement_laws.specs.StatementLists.{AllRefused, AllTaken};
-ghost use Rattle.js_statement_laws.specs.declared.forms.StatementList.TheVariants.{Text};
-ghost use Rattle.js_parsing_laws.specs.States.{Standing};
 
 use crate::by::By;
-use js_arrows::arrow;
 use js_base::{Kind, Precedence, StatementContext};
-use js_cursor::{ParserImpl, Stop};
-use js_expressions::assignment::parse_assignment_expression;
-use js_expressions::operators::{self, parse_exponentiation_expression, parse_operators};
-use js_expressions::sequence::parse_sequence_expression;
-use js_expressions::unary::parse_unary_expression_or_higher;
-use js_lex::{ParserConfig, RuntimeParserConfig};
-use js_literals::property_name;
-use js_operand_laws::forms::PropertyName;
-use js_operands::left_hand_side;
-use js_parsing_laws::nested::{Goal, MethodForm, Nested};
-use js_patterns::method_parameters::parse_method_parameters;
-use js_patterns::{binding, parameters};
-use js_statement_laws::forms::StatementList;
-use js_statement_laws::sequences::Sequences;
-use js_statements::{block, statement, statement_list};
-use js_tree::NodeId;
+use parse_arrows::arrow;
+use parse_members::left_hand_side;
+use parse_operators::assignment::parse_assignment_expression;
+use parse_operators::operators::{self, parse_exponentiation_expression, parse_operators};
+use parse_operators::sequence::parse_sequence_expression;
+use parse_operators::unary::parse_unary_expression_or_higher;
+use parse_patterns::method_parameters::parse_method_parameters;
+use parse_patterns::{binding, parameters};
+use parse_primary::forms::PropertyName;
+use parse_primary::property_name;
+use parse_shared::nested::{Goal, MethodForm, Nested};
+use parse_shared::{NodeId, ParserConfig, ParserImpl, RuntimeParserConfig, Stop};
+use parse_statements::forms::StatementList;
+use parse_statements::sequences::Sequences;
+use parse_statements::{block, statement, statement_list};
 
 /// A parser that is told when the program runs whether it keeps the tokens.
-pub type Parser<'a> = ParserImpl<'a, RuntimeParserConfig>;
+pub type RuntimeParser<'a> = ParserImpl<'a, RuntimeParserConfig>;
 
 /// Reads what is asked for, where productions nest by `nested`.
 pub fn parse_goal<C: ParserConfig, N: Sequences<C>>(
@@ -120,7 +107,7 @@ fn parse_parameters<C: ParserConfig, N: Nested<C>>(
 }
 
 /// Reads what is asked for, as many levels deeper as that takes.
-fn parse(p: &mut Parser<'_>, goal: Goal) -> Result<NodeId, Stop>
+fn parse(p: &mut RuntimeParser<'_>, goal: Goal) -> Result<NodeId, Stop>
     requires { Ready goal p.old }
     ensures { Reading goal p.old p.new result }
 {
@@ -132,7 +119,7 @@ fn parse(p: &mut Parser<'_>, goal: Goal) -> Result<NodeId, Stop>
 }
 
 /// An AssignmentExpression (ECMA-262, section 13.15).
-pub fn parse_assignment_expression_or_higher(p: &mut Parser<'_>) -> Result<NodeId, Stop>
+pub fn parse_assignment_expression_or_higher(p: &mut RuntimeParser<'_>) -> Result<NodeId, Stop>
     requires { Standing p.old }
     ensures { Answers (at Assignment) p.old p.new result }
 {
@@ -140,7 +127,7 @@ pub fn parse_assignment_expression_or_higher(p: &mut Parser<'_>) -> Result<NodeI
 }
 
 /// An Expression (ECMA-262, section 13.16).
-pub fn parse_expr(p: &mut Parser<'_>) -> Result<NodeId, Stop>
+pub fn parse_expr(p: &mut RuntimeParser<'_>) -> Result<NodeId, Stop>
     requires { Standing p.old }
     ensures { Answers (at Expression) p.old p.new result }
 {
@@ -148,7 +135,7 @@ pub fn parse_expr(p: &mut Parser<'_>) -> Result<NodeId, Stop>
 }
 
 /// A LeftHandSideExpression (ECMA-262, section 13.3).
-pub fn parse_lhs_expression_or_higher(p: &mut Parser<'_>) -> Result<NodeId, Stop>
+pub fn parse_lhs_expression_or_higher(p: &mut RuntimeParser<'_>) -> Result<NodeId, Stop>
     requires { Standing p.old }
     ensures { Answers (at LeftHandSide) p.old p.new result }
 {
@@ -156,7 +143,7 @@ pub fn parse_lhs_expression_or_higher(p: &mut Parser<'_>) -> Result<NodeId, Stop
 }
 
 /// A BindingIdentifier or a BindingPattern (ECMA-262, section 14.3.3).
-pub fn parse_binding_pattern(p: &mut Parser<'_>) -> Result<NodeId, Stop>
+pub fn parse_binding_pattern(p: &mut RuntimeParser<'_>) -> Result<NodeId, Stop>
     requires { Standing p.old }
     ensures { Answers (at Binding) p.old p.new result }
 {
@@ -167,7 +154,7 @@ pub fn parse_binding_pattern(p: &mut Parser<'_>) -> Result<NodeId, Stop>
 /// and 15.9). None where no such parameters stand here with `=>` behind them, on their line or on another; the parser is
 /// then where it was. `Fatal` where no AssignmentExpression stands here.
 pub fn try_parse_parenthesized_arrow_function_expression(
-    p: &mut Parser<'_>,
+    p: &mut RuntimeParser<'_>,
 ) -> Result<Option<NodeId>, Stop>
     requires { Standing p.old }
     ensures { TriesArrow p.old p.new result }
@@ -176,7 +163,7 @@ pub fn try_parse_parenthesized_arrow_function_expression(
 }
 
 /// FormalParameters in their parentheses (ECMA-262, section 15.1).
-pub fn parse_formal_parameters(p: &mut Parser<'_>) -> Result<NodeId, Stop>
+pub fn parse_formal_parameters(p: &mut RuntimeParser<'_>) -> Result<NodeId, Stop>
     requires { Standing p.old }
     ensures { Answers (at Params) p.old p.new result }
 {
@@ -184,7 +171,9 @@ pub fn parse_formal_parameters(p: &mut Parser<'_>) -> Result<NodeId, Stop>
 }
 
 /// The directives and the statements of a text, up to its end (ECMA-262, sections 16.1 and 16.2).
-pub fn parse_directives_and_statements(p: &mut Parser<'_>) -> Result<Vec<Option<NodeId>>, Stop>
+pub fn parse_directives_and_statements(
+    p: &mut RuntimeParser<'_>,
+) -> Result<Vec<Option<NodeId>>, Stop>
     requires at { Standing p.old }
     requires allows_in { has_flag in_flag p.old.ctx ≡ true }
     ensures { MatchResult result (λ v. AllTaken Text p.old p.new v.items) (λ e. AllRefused Text p.old p.new e) }
@@ -195,7 +184,7 @@ pub fn parse_directives_and_statements(p: &mut Parser<'_>) -> Result<Vec<Option<
 /// Operands, and operators between them that bind tighter than those of `least`; for `Comma` a ShortCircuitExpression
 /// (ECMA-262, sections 13.6 to 13.13).
 pub fn parse_binary_expression_or_higher(
-    p: &mut Parser<'_>,
+    p: &mut RuntimeParser<'_>,
     least: Precedence,
 ) -> Result<NodeId, Stop>
     requires { Standing p.old }
@@ -220,7 +209,7 @@ pub fn parse_binary_expression_or_higher(
 }
 
 /// A PropertyName (ECMA-262, section 13.2.5).
-pub fn parse_property_name(p: &mut Parser<'_>) -> Result<PropertyName, Stop>
+pub fn parse_property_name(p: &mut RuntimeParser<'_>) -> Result<PropertyName, Stop>
     requires { Standing p.old }
     ensures { NamesProperty p.old p.new result }
 {
@@ -228,7 +217,7 @@ pub fn parse_property_name(p: &mut Parser<'_>) -> Result<PropertyName, Stop>
 }
 
 /// A FunctionBody in its braces (ECMA-262, section 15.2).
-pub fn parse_function_body(p: &mut Parser<'_>) -> Result<NodeId, Stop>
+pub fn parse_function_body(p: &mut RuntimeParser<'_>) -> Result<NodeId, Stop>
     requires at { Standing p.old }
     requires allows_in { has_flag in_flag p.old.ctx ≡ true }
     ensures { Answers (at Body) p.old p.new result }
@@ -239,7 +228,7 @@ pub fn parse_function_body(p: &mut Parser<'_>) -> Result<NodeId, Stop>
 /// What stands where a statement may, by its place (ECMA-262, chapter 14): a StatementListItem in a list, or a Statement
 /// that is the body of another one.
 pub fn parse_statement_list_item(
-    p: &mut Parser<'_>,
+    p: &mut RuntimeParser<'_>,
     context: StatementContext,
 ) -> Result<NodeId, Stop>
     requires at { Standing p.old }

@@ -1,23 +1,17 @@
 //! A whole text (ECMA-262, sections 16.1 and 16.2).
 
 ghost use Rattle.std.specs.Prelude.{◌≡◌, [], Bool, IfOk, MatchResult};
-ghost use Rattle.js_base.specs.declared.kind.Kind.TheVariants.{HashbangComment};
-ghost use Rattle.js_tree.specs.Labels.{number_of};
-ghost use Rattle.js_tree.specs.declared.kind.NodeKind.TheVariants.{Hashbang};
-ghost use Rattle.js_tree.specs.declared.op.Op.TheVariants as op;
-ghost use Rattle.js_cursor.specs.Starts.{Starts};
-ghost use Rattle.js_parsing_laws.specs.Moves.{MadeHere, plain_label};
+ghost use Rattle.js_core.specs.Prelude.{Hashbang, HashbangComment, MadeHere, number_of, plain_label, Starts};
+ghost use Rattle.parse_shared.specs.js_tree.declared.op.Op.TheVariants as op;
 ghost use Rattle.js_core.specs.Taken.{ProgramTaken, ProgramStops};
 
-use crate::parse::{Parser, parse_directives_and_statements};
-use js_base::{Kind, Span};
-use js_cursor::Stop;
-use js_memory::NoMemory;
-use js_tree::{NodeFlags, NodeId, NodeKind, Op};
+use crate::parse::{RuntimeParser, parse_directives_and_statements};
+use js_base::{Kind, NoMemory, Span};
+use parse_shared::{NodeFlags, NodeId, NodeKind, Op, Stop};
 
 /// The children of Program.
 /// Reads: Program.
-pub fn parse_program(p: &mut Parser<'_>) -> Result<Vec<Option<NodeId>>, Stop>
+pub fn parse_program(p: &mut RuntimeParser<'_>) -> Result<Vec<Option<NodeId>>, Stop>
     requires { (b : Bool) × Starts p.old.text p.old.source_type p.old.options b p.old }
     ensures { MatchResult result (λ v. ProgramTaken p.old.text p.old.source_type p.old.options p.old.lexer.keeps_tokens p.new v.items) (λ e. ProgramStops p.old.text p.old.source_type p.old.options p.new e) }
 {
@@ -28,7 +22,7 @@ pub fn parse_program(p: &mut Parser<'_>) -> Result<Vec<Option<NodeId>>, Stop>
 }
 
 /// A hashbang comment (ECMA-262, section 12.5), and the children behind it.
-fn parse_behind_hashbang(p: &mut Parser<'_>) -> Result<Vec<Option<NodeId>>, Stop>
+fn parse_behind_hashbang(p: &mut RuntimeParser<'_>) -> Result<Vec<Option<NodeId>>, Stop>
     requires starts { (b : Bool) × Starts p.old.text p.old.source_type p.old.options b p.old }
     requires here { p.old.token.kind ≡ HashbangComment }
     ensures { MatchResult result (λ v. ProgramTaken p.old.text p.old.source_type p.old.options p.old.lexer.keeps_tokens p.new v.items) (λ e. ProgramStops p.old.text p.old.source_type p.old.options p.new e) }
@@ -42,7 +36,7 @@ fn parse_behind_hashbang(p: &mut Parser<'_>) -> Result<Vec<Option<NodeId>>, Stop
 }
 
 /// The node of a hashbang comment.
-fn make_hashbang(p: &mut Parser<'_>, span: Span) -> Result<NodeId, NoMemory>
+fn make_hashbang(p: &mut RuntimeParser<'_>, span: Span) -> Result<NodeId, NoMemory>
     ensures { IfOk result (λ id. MadeHere (plain_label Hashbang op.None span) [] p.old p.new id) }
 {
     p.ast

@@ -6,7 +6,7 @@ use Rattle.std.proofs.lemmas.List.{length-take-le}
 use Rattle.js_base.specs.declared.context.Context.{Context}
 use Rattle.js_base.specs.declared.diagnostic.Diagnostic.{Diagnostic}
 use Rattle.js_base.specs.declared.span.Span.{Span}
-use Rattle.js_grammar.specs.ModuleRecords.{Part as Visit}
+use Rattle.js_tree.specs.js_grammar.ModuleRecords.{Part as Visit}
 use Rattle.js_tree.specs.Nodes.{Node}
 use Rattle.js_tree.specs.Holding.{Keeps as KeepsNodes}
 use Rattle.js_tree.proofs.HoldingLemmas.{Keeps-refl}

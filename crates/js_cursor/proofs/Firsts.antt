@@ -12,28 +12,28 @@ use Rattle.js_base.specs.declared.source_type.SourceType.{SourceType}
 use Rattle.js_base.specs.declared.kind.Kind.{Kind}
 use Rattle.js_base.specs.declared.kind.Kind.TheVariants.{HashbangComment, RAngle, Undetermined}
 use Rattle.js_base.specs.declared.token.Token.{Token}
-use Rattle.js_text.specs.Characters.{is_line_terminator}
+use Rattle.js_base.specs.part_text.Characters.{is_line_terminator}
 use Rattle.js_base.specs.Kinds.{same_kind}
 use Rattle.js_base.specs.declared.TheConstants.{MAX_LEN}
 use Rattle.js_base.specs.Spans.{LiesIn}
-use Rattle.js_grammar.specs.Characters.{begins}
-use Rattle.js_grammar.specs.CoreTexts.{starts}
-use Rattle.js_grammar.specs.Lexemes.{division, hashbang, hashbang_kind, lexemes_in, kind_in}
-use Rattle.js_grammar.specs.LexicalFaults.{behind, FaultyBehind}
-use Rattle.js_grammar.specs.Longest.{longest, none_longer}
-use Rattle.js_grammar.specs.Marks.{Mark}
-use Rattle.js_grammar.specs.ModuleRecords.{Part as Visit}
-use Rattle.js_grammar.specs.Settings.{Goal}
-use Rattle.js_grammar.specs.Trivia.{within_line}
-use Rattle.js_grammar.proofs.CoreLemmas.{none_longer-from}
-use Rattle.js_grammar.proofs.LongestLemmas.{both, both-left, both-right}
+use Rattle.js_tree.specs.js_grammar.Characters.{begins}
+use Rattle.js_tree.specs.js_grammar.CoreTexts.{starts}
+use Rattle.js_tree.specs.js_grammar.Lexemes.{division, hashbang, hashbang_kind, lexemes_in, kind_in}
+use Rattle.js_tree.specs.js_grammar.LexicalFaults.{behind, FaultyBehind}
+use Rattle.js_tree.specs.js_grammar.Longest.{longest, none_longer}
+use Rattle.js_tree.specs.js_grammar.Marks.{Mark}
+use Rattle.js_tree.specs.js_grammar.ModuleRecords.{Part as Visit}
+use Rattle.js_tree.specs.js_grammar.Settings.{Goal}
+use Rattle.js_tree.specs.js_grammar.Trivia.{within_line}
+use Rattle.js_tree.proofs.js_grammar.CoreLemmas.{none_longer-from}
+use Rattle.js_tree.proofs.js_grammar.LongestLemmas.{both, both-left, both-right}
 use Rattle.js_lex.specs.Comments.{each_at, html_fault_at}
 use Rattle.js_lex.specs.Kept.{IsEmpty}
 use Rattle.js_lex.specs.Reading.{cut, GivesLexeme, GivesNone, Outcome, GivesNext, GivesHashbang, GivesFirst, in_a_module}
-use Rattle.js_words.specs.Scans.{NoLexeme}
+use Rattle.js_lex.specs.part_words.Scans.{NoLexeme}
 use Rattle.js_lex.specs.States.{State, goal_of}
-use Rattle.js_words.proofs.Fronts.{not_all}
-use Rattle.js_words.proofs.KindsOfLexemes.{hashbang_is}
+use Rattle.js_lex.proofs.part_words.Fronts.{not_all}
+use Rattle.js_lex.proofs.part_words.KindsOfLexemes.{hashbang_is}
 use Rattle.js_tree.specs.Nodes.{Node, empty_program}
 use Rattle.js_cursor.specs.Histories.{StandBefore}
 use Rattle.js_cursor.specs.Notes.{Notes, HasNone}

@@ -2,7 +2,7 @@
 use Rattle.std.proofs.Common.{◌≡◌, List, [], ◌∷◌, ◌++◌, sym, ap, subst}
 use Rattle.std.proofs.lemmas.List.Elements.{All-same, All-push}
 use Rattle.js_base.specs.declared.diagnostic.Diagnostic.{Diagnostic}
-use Rattle.js_grammar.specs.Marks.{Mark}
+use Rattle.js_tree.specs.js_grammar.Marks.{Mark}
 use Rattle.js_cursor.specs.Parsers.{Parser}
 use Rattle.js_cursor.specs.Places.{IsAt, goal}
 use Rattle.js_cursor.specs.Moves.{Keeps}

@@ -5,15 +5,15 @@ use Rattle.std.proofs.Math.Seq.{take-append_seam}
 use Rattle.std.proofs.lemmas.Bool.{false≢true}
 use Rattle.js_base.specs.Spans.{LiesIn}
 use Rattle.js_base.specs.Kinds.{one_of_kinds}
-use Rattle.js_memory.specs.Lists.{replaced}
+use Rattle.js_base.specs.part_memory.Lists.{replaced}
 use Rattle.js_base.specs.declared.kind.Kind.{Kind}
 use Rattle.js_base.specs.declared.kind.Kind.TheVariants.{LParen, LBrack, LCurly}
 use Rattle.js_base.specs.declared.diagnostic.Diagnostic.{Diagnostic}
 use Rattle.js_base.specs.declared.span.Span.{Span}
 use Rattle.js_base.specs.declared.token.Token.{Token}
-use Rattle.js_grammar.specs.LexicalFaults.{Reached}
-use Rattle.js_grammar.specs.Marks.{LexemeAt, a_lexeme, opens}
-use Rattle.js_grammar.specs.Settings.{Goal}
+use Rattle.js_tree.specs.js_grammar.LexicalFaults.{Reached}
+use Rattle.js_tree.specs.js_grammar.Marks.{LexemeAt, a_lexeme, opens}
+use Rattle.js_tree.specs.js_grammar.Settings.{Goal}
 use Rattle.js_lex.specs.Kept.{lengths_of, AreAtMost}
 use Rattle.js_lex.specs.Reading.{is_kept}
 use Rattle.js_lex.specs.States.{goal_of}

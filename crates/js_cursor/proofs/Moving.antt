@@ -16,19 +16,19 @@ use Rattle.js_base.specs.Kinds.{same_kind}
 use Rattle.js_base.specs.declared.span.Span.{Span}
 use Rattle.js_base.specs.Spans.{LiesIn}
 use Rattle.js_base.proofs.KindLemmas.{kind_of_same}
-use Rattle.js_grammar.specs.Grammar.{Lexeme, Lexemes, last, next}
-use Rattle.js_grammar.specs.Lexemes.{LexicalGoal, division}
-use Rattle.js_grammar.specs.Lexed.{Lex, all_faults, end_of, join}
-use Rattle.js_grammar.specs.LexicalFaults.{Reached, FaultyBehind, is_invalid_character, Condition}
-use Rattle.js_grammar.specs.Characters.{width}
-use Rattle.js_grammar.specs.Lexemes.{regular_expression, template_tail, hashbang, kind_in}
-use Rattle.js_words.proofs.KindsOfLexemes.{plain_end}
+use Rattle.js_tree.specs.js_grammar.Grammar.{Lexeme, Lexemes, last, next}
+use Rattle.js_tree.specs.js_grammar.Lexemes.{LexicalGoal, division}
+use Rattle.js_tree.specs.js_grammar.Lexed.{Lex, all_faults, end_of, join}
+use Rattle.js_tree.specs.js_grammar.LexicalFaults.{Reached, FaultyBehind, is_invalid_character, Condition}
+use Rattle.js_tree.specs.js_grammar.Characters.{width}
+use Rattle.js_tree.specs.js_grammar.Lexemes.{regular_expression, template_tail, hashbang, kind_in}
+use Rattle.js_lex.proofs.part_words.KindsOfLexemes.{plain_end}
 use Rattle.js_lex.proofs.TriviaLemmas.{some_width}
 use Rattle.std.proofs.lemmas.List.Elements.{All-same, All-cons, All-nil}
-use Rattle.js_grammar.specs.Marks.{Unrelated}
-use Rattle.js_grammar.specs.Settings.{Goal}
-use Rattle.js_grammar.specs.Trivia.{is_html_comment}
-use Rattle.js_grammar.proofs.Parts.{joins}
+use Rattle.js_tree.specs.js_grammar.Marks.{Unrelated}
+use Rattle.js_tree.specs.js_grammar.Settings.{Goal}
+use Rattle.js_tree.specs.js_grammar.Trivia.{is_html_comment}
+use Rattle.js_tree.proofs.js_grammar.Parts.{joins}
 use Rattle.js_lex.specs.Reading.{cut, is_right_angle, Tells, LexemeBehind, GivesLexeme, GivesNone, Outcome, GivesNext, GivesAgain, WasGiven, in_a_module}
 use Rattle.js_lex.specs.States.{State, SameText}
 use Rattle.js_cursor.specs.Parsers.{Parser}

@@ -8,11 +8,11 @@ use Rattle.std.proofs.lemmas.Bool.{false≢true, eqb-true, eq-eqb}
 use Rattle.js_base.specs.declared.kind.Kind.TheVariants.{Undetermined, Eof}
 use Rattle.js_base.specs.declared.span.Span.{Span}
 use Rattle.js_base.specs.declared.token.Token.{Token}
-use Rattle.js_grammar.specs.Grammar.{Lexeme, Lexemes, last, next}
-use Rattle.js_grammar.specs.Lexed.{Lexes, end_of, join}
-use Rattle.js_grammar.specs.Marks.{Plain, NoPlain, begins_marker, begins_middle, begins_closing, middle_marker, closing_marker, seven_from}
-use Rattle.js_grammar.proofs.Parts.{joins}
-use Rattle.js_grammar.proofs.LongestLemmas.{both-left, both-right}
+use Rattle.js_tree.specs.js_grammar.Grammar.{Lexeme, Lexemes, last, next}
+use Rattle.js_tree.specs.js_grammar.Lexed.{Lexes, end_of, join}
+use Rattle.js_tree.specs.js_grammar.Marks.{Plain, NoPlain, begins_marker, begins_middle, begins_closing, middle_marker, closing_marker, seven_from}
+use Rattle.js_tree.proofs.js_grammar.Parts.{joins}
+use Rattle.js_tree.proofs.js_grammar.LongestLemmas.{both-left, both-right}
 use Rattle.js_lex.specs.Kept.{Extends}
 use Rattle.js_lex.specs.Reading.{Tells}
 use Rattle.js_lex.specs.States.{State, SameText}

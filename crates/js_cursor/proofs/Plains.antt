@@ -6,20 +6,20 @@ use Rattle.js_base.specs.declared.diagnostic.Diagnostic.{Diagnostic}
 use Rattle.js_base.specs.declared.kind.Kind.TheVariants.{Undetermined, RAngle, Eof}
 use Rattle.js_base.specs.declared.token.Token.{Token}
 use Rattle.js_base.specs.Kinds.{same_kind}
-use Rattle.js_memory.specs.Lists.{replaced}
+use Rattle.js_base.specs.part_memory.Lists.{replaced}
 use Rattle.js_base.specs.Spans.{LiesIn}
 use Rattle.js_base.proofs.KindLemmas.{kind_of_same}
-use Rattle.js_grammar.specs.Characters.{width}
-use Rattle.js_grammar.specs.Grammar.{Lexeme}
-use Rattle.js_grammar.specs.Lexemes.{division, kind_in}
-use Rattle.js_grammar.specs.LexicalFaults.{behind}
-use Rattle.js_grammar.specs.Marks.{Plain, NoPlain}
+use Rattle.js_tree.specs.js_grammar.Characters.{width}
+use Rattle.js_tree.specs.js_grammar.Grammar.{Lexeme}
+use Rattle.js_tree.specs.js_grammar.Lexemes.{division, kind_in}
+use Rattle.js_tree.specs.js_grammar.LexicalFaults.{behind}
+use Rattle.js_tree.specs.js_grammar.Marks.{Plain, NoPlain}
 use Rattle.js_lex.specs.Reading.{cut, is_right_angle, Tells, LexemeBehind, GivesLexeme, GivesNone, GivesNext, GivesAgain, is_kept, kept_token, relexed}
 use Rattle.js_lex.specs.States.{State}
 use Rattle.js_lex.proofs.Again.{passed, cut_same}
-use Rattle.js_words.proofs.Fronts.{ends_there}
+use Rattle.js_lex.proofs.part_words.Fronts.{ends_there}
 use Rattle.js_lex.proofs.Given.{lexeme_given}
-use Rattle.js_words.proofs.KindsOfLexemes.{plain_end, plain_no_end}
+use Rattle.js_lex.proofs.part_words.KindsOfLexemes.{plain_end, plain_no_end}
 use Rattle.js_cursor.specs.Markers.{GivesPlain}
 use Rattle.js_cursor.proofs.Moving.{whole_again, cut_sign}
 

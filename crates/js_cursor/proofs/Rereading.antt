@@ -13,20 +13,20 @@ use Rattle.js_base.specs.declared.token.Token.{Token}
 use Rattle.js_base.specs.Kinds.{same_kind, one_of_kinds}
 use Rattle.js_base.specs.Spans.{LiesIn}
 use Rattle.js_base.proofs.KindLemmas.{kind_of_same}
-use Rattle.js_grammar.specs.Grammar.{Lexeme}
-use Rattle.js_grammar.specs.Lexemes.{LexicalGoal, division, regular_expression, template_tail, hashbang, kind_in, lexemes_in}
-use Rattle.js_grammar.specs.Characters.{width}
-use Rattle.js_grammar.specs.Longest.{none_begins}
-use Rattle.js_grammar.specs.RegularExpressions.{flags}
-use Rattle.js_grammar.specs.LexicalFaults.{FaultyBehind, Condition, Due, InvalidCharacter, is_invalid_character, begins_nothing}
-use Rattle.js_grammar.specs.Settings.{Goal}
-use Rattle.js_grammar.proofs.Alike.{stands-same}
-use Rattle.js_grammar.proofs.LongestLemmas.{both-right}
+use Rattle.js_tree.specs.js_grammar.Grammar.{Lexeme}
+use Rattle.js_tree.specs.js_grammar.Lexemes.{LexicalGoal, division, regular_expression, template_tail, hashbang, kind_in, lexemes_in}
+use Rattle.js_tree.specs.js_grammar.Characters.{width}
+use Rattle.js_tree.specs.js_grammar.Longest.{none_begins}
+use Rattle.js_tree.specs.js_grammar.RegularExpressions.{flags}
+use Rattle.js_tree.specs.js_grammar.LexicalFaults.{FaultyBehind, Condition, Due, InvalidCharacter, is_invalid_character, begins_nothing}
+use Rattle.js_tree.specs.js_grammar.Settings.{Goal}
+use Rattle.js_tree.proofs.js_grammar.Alike.{stands-same}
+use Rattle.js_tree.proofs.js_grammar.LongestLemmas.{both-right}
 use Rattle.js_lex.specs.Reading.{cut, is_right_angle, Tells, LexemeBehind, GivesLexeme, GivesNone, Outcome, GivesAgain, GivesNext, FlagsStand, WasGiven, is_wrong_flag, flag_faults}
 use Rattle.js_lex.specs.States.{State}
 use Rattle.js_lex.proofs.Again.{cut_same}
-use Rattle.js_words.specs.Places.{Word}
-use Rattle.js_words.proofs.KindsOfLexemes.{plain_end, pattern_is, tail_is, hashbang_is, slash_word, slash_equals_word, brace_word}
+use Rattle.js_lex.specs.part_words.Places.{Word}
+use Rattle.js_lex.proofs.part_words.KindsOfLexemes.{plain_end, pattern_is, tail_is, hashbang_is, slash_word, slash_equals_word, brace_word}
 use Rattle.js_cursor.specs.Parsers.{Parser}
 use Rattle.js_cursor.specs.Tokens.{IsToken, whole, sign, nothing}
 use Rattle.js_cursor.specs.Places.{IsAt, IsFault, goal}

@@ -15,17 +15,17 @@ use Rattle.js_base.specs.declared.kind.Kind.TheVariants.{Undetermined, RAngle}
 use Rattle.js_base.specs.declared.span.Span.{Span}
 use Rattle.js_base.specs.declared.token.Token.{Token}
 use Rattle.js_base.specs.Spans.{LiesIn}
-use Rattle.js_grammar.specs.CoreTexts.{starts}
-use Rattle.js_grammar.specs.Grammar.{Lexeme}
-use Rattle.js_grammar.specs.Lexemes.{LexicalGoal, division}
-use Rattle.js_grammar.specs.LexicalFaults.{Faulty, Stopping, is_invalid_character}
-use Rattle.js_grammar.specs.Marks.{Mark, StandsAt, LexemeAt, IsLexemeOf, a_lexeme, a_sign, a_fault, any_lexeme, cut_sign, goes_on, faulty_lexeme, begins_some_marker, begins_marker, begins_middle, begins_closing, seven_from}
+use Rattle.js_tree.specs.js_grammar.CoreTexts.{starts}
+use Rattle.js_tree.specs.js_grammar.Grammar.{Lexeme}
+use Rattle.js_tree.specs.js_grammar.Lexemes.{LexicalGoal, division}
+use Rattle.js_tree.specs.js_grammar.LexicalFaults.{Faulty, Stopping, is_invalid_character}
+use Rattle.js_tree.specs.js_grammar.Marks.{Mark, StandsAt, LexemeAt, IsLexemeOf, a_lexeme, a_sign, a_fault, any_lexeme, cut_sign, goes_on, faulty_lexeme, begins_some_marker, begins_marker, begins_middle, begins_closing, seven_from}
 use Rattle.js_cursor.specs.Markers.{lexeme_of, Related, Scanned}
 use Rattle.js_cursor.specs.declared.marker.Partners.{Partners}
 use Rattle.js_lex.specs.States.{State}
 use Rattle.js_cursor.proofs.Partnering.{same_bytes}
-use Rattle.js_grammar.proofs.LongestLemmas.{both-right}
-use Rattle.js_grammar.specs.Settings.{Goal}
+use Rattle.js_tree.proofs.js_grammar.LongestLemmas.{both-right}
+use Rattle.js_tree.specs.js_grammar.Settings.{Goal}
 use Rattle.js_lex.specs.Reading.{cut, is_right_angle, Tells, GivesLexeme, GivesNone}
 use Rattle.js_lex.proofs.Again.{cut_same, cut_newline}
 use Rattle.js_cursor.specs.Parsers.{Parser}

@@ -6,7 +6,7 @@ use Rattle.std.proofs.Math.Seq.{take-length}
 use Rattle.js_base.specs.declared.kind.Kind.{Kind}
 use Rattle.js_base.specs.declared.kind.Kind.TheVariants.{RAngle, RCurly, Slash, SlashEq}
 use Rattle.js_base.specs.declared.token.Token.{Token}
-use Rattle.js_memory.specs.Lists.{replaced}
+use Rattle.js_base.specs.part_memory.Lists.{replaced}
 use Rattle.js_lex.specs.Kept.{lengths_of, first_kept, AreAtMost}
 use Rattle.js_lex.specs.Reading.{is_kept, kept_token, GivesNext, GivesAgain}
 use Rattle.js_lex.specs.States.{State, SameText}

@@ -3,8 +3,8 @@ use Rattle.std.specs.Prelude.{ℕ, ◌≡◌, ◌≤◌, List, ◌++◌, length,
 use Rattle.js_base.specs.Spans.{LiesIn}
 use Rattle.js_base.specs.declared.diagnostic.Diagnostic.{Diagnostic}
 use Rattle.js_base.specs.declared.span.Span.{Span}
-use Rattle.js_grammar.specs.LexicalFaults.{Reached}
-use Rattle.js_grammar.specs.ModuleRecords.{Part as Visit}
+use Rattle.js_tree.specs.js_grammar.LexicalFaults.{Reached}
+use Rattle.js_tree.specs.js_grammar.ModuleRecords.{Part as Visit}
 use Rattle.js_lex.specs.Kept.{lengths_of, first_kept, AreAtMost}
 use Rattle.js_lex.specs.States.{SameText}
 use Rattle.js_tree.specs.Holding.{Keeps as KeepsNodes}

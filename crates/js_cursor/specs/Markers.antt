@@ -4,9 +4,9 @@ use Rattle.js_base.specs.declared.kind.Kind.TheVariants.{Undetermined, Eof}
 use Rattle.js_base.specs.declared.span.Span.{Span}
 use Rattle.js_base.specs.declared.token.Token.{Token}
 use Rattle.js_base.specs.Spans.{LiesIn}
-use Rattle.js_grammar.specs.Grammar.{Lexeme, Lexemes}
-use Rattle.js_grammar.specs.Lexed.{Lexes, end_of}
-use Rattle.js_grammar.specs.Marks.{Plain, NoPlain, Markers, Unrelated, begins_marker, middle_marker, closing_marker, seven_from}
+use Rattle.js_tree.specs.js_grammar.Grammar.{Lexeme, Lexemes}
+use Rattle.js_tree.specs.js_grammar.Lexed.{Lexes, end_of}
+use Rattle.js_tree.specs.js_grammar.Marks.{Plain, NoPlain, Markers, Unrelated, begins_marker, middle_marker, closing_marker, seven_from}
 use Rattle.js_lex.specs.Kept.{Extends}
 use Rattle.js_lex.specs.Reading.{Tells}
 use Rattle.js_lex.specs.States.{State, SameText}

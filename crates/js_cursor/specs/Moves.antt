@@ -7,9 +7,9 @@ use Rattle.js_base.specs.declared.kind.Kind.TheVariants.{Eof, Undetermined, Semi
 use Rattle.js_base.specs.declared.span.Span.{Span}
 use Rattle.js_base.specs.declared.token.Token.{Token}
 use Rattle.js_base.specs.Kinds.{same_kind}
-use Rattle.js_grammar.specs.Grammar.{Lexeme}
-use Rattle.js_grammar.specs.Lexemes.{LexicalGoal, division, regular_expression, template_tail}
-use Rattle.js_grammar.specs.Lexed.{Lex, all_faults}
+use Rattle.js_tree.specs.js_grammar.Grammar.{Lexeme}
+use Rattle.js_tree.specs.js_grammar.Lexemes.{LexicalGoal, division, regular_expression, template_tail}
+use Rattle.js_tree.specs.js_grammar.Lexed.{Lex, all_faults}
 use Rattle.js_lex.specs.Reading.{Tells, GivesNext, GivesAgain, FlagsStand}
 use Rattle.js_lex.specs.States.{State, SameText}
 use Rattle.js_cursor.specs.declared.stop.Stop.{Stop}
@@ -19,7 +19,7 @@ use Rattle.js_cursor.specs.declared.stop.ListStep.TheVariants.{Element, End, End
 use Rattle.js_base.specs.declared.diagnostic.DiagnosticKind.TheVariants.{UnexpectedToken, ExpectToken, ExpectClosingOrSeparator, MergeConflictMarker}
 use Rattle.js_cursor.specs.Notes.{NotesFailed, NotesOperand}
 use Rattle.js_cursor.specs.Parsers.{Parser}
-use Rattle.js_grammar.specs.Marks.{LexemeAt, any_lexeme, opens, StandsAt, begins_some_marker, seven_from}
+use Rattle.js_tree.specs.js_grammar.Marks.{LexemeAt, any_lexeme, opens, StandsAt, begins_some_marker, seven_from}
 use Rattle.js_cursor.specs.Markers.{lexeme_of, Related}
 use Rattle.js_cursor.specs.Places.{IsAt, goal}
 use Rattle.js_cursor.specs.Tokens.{may_be_read_again}

@@ -5,7 +5,7 @@ use Rattle.js_base.specs.declared.context.Context.{Context}
 use Rattle.js_base.specs.declared.options.ParseOptions.{ParseOptions}
 use Rattle.js_base.specs.declared.source_type.SourceType.{SourceType}
 use Rattle.js_base.specs.declared.token.Token.{Token}
-use Rattle.js_grammar.specs.ModuleRecords.{Part as Visit}
+use Rattle.js_tree.specs.js_grammar.ModuleRecords.{Part as Visit}
 use Rattle.js_lex.specs.States.{State}
 use Rattle.js_cursor.specs.Notes.{Notes}
 use Rattle.js_tree.specs.Nodes.{Node}

@@ -1,29 +1,20 @@
 -- What holds of a parser between calls: where it is, and that all that it has kept was found on the way there.
-use Rattle.std.specs.Prelude.{ℕ, ◌≡◌, ◌≤◌, true, List, length, codes, IsUtf8, IsCharBoundary}
+use Rattle.std.specs.Prelude.{ℕ, ◌≡◌, ◌≤◌, length, IsUtf8, IsCharBoundary}
 use Rattle.std.specs.List.{All}
 use Rattle.js_base.specs.declared.TheConstants.{MAX_LEN}
 use Rattle.js_base.specs.Spans.{LiesIn}
-use Rattle.js_base.specs.declared.diagnostic.Diagnostic.{Diagnostic}
-use Rattle.js_grammar.specs.CoreTexts.{starts}
-use Rattle.js_grammar.specs.LexicalFaults.{Reached, FaultyBehind, is_invalid_character}
-use Rattle.js_grammar.specs.Marks.{Mark, Unrelated}
-use Rattle.js_grammar.specs.Settings.{Goal}
+use Rattle.js_tree.specs.js_grammar.LexicalFaults.{Reached}
+use Rattle.js_tree.specs.js_grammar.Marks.{Mark}
+use Rattle.js_tree.specs.js_grammar.Settings.{Goal}
 use Rattle.js_lex.specs.States.{goal_of}
 use Rattle.js_cursor.specs.Histories.{StandBefore}
 use Rattle.js_cursor.specs.Notes.{Notes}
 use Rattle.js_cursor.specs.Parsers.{Parser}
 use Rattle.js_cursor.specs.Tokens.{IsToken}
+pub use Rattle.js_tree.specs.js_grammar.Found.{IsFault}
 
 abbrev pub goal : Parser → Goal
 goal p = goal_of p.source_type
-
--- A fault of the text, behind a place that lexemes lead to. It has no related places.
-pub record IsFault (source : Goal) (text : List ℕ) (d : Diagnostic) : Type 0 where
-  pub place : ℕ
-  pub reached : Reached text place
-  pub faulty : FaultyBehind d.kind source text place d.span.start d.span.end
-  pub no_hashbang : is_invalid_character d.kind ≡ true → d.span.start ≡ 0 → starts (codes "#!") text ≡ true → ⊥
-  pub alone : Unrelated d.first d.second
 
 -- every shorthand with `=` and every comma that is kept starts before this place
 pub record KeptBefore (n : Notes) (place : ℕ) : Type 0 where

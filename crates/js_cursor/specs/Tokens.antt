@@ -6,8 +6,8 @@ use Rattle.js_base.specs.declared.kind.Kind.TheVariants.{RAngle, RCurly, Slash, 
 use Rattle.js_base.specs.declared.span.Span.{Span}
 use Rattle.js_base.specs.Kinds.{one_of_kinds}
 use Rattle.js_base.specs.declared.token.Token.{Token}
-use Rattle.js_grammar.specs.Lexemes.{LexicalGoal, division}
-use Rattle.js_grammar.specs.Settings.{Goal}
+use Rattle.js_tree.specs.js_grammar.Lexemes.{LexicalGoal, division}
+use Rattle.js_tree.specs.js_grammar.Settings.{Goal}
 use Rattle.js_lex.specs.declared.comment.Comment.{Comment}
 use Rattle.js_lex.specs.Reading.{cut, GivesLexeme, GivesNone}
 use Rattle.js_lex.specs.States.{State}

@@ -5,9 +5,8 @@ ghost use Rattle.js_cursor.specs.Places.{IsAt};
 ghost use Rattle.js_cursor.specs.Checkpoints.{Remembers, MayGoBack, GoesBack};
 
 use crate::parser::ParserImpl;
-use js_base::{Context, Token};
+use js_base::{Context, NoMemory, Token};
 use js_lex::{LexerCheckpoint, ParserConfig};
-use js_memory::NoMemory;
 
 /// A place of a parser, with the parameters in force there, how deep it was, and how much it and its lexer had kept and
 /// noted.

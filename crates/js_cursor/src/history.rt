@@ -7,7 +7,7 @@ ghost use Rattle.std.specs.Vec.{vec_len, vec_capacity};
 ghost use Rattle.js_cursor.specs.Histories.{standing, without, IsLeast, Pops};
 ghost use Rattle.js_cursor.specs.Recorded.{NextFrom, FirstFrom, IsNarrow, found, IsReplaced};
 
-use js_memory::NoMemory;
+use js_base::NoMemory;
 use std::alloc::Global;
 use std::collections::BTreeMap;
 use std::marker::Model;

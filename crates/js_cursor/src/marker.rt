@@ -3,14 +3,13 @@
 ghost use Rattle.std.specs.Prelude.{◌≡◌, ◌≤◌, length, IfOk};
 ghost use Rattle.js_base.specs.declared.TheConstants.{MAX_LEN};
 ghost use Rattle.js_base.specs.Spans.{LiesIn};
-ghost use Rattle.js_grammar.specs.Grammar.{last};
-ghost use Rattle.js_grammar.specs.Marks.{begins_marker, begins_some_marker, middle_marker, closing_marker};
+ghost use Rattle.js_tree.specs.js_grammar.Grammar.{last};
+ghost use Rattle.js_tree.specs.js_grammar.Marks.{begins_marker, begins_some_marker, middle_marker, closing_marker};
 ghost use Rattle.js_cursor.specs.Markers.{lexeme_of, marker_of, or_else, middle_with, GivesPlain, Scanned};
 
 use crate::kinds::is_kind;
-use js_base::{Kind, MAX_LEN, Span, Token};
+use js_base::{Kind, MAX_LEN, NoMemory, Span, Token};
 use js_lex::{Lexer, LexerConfig};
-use js_memory::NoMemory;
 
 /// The markers behind a place: the one between the versions, and the one at the end.
 #[derive(Clone, Copy)]

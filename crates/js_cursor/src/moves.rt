@@ -3,7 +3,7 @@
 ghost use Rattle.std.specs.Prelude.{◌≡◌, ◌↔◌, Bool, IsTrue, None, Some, MatchResult, IfOk};
 ghost use Rattle.js_base.specs.declared.kind.Kind.TheVariants.{Undetermined};
 ghost use Rattle.js_base.specs.declared.diagnostic.DiagnosticKind.TheVariants.{UnexpectedToken, ExpectToken, ExpectClosing};
-ghost use Rattle.js_grammar.specs.Marks.{Mark};
+ghost use Rattle.js_tree.specs.js_grammar.Marks.{Mark};
 ghost use Rattle.js_cursor.specs.Places.{IsAt, goal};
 ghost use Rattle.js_cursor.specs.Moves.{IsKind, Eats, Keeps, GivesUp, OnlyMemory, StandsHere, IsHere, IsUnexpected, MayTell, Opened, Expects, MayEnd, EndsOr, Steps};
 ghost use Rattle.js_cursor.specs.Markers.{Related};
@@ -12,9 +12,8 @@ use crate::kinds::{ends_statement, is_kind};
 use crate::marker::{Partners, is_marker, scan};
 use crate::parser::ParserImpl;
 use crate::stop::{ListStep, Stop};
-use js_base::{Diagnostic, DiagnosticKind, Kind, Span};
+use js_base::{Diagnostic, DiagnosticKind, Kind, NoMemory, Span};
 use js_lex::ParserConfig;
-use js_memory::NoMemory;
 
 /// A lexeme that can't stand there.
 fn unexpected_token(span: Span) -> Diagnostic

@@ -13,11 +13,12 @@ ghost use Rattle.js_cursor.specs.Moves.{IsWhole, Passed, Completed, IsRegularExp
 use crate::kinds::{is_kind, is_last};
 use crate::state::ParserState;
 use crate::stop::Stop;
-use js_base::{Context, Diagnostics, Kind, MAX_LEN, ParseOptions, SourceType, Span, Token};
+use js_base::{
+    Context, Diagnostics, Kind, MAX_LEN, NoMemory, ParseOptions, SourceType, Span, Token,
+};
 use js_lex::{Lexer, ParserConfig};
-use js_memory::NoMemory;
 use js_tree::ParserAstBuilder;
-use js_visits::ModuleRecordBuilder;
+use part_visits::ModuleRecordBuilder;
 use std::alloc::Global;
 use std::marker::Model;
 

@@ -6,8 +6,7 @@ ghost use Rattle.js_cursor.specs.Histories.{standing, without, Pops};
 ghost use Rattle.js_cursor.specs.Notes.{HasNone, NotesFailed, NotesOperand, NotesPlace, is_noted, noted_number};
 
 use crate::history::History;
-use js_base::{Context, Span};
-use js_memory::NoMemory;
+use js_base::{Context, NoMemory, Span};
 use js_tree::NodeId;
 use std::alloc::Global;
 use std::collections::BTreeSet;

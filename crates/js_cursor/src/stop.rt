@@ -1,6 +1,6 @@
 //! Why a parse function stops.
 
-use js_memory::NoMemory;
+use js_base::NoMemory;
 use std::alloc::{AllocError, AllocFailed};
 
 /// Why a parse function stops.

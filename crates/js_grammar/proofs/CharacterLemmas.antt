@@ -11,7 +11,7 @@ use Rattle.ucd_derived.specs.IdContinueRanges.{id_continue_ranges}
 use Rattle.ucd_category.specs.GeneralCategory.{general_category, general_category_eq}
 use Rattle.ucd_category.specs.GeneralCategoryRows.{general_category_rows}
 use Rattle.ucd_category.specs.declared.GeneralCategory.TheVariants.{SpaceSeparator}
-use Rattle.js_text.specs.Characters.{one_of}
+use Rattle.js_base.specs.part_text.Characters.{one_of}
 use Rattle.js_grammar.specs.Characters.{is_white_space, is_identifier_start, is_identifier_part}
 use Rattle.js_grammar.specs.LexicalLaws.{CharacterClasses}
 use Rattle.js_grammar.proofs.CoreLemmas.{below}

@@ -5,9 +5,9 @@ use Rattle.std.proofs.lemmas.Bool.{eqb-true}
 use Rattle.js_base.specs.declared.kind.Kind.{Kind}
 use Rattle.js_base.specs.declared.kind.Kind.TheVariants.{HashbangComment}
 use Rattle.js_grammar.specs.Grammar.{Lexeme}
-use Rattle.js_text.specs.Characters.{one_of}
+use Rattle.js_base.specs.part_text.Characters.{one_of}
 use Rattle.js_grammar.specs.Trivia.{after, within_line}
-use Rattle.js_text.specs.Escapes.{in_name, outside, read_from, before_all}
+use Rattle.js_base.specs.part_text.Escapes.{in_name, outside, read_from, before_all}
 use Rattle.js_grammar.specs.Names.{named, name_of, private_of}
 use Rattle.js_grammar.specs.RegularExpressions.{flags, flagged, behind_pattern}
 use Rattle.js_grammar.specs.Templates.{template_tail_kind, part_kind, closes_template}

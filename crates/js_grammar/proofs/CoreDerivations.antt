@@ -1,24 +1,29 @@
 -- From core lexemes the productions that are built and the core grammar derive the same.
 use Rattle.std.proofs.Common.{ℕ, ◌≡◌, Bool, true, false, not, cond, ◌||◌, List, [], ◌∷◌, IsTrue, refl, sym, subst}
-use Rattle.std.proofs.lemmas.Bool.{false≢true, or_left, or_right, and_parts}
+use Rattle.std.proofs.lemmas.Bool.{false≢true, not-true, or_left, or_right, and_parts, and_from}
 use Rattle.js_base.specs.declared.kind.Kind.{Kind}
 use Rattle.js_base.specs.Kinds.{same_kind, one_of_kinds}
 use Rattle.js_base.proofs.KindLemmas.{kind_of_same}
 use Rattle.js_grammar.specs.Trees.{Label, Slots, end, Tree}
-use Rattle.js_grammar.specs.Grammar.{Make, Lexeme, Lexemes, last, next, here, Look, seen, nothing, never, lexeme, look, text, ahead, empty_slot, seq, alt, when, many, commas, such, marked, node, ended, keep, kept, semicolon, Takes, is_nothing, is_lexeme, is_look, is_text, is_ahead, is_empty_slot, is_seq, is_left, is_right, is_when, is_many, is_commas, is_such, is_marked, is_node, is_ended, is_keep, is_kept, Derives}
-use Rattle.js_grammar.specs.Productions.{Symbol, G}
+use Rattle.js_grammar.specs.Grammar.{Make, Lexeme, Lexemes, last, next, here, Look, seen, nothing, never, lexeme, look, text, ahead, empty_slot, seq, alt, when, many, commas, such, marked, node, ended, keep, kept, semicolon, commas_once, Takes, is_nothing, is_lexeme, is_look, is_text, is_ahead, is_empty_slot, is_seq, is_left, is_right, is_when, is_many, is_commas, is_such, is_marked, is_node, is_ended, is_keep, is_kept, Derives}
+use Rattle.js_grammar.specs.Productions.{Flags, Name, Program, Symbol, G}
 use Rattle.js_grammar.specs.Table.{rule}
 use Rattle.js_grammar.specs.Pruning.{is_never, is_nothing as is_idle, some_kind, every_kind, some_line, each_line, seq_of, alt_of, many_of, if_some, pruned}
-use Rattle.js_grammar.specs.CoreGrammar.{core_kinds, dead, core_rule}
+use Rattle.js_grammar.specs.CoreGrammar.{core_kinds, dead, stands_inside, core_of, core_rule}
 use Rattle.js_grammar.specs.CoreReadings.{core_lexeme, AllCore}
 use Rattle.js_grammar.proofs.CoreProductions.{core_at, dead_at}
+use Rattle.js_grammar.proofs.Renamed.{paired}
 
 abbrev prune : G → G
 prune = pruned dead core_kinds
 
-core_line : (n : Symbol) → prune (rule n) ≡ core_rule n
-unfolding rule core_rule
-core_line n = core_at n.name n.flags
+-- what is left of each line, inside what needs another lexeme too
+unfoldable left : Symbol → G
+left n = prune (rule n)
+
+core_line : (n : Symbol) → prune (rule n) ≡ left n
+unfolding left
+core_line n = refl
 
 dead_line : (n : Symbol) → dead n ≡ true → is_never (prune (rule n)) ≡ true
 unfolding rule
@@ -83,102 +88,102 @@ stays (is_keep d e) c = stays e (stays d c)
 stays (is_kept q) c = c
 
 -- What is taken isn't nothing at all.
-none : {g : G} {ks ts us : Slots} {i j : ℕ} {ls rest : Lexemes} → Takes core_rule g ks ts i ls us j rest → is_never g ≡ true → ⊥
+none : {g : G} {ks ts us : Slots} {i j : ℕ} {ls rest : Lexemes} → Takes left g ks ts i ls us j rest → is_never g ≡ true → ⊥
 none is_nothing h = false≢true h
 none d h = false≢true h
 
-idly : {g b : G} {ks ts us vs : Slots} {i j k : ℕ} {ls mid rest : Lexemes} → Takes core_rule g ks ts i ls us j mid → is_idle g ≡ true → Takes core_rule b ks us j mid vs k rest → Takes core_rule b ks ts i ls vs k rest
+idly : {g b : G} {ks ts us vs : Slots} {i j k : ℕ} {ls mid rest : Lexemes} → Takes left g ks ts i ls us j mid → is_idle g ≡ true → Takes left b ks us j mid vs k rest → Takes left b ks ts i ls vs k rest
 idly is_nothing h e = e
 idly (is_lexeme p) h e = absurd (false≢true h)
 idly d h e = absurd (false≢true h)
 
 -- the whole grammar's right sides, cut down
-if_there : (a g : G) {ks ks' ts ts' us us' : Slots} {i i' j j' : ℕ} {ls ls' rest rest' : Lexemes} → Takes core_rule a ks' ts' i' ls' us' j' rest' → Takes core_rule g ks ts i ls us j rest → Takes core_rule (if_some a g) ks ts i ls us j rest
+if_there : (a g : G) {ks ks' ts ts' us us' : Slots} {i i' j j' : ℕ} {ls ls' rest rest' : Lexemes} → Takes left a ks' ts' i' ls' us' j' rest' → Takes left g ks ts i ls us j rest → Takes left (if_some a g) ks ts i ls us j rest
 if_there a g {ks} {ts = ts} {us = us} {i} {j = j} {ls} {rest = rest} d e = go (is_never a) refl
   where
-    go : (b : Bool) → is_never a ≡ b → Takes core_rule (cond b never g) ks ts i ls us j rest
+    go : (b : Bool) → is_never a ≡ b → Takes left (cond b never g) ks ts i ls us j rest
     go true q = absurd (none d q)
     go false q = e
 
-seq_there : (a b : G) {ks ts us vs : Slots} {i j k : ℕ} {ls mid rest : Lexemes} → Takes core_rule a ks ts i ls us j mid → Takes core_rule b ks us j mid vs k rest → Takes core_rule (seq_of a b) ks ts i ls vs k rest
+seq_there : (a b : G) {ks ts us vs : Slots} {i j k : ℕ} {ls mid rest : Lexemes} → Takes left a ks ts i ls us j mid → Takes left b ks us j mid vs k rest → Takes left (seq_of a b) ks ts i ls vs k rest
 seq_there a b {ks} {ts} {vs = vs} {i} {k = k} {ls} {rest = rest} d e = go (is_never a) (is_never b) (is_idle a) refl refl refl
   where
-    go : (x y z : Bool) → is_never a ≡ x → is_never b ≡ y → is_idle a ≡ z → Takes core_rule (cond (x || y) never (cond z b (seq a b))) ks ts i ls vs k rest
+    go : (x y z : Bool) → is_never a ≡ x → is_never b ≡ y → is_idle a ≡ z → Takes left (cond (x || y) never (cond z b (seq a b))) ks ts i ls vs k rest
     go true y z q r s = absurd (none d q)
     go false true z q r s = absurd (none e r)
     go false false true q r s = idly d s e
     go false false false q r s = is_seq d e
 
-left_there : (a b : G) {ks ts us : Slots} {i j : ℕ} {ls rest : Lexemes} → Takes core_rule a ks ts i ls us j rest → Takes core_rule (alt_of a b) ks ts i ls us j rest
+left_there : (a b : G) {ks ts us : Slots} {i j : ℕ} {ls rest : Lexemes} → Takes left a ks ts i ls us j rest → Takes left (alt_of a b) ks ts i ls us j rest
 left_there a b {ks} {ts} {us} {i} {j} {ls} {rest} d = go (is_never a) (is_never b) refl
   where
-    go : (x y : Bool) → is_never a ≡ x → Takes core_rule (cond x b (cond y a (alt a b))) ks ts i ls us j rest
+    go : (x y : Bool) → is_never a ≡ x → Takes left (cond x b (cond y a (alt a b))) ks ts i ls us j rest
     go true y q = absurd (none d q)
     go false true q = d
     go false false q = is_left d
 
-right_there : (a b : G) {ks ts us : Slots} {i j : ℕ} {ls rest : Lexemes} → Takes core_rule b ks ts i ls us j rest → Takes core_rule (alt_of a b) ks ts i ls us j rest
+right_there : (a b : G) {ks ts us : Slots} {i j : ℕ} {ls rest : Lexemes} → Takes left b ks ts i ls us j rest → Takes left (alt_of a b) ks ts i ls us j rest
 right_there a b {ks} {ts} {us} {i} {j} {ls} {rest} d = go (is_never a) (is_never b) refl
   where
-    go : (x y : Bool) → is_never b ≡ y → Takes core_rule (cond x b (cond y a (alt a b))) ks ts i ls us j rest
+    go : (x y : Bool) → is_never b ≡ y → Takes left (cond x b (cond y a (alt a b))) ks ts i ls us j rest
     go true y q = d
     go false true q = absurd (none d q)
     go false false q = is_right d
 
-many_there : (a : G) {ks ks' ts ts' us us' : Slots} {i i' j j' : ℕ} {ls ls' rest rest' : Lexemes} → Takes core_rule a ks' ts' i' ls' us' j' rest' → Takes core_rule (many a) ks ts i ls us j rest → Takes core_rule (many_of a) ks ts i ls us j rest
+many_there : (a : G) {ks ks' ts ts' us us' : Slots} {i i' j j' : ℕ} {ls ls' rest rest' : Lexemes} → Takes left a ks' ts' i' ls' us' j' rest' → Takes left (many a) ks ts i ls us j rest → Takes left (many_of a) ks ts i ls us j rest
 many_there a {ks} {ts = ts} {us = us} {i} {j = j} {ls} {rest = rest} d e = go (is_never a) refl
   where
-    go : (b : Bool) → is_never a ≡ b → Takes core_rule (cond b nothing (many a)) ks ts i ls us j rest
+    go : (b : Bool) → is_never a ≡ b → Takes left (cond b nothing (many a)) ks ts i ls us j rest
     go true q = absurd (none d q)
     go false q = e
 
-none_many : (a : G) {ks ts : Slots} {i : ℕ} {ls : Lexemes} → Takes core_rule (many_of a) ks ts i ls ts i ls
+none_many : (a : G) {ks ts : Slots} {i : ℕ} {ls : Lexemes} → Takes left (many_of a) ks ts i ls ts i ls
 none_many a {ks} {ts} {i} {ls} = go (is_never a)
   where
-    go : (b : Bool) → Takes core_rule (cond b nothing (many a)) ks ts i ls ts i ls
+    go : (b : Bool) → Takes left (cond b nothing (many a)) ks ts i ls ts i ls
     go true = is_nothing
     go false = is_many (is_right is_nothing)
 
-as_many : (a : G) {ks ks' ts ts' us us' : Slots} {i i' j j' : ℕ} {ls ls' rest rest' : Lexemes} → Takes core_rule a ks' ts' i' ls' us' j' rest' → Takes core_rule (many_of a) ks ts i ls us j rest → Takes core_rule (many a) ks ts i ls us j rest
+as_many : (a : G) {ks ks' ts ts' us us' : Slots} {i i' j j' : ℕ} {ls ls' rest rest' : Lexemes} → Takes left a ks' ts' i' ls' us' j' rest' → Takes left (many_of a) ks ts i ls us j rest → Takes left (many a) ks ts i ls us j rest
 as_many a {ks} {ts = ts} {us = us} {i} {j = j} {ls} {rest = rest} d e = go (is_never a) refl e
   where
-    go : (b : Bool) → is_never a ≡ b → Takes core_rule (cond b nothing (many a)) ks ts i ls us j rest → Takes core_rule (many a) ks ts i ls us j rest
+    go : (b : Bool) → is_never a ≡ b → Takes left (cond b nothing (many a)) ks ts i ls us j rest → Takes left (many a) ks ts i ls us j rest
     go true q e = absurd (none d q)
     go false q e = e
 
-as_commas : (b : Bool) (a : G) {ks ks' ts ts' us us' : Slots} {i i' j j' : ℕ} {ls ls' rest rest' : Lexemes} → Takes core_rule a ks' ts' i' ls' us' j' rest' → Takes core_rule (if_some a (commas b a)) ks ts i ls us j rest → Takes core_rule (commas b a) ks ts i ls us j rest
+as_commas : (b : Bool) (a : G) {ks ks' ts ts' us us' : Slots} {i i' j j' : ℕ} {ls ls' rest rest' : Lexemes} → Takes left a ks' ts' i' ls' us' j' rest' → Takes left (if_some a (commas b a)) ks ts i ls us j rest → Takes left (commas b a) ks ts i ls us j rest
 as_commas b a {ks} {ts = ts} {us = us} {i} {j = j} {ls} {rest = rest} d e = go (is_never a) refl e
   where
-    go : (x : Bool) → is_never a ≡ x → Takes core_rule (cond x never (commas b a)) ks ts i ls us j rest → Takes core_rule (commas b a) ks ts i ls us j rest
+    go : (x : Bool) → is_never a ≡ x → Takes left (cond x never (commas b a)) ks ts i ls us j rest → Takes left (commas b a) ks ts i ls us j rest
     go true q e = absurd (none d q)
     go false q e = e
 
-lexeme_there : (p : Look) {ks ts : Slots} {i : ℕ} {x : Lexeme} {ls : Lexemes} → IsTrue (seen p x) → core_lexeme x ≡ true → Takes core_rule (prune (lexeme p)) ks ts i (next x ls) ts x.to ls
-lexeme_there p {ks} {ts} {i} {x} {ls} q c = subst (λ b. Takes core_rule (cond b (lexeme p) never) ks ts i (next x ls) ts x.to ls) (sym (passed p x c q)) (is_lexeme q)
+lexeme_there : (p : Look) {ks ts : Slots} {i : ℕ} {x : Lexeme} {ls : Lexemes} → IsTrue (seen p x) → core_lexeme x ≡ true → Takes left (prune (lexeme p)) ks ts i (next x ls) ts x.to ls
+lexeme_there p {ks} {ts} {i} {x} {ls} q c = subst (λ b. Takes left (cond b (lexeme p) never) ks ts i (next x ls) ts x.to ls) (sym (passed p x c q)) (is_lexeme q)
 
-look_there : (p : Look) {ks ts : Slots} {i : ℕ} {ls : Lexemes} → IsTrue (seen p (here ls)) → core_lexeme (here ls) ≡ true → Takes core_rule (prune (look p)) ks ts i ls ts i ls
+look_there : (p : Look) {ks ts : Slots} {i : ℕ} {ls : Lexemes} → IsTrue (seen p (here ls)) → core_lexeme (here ls) ≡ true → Takes left (prune (look p)) ks ts i ls ts i ls
 look_there p {ks} {ts} {i} {ls} q c = go (every_kind (each_line p) core_kinds) (some_kind (some_line p) core_kinds) (passed p (here ls) c q)
   where
-    go : (a b : Bool) → b ≡ true → Takes core_rule (cond a nothing (cond b (look p) never)) ks ts i ls ts i ls
+    go : (a b : Bool) → b ≡ true → Takes left (cond a nothing (cond b (look p) never)) ks ts i ls ts i ls
     go true b h = is_nothing
     go false true h = is_look q
     go false false h = absurd (false≢true h)
 
 -- a symbol that isn't dead
-live : (n : Symbol) (g : G) {ks ks' ts ts' us us' : Slots} {i i' j j' : ℕ} {ls ls' rest rest' : Lexemes} → Takes core_rule (prune (rule n)) ks' ts' i' ls' us' j' rest' → Takes core_rule g ks ts i ls us j rest → Takes core_rule (cond (dead n) never g) ks ts i ls us j rest
+live : (n : Symbol) (g : G) {ks ks' ts ts' us us' : Slots} {i i' j j' : ℕ} {ls ls' rest rest' : Lexemes} → Takes left (prune (rule n)) ks' ts' i' ls' us' j' rest' → Takes left g ks ts i ls us j rest → Takes left (cond (dead n) never g) ks ts i ls us j rest
 live n g {ks} {ts = ts} {us = us} {i} {j = j} {ls} {rest = rest} d e = go (dead n) refl
   where
-    go : (b : Bool) → dead n ≡ b → Takes core_rule (cond b never g) ks ts i ls us j rest
+    go : (b : Bool) → dead n ≡ b → Takes left (cond b never g) ks ts i ls us j rest
     go true q = absurd (none d (dead_line n q))
     go false q = e
 
-as_line : (n : Symbol) {ks ts us : Slots} {i j : ℕ} {ls rest : Lexemes} → Takes core_rule (prune (rule n)) ks ts i ls us j rest → Takes core_rule (core_rule n) ks ts i ls us j rest
-as_line n {ks} {ts} {us} {i} {j} {ls} {rest} d = subst (λ g. Takes core_rule g ks ts i ls us j rest) (core_line n) d
+as_line : (n : Symbol) {ks ts us : Slots} {i j : ℕ} {ls rest : Lexemes} → Takes left (prune (rule n)) ks ts i ls us j rest → Takes left (left n) ks ts i ls us j rest
+as_line n {ks} {ts} {us} {i} {j} {ls} {rest} d = subst (λ g. Takes left g ks ts i ls us j rest) (core_line n) d
 
-keep_there : (a b : G) {ks cs ts us : Slots} {i j k : ℕ} {ls mid rest : Lexemes} → Takes core_rule a ks cs i ls end j mid → Takes core_rule b cs ts j mid us k rest → Takes core_rule (cond (is_never a || is_never b) never (keep a b)) ks ts i ls us k rest
+keep_there : (a b : G) {ks cs ts us : Slots} {i j k : ℕ} {ls mid rest : Lexemes} → Takes left a ks cs i ls end j mid → Takes left b cs ts j mid us k rest → Takes left (cond (is_never a || is_never b) never (keep a b)) ks ts i ls us k rest
 keep_there a b {ks} {ts = ts} {us = us} {i} {k = k} {ls} {rest = rest} d e = go (is_never a) (is_never b) refl refl
   where
-    go : (x y : Bool) → is_never a ≡ x → is_never b ≡ y → Takes core_rule (cond (x || y) never (keep a b)) ks ts i ls us k rest
+    go : (x y : Bool) → is_never a ≡ x → is_never b ≡ y → Takes left (cond (x || y) never (keep a b)) ks ts i ls us k rest
     go true y q r = absurd (none d q)
     go false true q r = absurd (none e r)
     go false false q r = is_keep d e
@@ -187,7 +192,7 @@ semicolon_too : (r s : Symbol → G) (p : Look) {ks ts us : Slots} {i j : ℕ} {
 semicolon_too r s p (is_left (is_lexeme q)) = is_left (is_lexeme q)
 semicolon_too r s p (is_right (is_look q)) = is_right (is_look q)
 
-there : {g : G} {ks ts us : Slots} {i j : ℕ} {ls rest : Lexemes} → Takes rule g ks ts i ls us j rest → AllCore ls → Takes core_rule (prune g) ks ts i ls us j rest
+there : {g : G} {ks ts us : Slots} {i j : ℕ} {ls rest : Lexemes} → Takes rule g ks ts i ls us j rest → AllCore ls → Takes left (prune g) ks ts i ls us j rest
 there is_nothing c = is_nothing
 there (is_lexeme {p = p} q) c = lexeme_there p q c.0
 there (is_look {p = p} {ls = ls} q) c = look_there p q (core_here ls c)
@@ -211,7 +216,7 @@ there (is_commas {b = false} {a = a} (is_seq d (is_left (is_seq (is_lexeme q) e)
 there (is_such {n = n} {c = p} d q) c = let x = there d c in live n (such n p) x (is_such (as_line n x) q)
 there (is_marked {h = h} {n = n} d) c = let x = there d c in live n (marked h n) x (is_marked (as_line n x))
 there (is_node {m = m} {a = a} d) c = let x = there d c in if_there (prune a) (node m (prune a)) x (is_node x)
-there (is_ended {rows = rows} {a = a} {cs = cs} {ls = ls} q d e) c = let x = there d c in if_there (prune a) (ended rows (prune a)) x (is_ended q x (semicolon_too rule core_rule (rows (here ls) cs) e))
+there (is_ended {rows = rows} {a = a} {cs = cs} {ls = ls} q d e) c = let x = there d c in if_there (prune a) (ended rows (prune a)) x (is_ended q x (semicolon_too rule left (rows (here ls) cs) e))
 there (is_keep {a = a} {b = b} d e) c = keep_there (prune a) (prune b) (there d c) (there e (stays d c))
 there (is_kept q) c = is_kept q
 
@@ -292,7 +297,7 @@ cuts (ended rows a) = if_cut _ (cut_ended (cuts a))
 cuts (keep a b) = if_cut _ (cut_keep (cuts a) (cuts b))
 cuts kept = cut_kept
 
-line : (n : Symbol) → Cut (rule n) (core_rule n)
+line : (n : Symbol) → Cut (rule n) (left n)
 line n = subst (λ g. Cut (rule n) g) (core_line n) (cuts (rule n))
 
 idle : {g : G} {ks ts : Slots} {i : ℕ} {ls : Lexemes} → Cut g nothing → AllCore ls → Takes rule g ks ts i ls ts i ls
@@ -303,7 +308,7 @@ idle (cut_left x) c = is_left (idle x c)
 idle (cut_right x) c = is_right (idle x c)
 idle cut_none c = is_many (is_right is_nothing)
 
-back : {h : G} {ks ts us : Slots} {i j : ℕ} {ls rest : Lexemes} → Takes core_rule h ks ts i ls us j rest → {g : G} → Cut g h → AllCore ls → Takes rule g ks ts i ls us j rest
+back : {h : G} {ks ts us : Slots} {i j : ℕ} {ls rest : Lexemes} → Takes left h ks ts i ls us j rest → {g : G} → Cut g h → AllCore ls → Takes rule g ks ts i ls us j rest
 back d (cut_never {g = g}) c = elim d [ ]
 back d (cut_second x y) c = is_seq (idle x c) (back d y c)
 back d (cut_left x) c = is_left (back d x c)
@@ -329,9 +334,64 @@ back (is_commas {b = false} (is_seq d (is_left (is_seq (is_lexeme q) e)))) (cut_
 back (is_such {n = n} d q) cut_such c = is_such (back d (line n) c) q
 back (is_marked {n = n} d) cut_marked c = is_marked (back d (line n) c)
 back (is_node d) (cut_node x) c = is_node (back d x c)
-back (is_ended {rows = rows} {cs = cs} {ls = ls} q d e) (cut_ended x) c = is_ended q (back d x c) (semicolon_too core_rule rule (rows (here ls) cs) e)
+back (is_ended {rows = rows} {cs = cs} {ls = ls} q d e) (cut_ended x) c = is_ended q (back d x c) (semicolon_too left rule (rows (here ls) cs) e)
 back (is_keep d e) (cut_keep x y) c = is_keep (back d x c) (back e y (stays d c))
 back (is_kept q) cut_kept c = is_kept q
 
-pub core_derives : (n : Symbol) (t : Tree) (i j : ℕ) (ls rest : Lexemes) → AllCore ls → (Derives rule n t i ls j rest → Derives core_rule n t i ls j rest) × (Derives core_rule n t i ls j rest → Derives rule n t i ls j rest)
-core_derives n t i j ls rest c = (λ d. as_line n (there d c), λ d. back d (line n) c)
+-- From Program on, no right side of the core grammar names what stands only inside others.
+abbrev names_core : G → Bool
+names_core g = paired (λ n m. not (stands_inside n.name)) g g
+
+core_named : (n : Name) (f : Flags) → names_core (core_of n f) ≡ true
+unfolding core_of
+core_named Program f = refl
+core_named n f = refl
+
+commas_named : (b : Bool) (a : G) → names_core a ≡ true → names_core (commas_once b a) ≡ true
+commas_named true a h = and_from _ _ h (and_from _ _ (and_from _ _ h refl) refl)
+commas_named false a h = and_from _ _ h (and_from _ _ h refl)
+
+-- Where two grammars have the same lines but for what stands inside, they take the same.
+module _ {r s : Symbol → G} (same : (n : Symbol) → stands_inside n.name ≡ false → r n ≡ s n) (named : (n : Symbol) → stands_inside n.name ≡ false → names_core (r n) ≡ true) where
+  onto : (n : Symbol) → stands_inside n.name ≡ false → {ks ts us : Slots} {i j : ℕ} {ls rest : Lexemes} → Takes s (r n) ks ts i ls us j rest → Takes s (s n) ks ts i ls us j rest
+  onto n h {ks} {ts} {us} {i} {j} {ls} {rest} d = subst (λ g. Takes s g ks ts i ls us j rest) (same n h) d
+
+  by_other : {g : G} {ks ts us : Slots} {i j : ℕ} {ls rest : Lexemes} → Takes r g ks ts i ls us j rest → names_core g ≡ true → Takes s g ks ts i ls us j rest
+  by_other is_nothing h = is_nothing
+  by_other (is_lexeme q) h = is_lexeme q
+  by_other (is_look q) h = is_look q
+  by_other (is_text q) h = is_text q
+  by_other (is_ahead d) h = is_ahead (by_other d h)
+  by_other is_empty_slot h = is_empty_slot
+  by_other (is_seq d e) h = let p = and_parts _ _ h in is_seq (by_other d p.0) (by_other e p.1)
+  by_other (is_left d) h = is_left (by_other d (and_parts _ _ h).0)
+  by_other (is_right d) h = is_right (by_other d (and_parts _ _ h).1)
+  by_other (is_when q d) h = is_when q (by_other d h)
+  by_other (is_many d) h = is_many (by_other d (and_from _ _ (and_from _ _ h h) refl))
+  by_other (is_commas {b = b} {a = a} d) h = is_commas (by_other d (commas_named b a h))
+  by_other (is_such {n = n} d q) h = let e = not-true (stands_inside n.name) h in is_such (onto n e (by_other d (named n e))) q
+  by_other (is_marked {n = n} d) h = let e = not-true (stands_inside n.name) h in is_marked (onto n e (by_other d (named n e)))
+  by_other (is_node d) h = is_node (by_other d h)
+  by_other (is_ended {rows = rows} {cs = cs} {ls = ls} q d e) h = is_ended q (by_other d h) (semicolon_too r s (rows (here ls) cs) e)
+  by_other (is_keep d e) h = let p = and_parts _ _ h in is_keep (by_other d p.0) (by_other e p.1)
+  by_other (is_kept q) h = is_kept q
+
+  pub derives_too : (n : Symbol) → stands_inside n.name ≡ false → {ks ts us : Slots} {i j : ℕ} {ls rest : Lexemes} → Takes r (r n) ks ts i ls us j rest → Takes s (s n) ks ts i ls us j rest
+  derives_too n h d = onto n h (by_other d (named n h))
+
+left_core : (n : Symbol) → stands_inside n.name ≡ false → left n ≡ core_rule n
+unfolding left rule core_rule
+left_core n h = core_at n.name n.flags h
+
+core_left : (n : Symbol) → stands_inside n.name ≡ false → core_rule n ≡ left n
+core_left n h = sym (left_core n h)
+
+core_rule_named : (n : Symbol) → stands_inside n.name ≡ false → names_core (core_rule n) ≡ true
+unfolding core_rule
+core_rule_named n h = core_named n.name n.flags
+
+left_named : (n : Symbol) → stands_inside n.name ≡ false → names_core (left n) ≡ true
+left_named n h = subst (λ g. names_core g ≡ true) (core_left n h) (core_rule_named n h)
+
+pub core_derives : (n : Symbol) (t : Tree) (i j : ℕ) (ls rest : Lexemes) → stands_inside n.name ≡ false → AllCore ls → (Derives rule n t i ls j rest → Derives core_rule n t i ls j rest) × (Derives core_rule n t i ls j rest → Derives rule n t i ls j rest)
+core_derives n t i j ls rest h c = (λ d. derives_too left_core left_named n h (as_line n (there d c)), λ d. back (derives_too core_left core_rule_named n h d) (line n) c)

@@ -6,7 +6,7 @@ use Rattle.std.proofs.lemmas.Bool.Decides.{nat_tests}
 use Rattle.std.proofs.lemmas.Slice.Eq.{bytes_eq-Decides}
 use Rattle.js_base.specs.declared.kind.Kind.{Kind}
 use Rattle.js_base.specs.Texts.{text_of}
-use Rattle.js_text.specs.Characters.{one_of, is_decimal}
+use Rattle.js_base.specs.part_text.Characters.{one_of, is_decimal}
 use Rattle.js_grammar.specs.Characters.{is_identifier_start, is_identifier_part}
 use Rattle.js_grammar.specs.Lexemes.{may_precede, a_name, a_number, a_string, a_template, a_private_name, a_punctuator, opening}
 use Rattle.js_grammar.specs.Names.{is_plain_name}

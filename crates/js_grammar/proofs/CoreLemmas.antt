@@ -1,6 +1,6 @@
 -- Of core pieces: what they begin with, and that none is longer in the whole language.
 use Rattle.std.proofs.Common.{◌≡◌, ◌<◌, ℕ, zero, suc, Bool, true, false, List, [], ◌∷◌, ◌++◌, refl, sym, ap, subst, not, ◌&&◌, append_assoc, arith, ◌⊎◌, inl, inr}
-use Rattle.js_text.specs.Characters.{is_decimal}
+use Rattle.js_base.specs.part_text.Characters.{is_decimal}
 use Rattle.js_grammar.specs.Characters.{begins}
 use Rattle.js_grammar.specs.Longest.{Class, none_longer}
 use Rattle.js_grammar.specs.Lexemes.{plain_kind, Opening, a_name, a_number, a_string, a_template, a_private_name, a_punctuator, opening, kind_of}

@@ -6,19 +6,21 @@ use Rattle.js_base.specs.declared.kind.Kind.TheVariants.{Eof, RegExp}
 use Rattle.js_base.specs.Kinds.{code, same_kind, one_of_kinds}
 use Rattle.js_grammar.specs.Grammar.{Lexeme, Lexemes, last, next, here}
 use Rattle.js_base.specs.Texts.{words}
-use Rattle.js_text.specs.Characters.{one_of}
-use Rattle.js_grammar.specs.Characters.{width}
+use Rattle.js_base.specs.part_text.Characters.{one_of}
+use Rattle.js_grammar.specs.Characters.{width, has_line_terminator}
 use Rattle.js_grammar.specs.Longest.{longest, joined}
 use Rattle.js_grammar.specs.Trivia.{are_trivia, lack_html_comments, after, within_line}
 use Rattle.js_grammar.specs.Numbers.{is_number, stops_number}
 use Rattle.js_grammar.specs.RegularExpressions.{flags, flagged, flags_pass, behind_pattern}
 use Rattle.js_grammar.specs.Templates.{template_tail_kind}
 use Rattle.js_grammar.specs.Lexemes.{LexicalGoal, division, regular_expression, template_tail, hashbang, kind_in, lexemes_in, is_escaped}
-use Rattle.js_grammar.specs.Lexed.{Lexes}
+use Rattle.js_grammar.specs.Lexed.{Lexes, Lexed}
 use Rattle.js_grammar.specs.Lexed.{Passing, in_script, in_module, all_faults, passing_of, Lex, Stands, comments_pass, flags_right, ends_once}
 use Rattle.js_grammar.specs.LexicalLaws.{OneList}
 use Rattle.js_grammar.specs.CoreGrammar.{core_kinds}
 use Rattle.js_grammar.specs.CoreReadings.{core_lexeme, AllCore, CoreLexemes}
+use Rattle.js_grammar.specs.CorePieces.{piece_lexeme, end_lexeme, lexemes_from, piece_lexemes}
+use Rattle.js_grammar.specs.Settings.{Goal}
 use Rattle.js_grammar.specs.CoreTexts.{CoreSource, are_core, ends_in_glue, occurs}
 use Rattle.js_grammar.proofs.LongestLemmas.{both-left, both-right, both, not-true}
 use Rattle.js_grammar.proofs.Finding.{neither-left, neither-right}
@@ -26,7 +28,8 @@ use Rattle.js_grammar.proofs.Alike.{stands-same, lex-same}
 use Rattle.js_grammar.proofs.Standing.{lexeme_of}
 use Rattle.js_grammar.proofs.CoreFirst.{is_core_first}
 use Rattle.js_grammar.proofs.CoreNames.{IsPlain, ascii, core_ascii}
-use Rattle.js_grammar.proofs.CoreTrivia.{Ahead, ends, word, ahead, Lacks, lacks-behind}
+use Rattle.js_grammar.proofs.CoreTold.{Told}
+use Rattle.js_grammar.proofs.CoreTrivia.{Ahead, ends, word, Listed, listed, Lacks, lacks-behind}
 use Rattle.js_grammar.proofs.Places.{At, at-chars, at-start, at-behind}
 
 comments-lack : (p : Passing) (qs : List (List ℕ)) → lack_html_comments qs ≡ true → comments_pass p qs ≡ true
@@ -172,9 +175,19 @@ stands_of qs w rest a e t = record { within = a.within; splits = at-chars a ∙ 
 at_along : {text : List ℕ} {s : ℕ} {cs ds : List ℕ} → cs ≡ ds → At text s cs → At text s ds
 at_along {text = text} {s = s} e a = subst (λ (v : List ℕ). At text s v) e a
 
--- and all of them are core lexemes
-abbrev CoreTail : List ℕ → ℕ → Type 0
-CoreTail text s = (t : Tail text s) × AllCore t.list
+-- all of them are core lexemes, and they are those of the pieces
+abbrev CoreTail : List ℕ → ℕ → List (List ℕ) → Type 0
+CoreTail text s ps = (t : Tail text s) × AllCore t.list × (t.list ≡ lexemes_from s false ps)
+
+end_same : (s : ℕ) (qs : List (List ℕ)) → lexeme_of s qs [] Eof ≡ end_lexeme (s + width (joined qs)) (has_line_terminator (joined qs))
+unfolding words
+end_same s qs = ap (λ (j : ℕ). record (end_lexeme (s + width (joined qs)) (has_line_terminator (joined qs))) { to = j }) at_once
+  where
+    at_once : s + width (joined qs) + 0 ≡ s + width (joined qs)
+    at_once = omega arith
+
+word_same : (s : ℕ) (qs : List (List ℕ)) (w rest : List ℕ) (k : Kind) → Told w rest k → is_escaped k w ≡ false → lexeme_of s qs w k ≡ piece_lexeme (s + width (joined qs)) (has_line_terminator (joined qs)) w rest
+word_same s qs w rest k t e = λ i. record { kind = t.0 i; from = s + width (joined qs); to = s + width (joined qs) + width w; newline = has_line_terminator (joined qs); escaped = e i; units = t.1 i }
 
 end_core : (text : List ℕ) (s : ℕ) (qs : List (List ℕ)) (h : Single text s (lexeme_of s qs [] Eof)) → AllCore (tail_end text s (lexeme_of s qs [] Eof) h refl).list
 unfolding words
@@ -183,10 +196,12 @@ end_core text s qs h = subst AllCore (sym (tail_end-list text s (lexeme_of s qs 
 next_core : (text : List ℕ) (s : ℕ) (x : Lexeme) (h : Single text s x) (e : same_kind Eof x.kind ≡ false) (t : Tail text x.to) → core_lexeme x ≡ true → AllCore t.list → AllCore (tail_next text s x h e t).list
 next_core text s x h e t c a = subst AllCore (sym (tail_next-list text s x h e t)) (c, a)
 
-finish : (text : List ℕ) (s : ℕ) (ps : List (List ℕ)) → At text s (joined ps) → Lacks (joined ps) → Ahead (s == 0) ps
-    → ((i : ℕ) (glued : Bool) (qs : List (List ℕ)) → length qs < length ps → are_core glued qs ≡ true → Lacks (joined qs) → At text i (joined qs) → CoreTail text i) → CoreTail text s
-finish text s ps a l (ends qs e t h) rec = let x = at_end text s qs (stands_of qs [] [] a e t) h in (tail_end text s (lexeme_of s qs [] Eof) x refl, end_core text s qs x)
-finish text s ps a l (word qs c cs later e t h f i k m) rec =
+finish : (text : List ℕ) (s : ℕ) (ps : List (List ℕ)) → At text s (joined ps) → Lacks (joined ps) → (a : Ahead (s == 0) ps) → Listed (s == 0) ps a
+    → ((i : ℕ) (glued : Bool) (qs : List (List ℕ)) → length qs < length ps → are_core glued qs ≡ true → Lacks (joined qs) → At text i (joined qs) → CoreTail text i qs) → CoreTail text s ps
+finish text s ps a l (ends qs e t h) g rec =
+    let x = at_end text s qs (stands_of qs [] [] a e t) h in
+    (tail_end text s (lexeme_of s qs [] Eof) x refl, end_core text s qs x, tail_end-list text s (lexeme_of s qs [] Eof) x refl ∙ ap (λ (y : Lexeme). last y) (end_same s qs) ∙ sym (g s false))
+finish text s ps a l (word qs c cs later e t h f i k m) g rec =
     let st = stands_of qs (c ∷ cs) (joined later) a e t in
     let inside = not-true (one_of (code Eof ∷ code RegExp ∷ []) (code i.kind)) i.inside in
     let no_end : same_kind Eof i.kind ≡ false = neither-left (code Eof == code i.kind) (one_of (code RegExp ∷ []) (code i.kind)) inside in
@@ -196,15 +211,20 @@ finish text s ps a l (word qs c cs later e t h f i k m) rec =
     let a3 : At text (s + width (joined qs) + width (c ∷ cs)) (joined later) = at-behind (c ∷ cs) (joined later) a2 in
     let l1 : Lacks (joined qs ++ (c ∷ cs ++ joined later)) = subst (λ (v : List ℕ). Lacks v) e l in
     let l2 = lacks-behind (c ∷ cs) (joined later) (lacks-behind (joined qs) (c ∷ cs ++ joined later) l1) in
+    let y = lexeme_of s qs (c ∷ cs) i.kind in
     let x = at_word text s qs c cs (joined later) st h f i no_regular in
-    let r = rec (s + width (joined qs) + width (c ∷ cs)) (ends_in_glue (c ∷ cs)) later m k l2 a3 in
-    (tail_next text s (lexeme_of s qs (c ∷ cs) i.kind) x no_end r.0, next_core text s (lexeme_of s qs (c ∷ cs) i.kind) x no_end r.0 (both (one_of_kinds core_kinds i.kind) (not (is_escaped i.kind (c ∷ cs))) i.core (rw i.unescaped refl)) r.1)
+    let r = rec (s + width (joined qs) + width (c ∷ cs)) (ends_in_glue (c ∷ cs)) later m k l2 a3 in (
+      tail_next text s y x no_end r.0,
+      next_core text s y x no_end r.0 (both (one_of_kinds core_kinds i.kind) (not (is_escaped i.kind (c ∷ cs))) i.core (rw i.unescaped refl)) r.1,
+      tail_next-list text s y x no_end r.0 ∙ ap (λ (ls : Lexemes). next y ls) r.2
+          ∙ ap (λ (z : Lexeme). next z (lexemes_from (s + width (joined qs) + width (c ∷ cs)) false later)) (word_same s qs (c ∷ cs) (joined later) i.kind g.0 i.unescaped) ∙ sym (g.1 s false),
+    )
 
-build : (text : List ℕ) (n s : ℕ) (glued : Bool) (ps : List (List ℕ)) → length ps ≤ n → are_core glued ps ≡ true → Lacks (joined ps) → At text s (joined ps) → CoreTail text s
-build text zero s glued ps m k l a = finish text s ps a l (ahead (s == 0) glued ps k l) (λ i g qs b _ _ _. absurd (omega arith))
-build text (suc n) s glued ps m k l a = finish text s ps a l (ahead (s == 0) glued ps k l) (λ i g qs b k' l' a'. build text n i g qs (omega arith) k' l' a')
+build : (text : List ℕ) (n s : ℕ) (glued : Bool) (ps : List (List ℕ)) → length ps ≤ n → are_core glued ps ≡ true → Lacks (joined ps) → At text s (joined ps) → CoreTail text s ps
+build text zero s glued ps m k l a = let h = listed (s == 0) glued ps k l in finish text s ps a l h.0 h.1 (λ i g qs b _ _ _. absurd (omega arith))
+build text (suc n) s glued ps m k l a = let h = listed (s == 0) glued ps k l in finish text s ps a l h.0 h.1 (λ i g qs b k' l' a'. build text n i g qs (omega arith) k' l' a')
 
-built : (text : List ℕ) → IsUtf8 text → CoreSource text → CoreTail text 0
+built : (text : List ℕ) → IsUtf8 text → (c : CoreSource text) → CoreTail text 0 c.pieces
 built text u c =
     let a : At text 0 (joined c.pieces) = at_along c.splits (at-start text u) in
     let l : Lacks (joined c.pieces) = subst (λ (v : List ℕ). Lacks v) c.splits (record { open_mark = not-true (occurs (codes "<!--") (chars text)) c.lacks_open; close_mark = not-true (occurs (codes "-->") (chars text)) c.lacks_close }) in
@@ -225,3 +245,10 @@ core_first text u c p y l = let t = built text u c in subst (λ (x : Lexeme). co
     first_of : (ls : Lexemes) → AllCore ls → core_lexeme (here ls) ≡ true
     first_of (last x) a = a
     first_of (next x ls) a = a.0
+
+-- they are the lexemes of its pieces, at every goal
+pub are_pieces : {text : List ℕ} {g : Goal} {ls : Lexemes} → IsUtf8 text → (c : CoreSource text) → Lexed g text ls → ls ≡ piece_lexemes c.pieces
+are_pieces {text} {g} {ls} u c h = let t = built text u c in t.0.only (passing_of g) ls h.lexes h.ends ∙ t.2
+
+pub pieces_lexed : {text : List ℕ} (g : Goal) {ls : Lexemes} → IsUtf8 text → (c : CoreSource text) → ls ≡ piece_lexemes c.pieces → Lexed g text ls
+pieces_lexed {text} g {ls} u c e = let t = built text u c in subst (Lexed g text) (t.2 ∙ sym e) (record { lexes = t.0.lexes (passing_of g); ends = t.0.once })

@@ -5,10 +5,10 @@ use Rattle.std.specs.List.{list_all}
 use Rattle.js_base.specs.declared.kind.Kind.{Kind}
 use Rattle.js_base.specs.declared.kind.Kind.TheVariants.{Decimal, Float, Binary, Octal, Hex, PositiveExponential, NegativeExponential, DecimalBigInt, BinaryBigInt, OctalBigInt, HexBigInt, RegExp, Eof}
 use Rattle.js_base.specs.Kinds.{code, one_of_kinds}
-use Rattle.js_text.specs.Characters.{one_of, is_decimal}
+use Rattle.js_base.specs.part_text.Characters.{one_of, is_decimal}
 use Rattle.js_grammar.specs.Characters.{is_identifier_start, is_identifier_part, begins}
 use Rattle.js_grammar.specs.Longest.{longest, none_longer}
-use Rattle.js_text.specs.Escapes.{in_name, read_from, outside, before_all}
+use Rattle.js_base.specs.part_text.Escapes.{in_name, read_from, outside, before_all}
 use Rattle.js_base.specs.Keywords.{keyword_of}
 use Rattle.js_grammar.specs.Names.{is_plain_name, has_backslash, named, name_of, word_of}
 use Rattle.js_grammar.specs.Numbers.{is_number, stops_number}

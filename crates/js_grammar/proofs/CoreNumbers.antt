@@ -4,7 +4,7 @@ use Rattle.std.specs.Prelude.{is_some}
 use Rattle.std.specs.List.{list_all}
 use Rattle.js_base.specs.declared.kind.Kind.{Kind}
 use Rattle.js_base.specs.declared.kind.Kind.TheVariants.{Decimal}
-use Rattle.js_text.specs.Characters.{one_of, is_decimal}
+use Rattle.js_base.specs.part_text.Characters.{one_of, is_decimal}
 use Rattle.js_base.specs.Texts.{words}
 use Rattle.js_grammar.specs.Characters.{is_identifier_start, begins}
 use Rattle.js_grammar.specs.Longest.{none_longer}
@@ -82,7 +82,7 @@ digit-number c v a b d = rw (a, b, d, number_kind) refl
 no-dot : (c : ℕ) → is_decimal c ≡ true → (c == 46) ≡ false
 no-dot c h = not-true (c == 46) (ascii is_decimal (λ a. not (a == 46)) c refl (decimal-ascii c h) h)
 
-number-itself : (c : ℕ) (cs : List ℕ) → is_core_number (c ∷ cs) ≡ true → number_kind (c ∷ cs) ≡ Some Decimal
+pub number-itself : (c : ℕ) (cs : List ℕ) → is_core_number (c ∷ cs) ≡ true → number_kind (c ∷ cs) ≡ Some Decimal
 number-itself c cs h = go (c == 48) refl
   where
     d : is_decimal c ≡ true

@@ -1,7 +1,7 @@
 -- Characters without a backslash stand for themselves, in a name and in a string.
 use Rattle.std.proofs.Common.{◌≡◌, ◌<◌, ◌≤◌, ℕ, ◌==◌, Bool, true, false, List, [], ◌∷◌, ◌++◌, refl, sym, ap, subst, ◌∙◌, not, ◌&&◌, ◌||◌, Option, Some, None}
 use Rattle.std.specs.List.{list_all}
-use Rattle.js_text.specs.Escapes.{Where, Stage, Step, outside, backslash, go, plainly, step, read_from, before_all, line_feeds, line_feeds_after}
+use Rattle.js_base.specs.part_text.Escapes.{Where, Stage, Step, outside, backslash, go, plainly, step, read_from, before_all, line_feeds, line_feeds_after}
 use Rattle.js_grammar.proofs.LongestLemmas.{both-left, both-right, not-true}
 
 abbrev pub no_backslash : ℕ → Bool

@@ -7,7 +7,7 @@ use Rattle.js_base.specs.declared.kind.Kind.{Kind}
 use Rattle.js_base.specs.declared.kind.Kind.TheVariants.{LCurly, RCurly, At, Slash, SlashEq, PrivateIdentifier, Eof, RegExp}
 use Rattle.js_base.specs.Kinds.{code, same_kind, one_of_kinds}
 use Rattle.js_base.specs.Texts.{text_of, punctuators, words}
-use Rattle.js_text.specs.Characters.{one_of, is_decimal}
+use Rattle.js_base.specs.part_text.Characters.{one_of, is_decimal}
 use Rattle.js_grammar.specs.Characters.{begins}
 use Rattle.js_grammar.specs.Longest.{none_longer}
 use Rattle.js_grammar.specs.Lexemes.{plain_kind, lexemes_in, division, a_punctuator, Opening, opening, may_precede, punctuator_kind, is_word}
@@ -92,3 +92,6 @@ plain_punctuator c cs rest h n g =
       core = found-all (λ k. bytes_eq (text_of k) (c ∷ cs) && may_precede k rest) (one_of_kinds kinds_of_core) core_punctuators m.kind m.listed refl;
       unescaped = and_left (is_word m.kind || same_kind PrivateIdentifier m.kind) (has_backslash (c ∷ cs)) (not-true (is_word m.kind || same_kind PrivateIdentifier m.kind) (found-all (λ k. bytes_eq (text_of k) (c ∷ cs) && may_precede k rest) (λ k. not (is_word k || same_kind PrivateIdentifier k)) core_punctuators m.kind m.listed refl));
     }
+
+pub mark-kind : (c : ℕ) (cs rest : List ℕ) (m : IsMark c cs rest) → plain_kind (c ∷ cs) rest ≡ Some m.kind
+mark-kind c cs rest m = plain_of a_punctuator c cs rest (itself_opens c cs rest m) ∙ core_kinds c cs rest (both-left (is_core_first c) (opens (opening c false) a_punctuator) m.mark) ∙ m.listed

@@ -4,12 +4,12 @@ use Rattle.std.specs.Prelude.{is_some}
 use Rattle.std.specs.List.{list_all}
 use Rattle.std.proofs.lemmas.Bool.{eqb-true, and_right, and_left, not_from_false}
 use Rattle.js_base.specs.declared.kind.Kind.TheVariants.{Str}
-use Rattle.js_text.specs.Characters.{one_of, is_decimal}
+use Rattle.js_base.specs.part_text.Characters.{one_of, is_decimal}
 use Rattle.js_base.specs.Texts.{words}
 use Rattle.js_grammar.specs.Characters.{begins}
 use Rattle.js_grammar.specs.Longest.{none_longer}
-use Rattle.js_text.specs.Escapes.{in_string, code_points, line_feeds, line_feeds_after}
-use Rattle.js_text.specs.Decoding.{string_points}
+use Rattle.js_base.specs.part_text.Escapes.{in_string, code_points, code_units, line_feeds, line_feeds_after}
+use Rattle.js_base.specs.part_text.Decoding.{string_points, string_units}
 use Rattle.js_grammar.specs.Strings.{nothing_left, closes_string, string_inside, string_kind}
 use Rattle.js_grammar.specs.Lexemes.{plain_kind, lexemes_in, division, a_string, opening}
 use Rattle.js_grammar.specs.CoreTexts.{is_core_string, closes_core_string}
@@ -145,3 +145,18 @@ pub plain_string : (q : ℕ) (cs rest : List ℕ) → is_core_string (q ∷ cs) 
 plain_string q cs rest h =
     let b = body_of q cs (both-right (one_of (34 ∷ 39 ∷ []) q) (closes_core_string q cs) h) in
     subst (λ (v : List ℕ). IsPlain (q ∷ v) rest) (sym b.is) (plain_body q b.body rest (both-left (one_of (34 ∷ 39 ∷ []) q) (closes_core_string q cs) h) b.plain)
+
+pub string-kind : (q : ℕ) (cs rest : List ℕ) → is_core_string (q ∷ cs) ≡ true → plain_kind (q ∷ cs) rest ≡ Some Str
+string-kind q cs rest h =
+    let b = body_of q cs (both-right (one_of (34 ∷ 39 ∷ []) q) (closes_core_string q cs) h) in
+    let o = both-left (one_of (34 ∷ 39 ∷ []) q) (closes_core_string q cs) h in
+    subst (λ (v : List ℕ). plain_kind (q ∷ v) rest ≡ Some Str) (sym b.is) (plain_of a_string q (b.body ++ q ∷ []) rest (quote_opens q (begins is_decimal (b.body ++ q ∷ [])) o) ∙ string-itself q b.body o b.plain)
+
+-- it stands for what is between the quotes
+pub string-units : (q : ℕ) (cs : List ℕ) → is_core_string (q ∷ cs) ≡ true → string_units (string_inside (q ∷ cs)) ≡ Some (code_units (string_inside (q ∷ cs)))
+string-units q cs h =
+    let b = body_of q cs (both-right (one_of (34 ∷ 39 ∷ []) q) (closes_core_string q cs) h) in
+    let g : line_feeds b.body ≡ b.body = ap line_feeds (sym (append-nil b.body)) ∙ feeds-append b.body [] (no_cr q b.body b.plain) ∙ append-nil b.body in
+    let p : string_points b.body ≡ Some b.body = ap (λ (v : List ℕ). code_points in_string v) g ∙ points-plain in_string b.body (no_slash q b.body b.plain) in
+    let i : string_inside (q ∷ cs) ≡ b.body = ap (λ (v : List ℕ). string_inside (q ∷ v)) b.is ∙ inside-of q b.body in
+    ap (λ (o : Option (List ℕ)). Rattle.std.specs.Prelude.option_map code_units o) (subst (λ (v : List ℕ). string_points v ≡ Some v) (sym i) p)

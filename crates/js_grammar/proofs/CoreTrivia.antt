@@ -1,12 +1,12 @@
 -- The trivia of a core text, and the lexeme behind it.
-use Rattle.std.proofs.Common.{◌≡◌, ◌<◌, ℕ, ◌==◌, Bool, true, false, List, [], ◌∷◌, ◌++◌, refl, sym, ap, subst, ◌∙◌, not, ◌&&◌, ◌||◌, length, arith, nat_lt}
+use Rattle.std.proofs.Common.{◌≡◌, ◌<◌, ℕ, ◌+◌, ◌==◌, Bool, true, false, List, [], ◌∷◌, ◌++◌, refl, sym, ap, subst, ◌∙◌, not, ◌&&◌, ◌||◌, length, arith, nat_lt}
 use Rattle.std.proofs.lemmas.Bool.{and_right, and_left}
 use Rattle.std.specs.Prelude.{codes, bytes_eq}
 use Rattle.std.specs.List.{list_all}
 use Rattle.js_base.specs.Kinds.{one_of_kinds}
 use Rattle.js_base.specs.Texts.{text_of}
-use Rattle.js_text.specs.Characters.{one_of, is_decimal, is_line_terminator}
-use Rattle.js_grammar.specs.Characters.{is_identifier_start, is_white_space, has_line_terminator, begins}
+use Rattle.js_base.specs.part_text.Characters.{one_of, is_decimal, is_line_terminator}
+use Rattle.js_grammar.specs.Characters.{width, is_identifier_start, is_white_space, has_line_terminator, begins}
 use Rattle.js_grammar.specs.Longest.{longest, none_longer, none_begins, joined}
 use Rattle.js_grammar.specs.Trivia.{after, within_line, closes_comment, is_blank, is_single_line_comment, is_multi_line_comment, is_html_open, is_html_close, is_html_comment, is_trivia_piece, are_trivia, lack_html_comments}
 use Rattle.js_base.specs.Keywords.{keyword_of}
@@ -14,6 +14,8 @@ use Rattle.js_grammar.specs.Names.{is_plain_name}
 use Rattle.js_grammar.specs.Lexemes.{may_precede}
 use Rattle.js_grammar.specs.CoreTexts.{is_core_piece, is_core_blank, is_ascii_name, is_core_number, is_core_string, is_core_punctuator, core_punctuators, core_words, is_core_use, are_core, ends_in_glue, is_glue, starts, occurs}
 use Rattle.js_grammar.specs.Strings.{nothing_left}
+use Rattle.js_grammar.specs.Grammar.{last, next}
+use Rattle.js_grammar.specs.CorePieces.{piece_lexeme, end_lexeme, lexemes_from}
 use Rattle.js_grammar.proofs.LongestLemmas.{both-left, both-right, both, not-true}
 use Rattle.js_grammar.proofs.Finding.{neither, neither-left, neither-right, member, found-all}
 use Rattle.js_grammar.proofs.CoreLemmas.{none_longer-from, opens}
@@ -22,6 +24,7 @@ use Rattle.js_grammar.proofs.CoreNames.{Before, IsPlain, ascii, core_ascii, plai
 use Rattle.js_grammar.proofs.CoreNumbers.{nothing-nil, plain_number}
 use Rattle.js_grammar.proofs.CorePunctuators.{plain_punctuator}
 use Rattle.js_grammar.proofs.CoreStrings.{plain_string}
+use Rattle.js_grammar.proofs.CoreTold.{Told, told_name, told_number, told_string, told_punctuator}
 
 abbrev pub blanks : List ℕ
 blanks = 32 ∷ 9 ∷ 13 ∷ 10 ∷ []
@@ -164,14 +167,14 @@ punctuator_first c cs rest m = subst (λ (v : List ℕ). first_passes is_lexeme_
 -- Behind a place: the trivia, and the end or a lexeme and the pieces behind it.
 pub data Ahead (first : Bool) (ps : List (List ℕ)) : Type 0 where
   ends : (qs : List (List ℕ)) → joined ps ≡ joined qs ++ [] → are_trivia first qs [] ≡ true → lack_html_comments qs ≡ true → Ahead first ps
-  word : (qs : List (List ℕ)) (c : ℕ) (cs : List ℕ) (next : List (List ℕ)) → joined ps ≡ joined qs ++ (c ∷ cs ++ joined next) → are_trivia first qs (c ∷ cs ++ joined next) ≡ true → lack_html_comments qs ≡ true
-      → is_core_first c ≡ true → IsPlain (c ∷ cs) (joined next) → are_core (ends_in_glue (c ∷ cs)) next ≡ true → length next < length ps → Ahead first ps
+  word : (qs : List (List ℕ)) (c : ℕ) (cs : List ℕ) (later : List (List ℕ)) → joined ps ≡ joined qs ++ (c ∷ cs ++ joined later) → are_trivia first qs (c ∷ cs ++ joined later) ≡ true → lack_html_comments qs ≡ true
+      → is_core_first c ≡ true → IsPlain (c ∷ cs) (joined later) → are_core (ends_in_glue (c ∷ cs)) later ≡ true → length later < length ps → Ahead first ps
 
 behind_blank : (first : Bool) (c : ℕ) (ps : List (List ℕ)) → one_of blanks c ≡ true → Ahead (first || has_line_terminator (c ∷ [])) ps → Ahead first ((c ∷ []) ∷ ps)
 behind_blank first c ps h (ends qs e t l) = ends ((c ∷ []) ∷ qs) (ap (λ (v : List ℕ). c ∷ v) e) (both (longest (is_trivia_piece first) (c ∷ []) (joined qs ++ [])) (are_trivia (first || has_line_terminator (c ∷ [])) qs []) (blank_piece first c (joined qs ++ []) h) t) (both (not (is_html_comment (c ∷ []))) (lack_html_comments qs) (rw (blank_no_html c h) refl) l)
-behind_blank first c ps h (word qs d ds next e t l f p k m) =
-    word ((c ∷ []) ∷ qs) d ds next (ap (λ (v : List ℕ). c ∷ v) e)
-    (both (longest (is_trivia_piece first) (c ∷ []) (joined qs ++ (d ∷ ds ++ joined next))) (are_trivia (first || has_line_terminator (c ∷ [])) qs (d ∷ ds ++ joined next)) (blank_piece first c (joined qs ++ (d ∷ ds ++ joined next)) h) t)
+behind_blank first c ps h (word qs d ds later e t l f p k m) =
+    word ((c ∷ []) ∷ qs) d ds later (ap (λ (v : List ℕ). c ∷ v) e)
+    (both (longest (is_trivia_piece first) (c ∷ []) (joined qs ++ (d ∷ ds ++ joined later))) (are_trivia (first || has_line_terminator (c ∷ [])) qs (d ∷ ds ++ joined later)) (blank_piece first c (joined qs ++ (d ∷ ds ++ joined later)) h) t)
     (both (not (is_html_comment (c ∷ []))) (lack_html_comments qs) (rw (blank_no_html c h) refl) l) f p k (omega arith)
 
 at_word : (first : Bool) (c : ℕ) (cs : List ℕ) (ps : List (List ℕ)) → Lacks (c ∷ cs ++ joined ps) → is_lexeme_first c ≡ true → IsPlain (c ∷ cs) (joined ps) → are_core (ends_in_glue (c ∷ cs)) ps ≡ true → Ahead first ((c ∷ cs) ∷ ps)
@@ -181,10 +184,70 @@ at_word first c cs ps l f p k =
     (neither-left (starts (codes "-->") (c ∷ cs ++ joined ps)) (occurs (codes "-->") (cs ++ joined ps)) l.close_mark))
     refl (both-left (is_core_first c) (not (is_white_space c || is_line_terminator c)) f) p k (omega arith)
 
-pub ahead : (first glued : Bool) (ps : List (List ℕ)) → are_core glued ps ≡ true → Lacks (joined ps) → Ahead first ps
-ahead first glued [] h l = ends [] refl refl refl
-ahead first glued ([] ∷ ps) h l = absurd (empty_piece glued ps h)
-ahead first glued ((c ∷ cs) ∷ ps) h l = go (piece_of glued c cs ps h) (λ f. ahead f (ends_in_glue (c ∷ cs)) ps sp.2 (lacks-behind (c ∷ cs) (joined ps) l))
+-- What the pieces of a core text are, from a place on: the trivia and the end, or the trivia, a lexeme and what is behind it.
+abbrev pub Listed : (first : Bool) (ps : List (List ℕ)) → Ahead first ps → Type 0
+Listed first ps (ends qs e t h) = (s : ℕ) (nl : Bool) → lexemes_from s nl ps ≡ last (end_lexeme (s + width (joined qs)) (nl || has_line_terminator (joined qs)))
+Listed first ps (word qs c cs later e t h f i k m) =
+    Told (c ∷ cs) (joined later) i.kind × ((s : ℕ) (nl : Bool) → lexemes_from s nl ps ≡ next (piece_lexeme (s + width (joined qs)) (nl || has_line_terminator (joined qs)) (c ∷ cs) (joined later)) (lexemes_from (s + width (joined qs) + width (c ∷ cs)) false later))
+
+blank_step : (s : ℕ) (nl : Bool) (c : ℕ) (ps : List (List ℕ)) → one_of blanks c ≡ true → lexemes_from s nl ((c ∷ []) ∷ ps) ≡ lexemes_from (s + width (c ∷ [])) (nl || has_line_terminator (c ∷ [])) ps
+blank_step s nl c ps h = ap (λ (b : Bool). elim b [ true ↦ lexemes_from (s + width (c ∷ [])) (nl || has_line_terminator (c ∷ [])) ps | false ↦ next (piece_lexeme s nl (c ∷ []) (joined ps)) (lexemes_from (s + width (c ∷ [])) false ps) ]) (both (one_of blanks c) true h refl)
+
+any_of : (a b d : Bool) → ((a || (b || false)) || d) ≡ (a || (b || d))
+any_of true b d = refl
+any_of false true d = refl
+any_of false false d = refl
+
+any_none : (a : Bool) → (a || false) ≡ a
+any_none true = refl
+any_none false = refl
+
+behind : (s c : ℕ) (qs : List (List ℕ)) → s + width (c ∷ []) + width (joined qs) ≡ s + width (joined ((c ∷ []) ∷ qs))
+behind s c qs = omega arith
+
+behind_listed : (first : Bool) (c : ℕ) (ps : List (List ℕ)) (h : one_of blanks c ≡ true) (a : Ahead (first || has_line_terminator (c ∷ [])) ps) → Listed (first || has_line_terminator (c ∷ [])) ps a → Listed first ((c ∷ []) ∷ ps) (behind_blank first c ps h a)
+unfolding behind_blank
+behind_listed first c ps h (ends qs e t l) g = λ s nl. blank_step s nl c ps h ∙ g (s + width (c ∷ [])) (nl || has_line_terminator (c ∷ []))
+    ∙ ap (λ (i : ℕ). last (end_lexeme i ((nl || has_line_terminator (c ∷ [])) || has_line_terminator (joined qs)))) (behind s c qs)
+    ∙ ap (λ (n : Bool). last (end_lexeme (s + width (joined ((c ∷ []) ∷ qs))) n)) (any_of nl (is_line_terminator c) (has_line_terminator (joined qs)))
+behind_listed first c ps h (word qs d ds later e t l f p k m) g = (
+  g.0,
+  λ s nl. blank_step s nl c ps h ∙ g.1 (s + width (c ∷ [])) (nl || has_line_terminator (c ∷ []))
+      ∙ ap (λ (i : ℕ). next (piece_lexeme i ((nl || has_line_terminator (c ∷ [])) || has_line_terminator (joined qs)) (d ∷ ds) (joined later)) (lexemes_from (i + width (d ∷ ds)) false later)) (behind s c qs)
+      ∙ ap (λ (n : Bool). next (piece_lexeme (s + width (joined ((c ∷ []) ∷ qs))) n (d ∷ ds) (joined later)) (lexemes_from (s + width (joined ((c ∷ []) ∷ qs)) + width (d ∷ ds)) false later)) (any_of nl (is_line_terminator c) (has_line_terminator (joined qs))),
+)
+
+no_blank : (c : ℕ) (cs : List ℕ) → is_lexeme_first c ≡ true → is_core_blank (c ∷ cs) ≡ false
+no_blank c cs f = go (one_of blanks c) refl
+  where
+    go : (b : Bool) → one_of blanks c ≡ b → (one_of blanks c && nothing_left cs) ≡ false
+    go false e = and_left (one_of blanks c) (nothing_left cs) e
+    go true e =
+        let w : (is_white_space c || is_line_terminator c) ≡ true = member (λ a. is_white_space a || is_line_terminator a) blanks c e refl in
+        let n = not-true (is_white_space c || is_line_terminator c) (both-right (is_core_first c) (not (is_white_space c || is_line_terminator c)) f) in cc
+
+word_listed : (first : Bool) (c : ℕ) (cs : List ℕ) (ps : List (List ℕ)) (l : Lacks (c ∷ cs ++ joined ps)) (f : is_lexeme_first c ≡ true) (p : IsPlain (c ∷ cs) (joined ps)) (k : are_core (ends_in_glue (c ∷ cs)) ps ≡ true) → Told (c ∷ cs) (joined ps) p.kind → Listed first ((c ∷ cs) ∷ ps) (at_word first c cs ps l f p k)
+unfolding at_word
+word_listed first c cs ps l f p k t = (
+  t,
+  λ s nl. ap (λ (b : Bool). elim b [ true ↦ lexemes_from (s + width (c ∷ cs)) (nl || has_line_terminator (c ∷ cs)) ps | false ↦ next (piece_lexeme s nl (c ∷ cs) (joined ps)) (lexemes_from (s + width (c ∷ cs)) false ps) ]) (no_blank c cs f)
+      ∙ ap (λ (i : ℕ). next (piece_lexeme i nl (c ∷ cs) (joined ps)) (lexemes_from (i + width (c ∷ cs)) false ps)) (at_once s)
+      ∙ ap (λ (n : Bool). next (piece_lexeme (s + 0) n (c ∷ cs) (joined ps)) (lexemes_from (s + 0 + width (c ∷ cs)) false ps)) (sym (any_none nl)),
+)
+  where
+    at_once : (s : ℕ) → s ≡ s + 0
+    at_once s = omega arith
+
+end_listed : (first : Bool) (s : ℕ) (nl : Bool) → lexemes_from s nl [] ≡ last (end_lexeme (s + 0) (nl || false))
+end_listed first s nl = ap (λ (i : ℕ). last (end_lexeme i nl)) at_once ∙ ap (λ (n : Bool). last (end_lexeme (s + 0) n)) (sym (any_none nl))
+  where
+    at_once : s ≡ s + 0
+    at_once = omega arith
+
+pub listed : (first glued : Bool) (ps : List (List ℕ)) → are_core glued ps ≡ true → Lacks (joined ps) → (a : Ahead first ps) × Listed first ps a
+listed first glued [] h l = (ends [] refl refl refl, λ s nl. end_listed first s nl)
+listed first glued ([] ∷ ps) h l = absurd (empty_piece glued ps h)
+listed first glued ((c ∷ cs) ∷ ps) h l = go (piece_of glued c cs ps h) (λ f. listed f (ends_in_glue (c ∷ cs)) ps sp.2 (lacks-behind (c ∷ cs) (joined ps) l))
   where
     sp : Split glued (c ∷ cs) ps
     sp = split glued (c ∷ cs) ps h
@@ -198,18 +261,29 @@ ahead first glued ((c ∷ cs) ∷ ps) h l = go (piece_of glued c cs ps h) (λ f.
     first_of : (t : ℕ → Bool) → t c ≡ true → Rattle.js_grammar.proofs.CoreLemmas.all_below 128 (λ a. Rattle.js_grammar.proofs.CoreLemmas.implies (t a) (is_lexeme_first a)) ≡ true → is_core_first c ≡ true → is_lexeme_first c ≡ true
     first_of t x a f = ascii t is_lexeme_first c a (core_ascii c f) x
 
-    go : Sort c cs (joined ps) → ((f : Bool) → Ahead f ps) → Ahead first ((c ∷ cs) ∷ ps)
+    by_word : is_lexeme_first c ≡ true → (p : IsPlain (c ∷ cs) (joined ps)) → Told (c ∷ cs) (joined ps) p.kind → (a : Ahead first ((c ∷ cs) ∷ ps)) × Listed first ((c ∷ cs) ∷ ps) a
+    by_word f p t = (at_word first c cs ps l f p sp.2, word_listed first c cs ps l f p sp.2 t)
+
+    go : Sort c cs (joined ps) → ((f : Bool) → (a : Ahead f ps) × Listed f ps a) → (a : Ahead first ((c ∷ cs) ∷ ps)) × Listed first ((c ∷ cs) ∷ ps) a
     go (blank b) r =
         let n = nothing-nil cs (both-right (one_of blanks c) (nothing_left cs) b) in
-        subst (λ (v : List ℕ). Ahead first ((c ∷ v) ∷ ps)) (sym n) (behind_blank first c ps (both-left (one_of blanks c) (nothing_left cs) b) (r (first || has_line_terminator (c ∷ []))))
-    go (name n) r = at_word first c cs ps l
-        (first_of is_identifier_start (both-left (is_identifier_start c) (list_all Rattle.js_grammar.specs.Characters.is_identifier_part cs) (both-left (is_plain_name (c ∷ cs)) (list_all (λ d. nat_lt d 128) (c ∷ cs)) n)) refl (sort_first c cs (joined ps) (name n)))
-        (plain_name c cs (joined ps) n more (use_name glued c cs (joined ps) n sp.1) bf) sp.2
-    go (number n) r = at_word first c cs ps l
-        (first_of is_decimal (both-left (is_decimal c) (list_all is_decimal cs && (not (c == 48) || nothing_left cs)) n) refl (sort_first c cs (joined ps) (number n)))
-        (plain_number c cs (joined ps) n (not-true (begins is_glue (joined ps)) (both-right (not glued) (not (begins is_glue (joined ps))) (use_number glued c cs (joined ps) n sp.1))) bf) sp.2
-    go (string s) r = at_word first c cs ps l
-        (member is_lexeme_first (34 ∷ 39 ∷ []) c (both-left (one_of (34 ∷ 39 ∷ []) c) (Rattle.js_grammar.specs.CoreTexts.closes_core_string c cs) s) refl)
-        (plain_string c cs (joined ps) s) sp.2
-    go (punctuator p) r = at_word first c cs ps l (punctuator_first c cs (joined ps) (punctuator_mark c cs (joined ps) p))
-        (plain_punctuator c cs (joined ps) p more (λ g. next_no_digit ps (subst (λ (b : Bool). are_core b ps ≡ true) g sp.2))) sp.2
+        let o = both-left (one_of blanks c) (nothing_left cs) b in
+        let x = r (first || has_line_terminator (c ∷ [])) in
+        subst (λ (v : List ℕ). (a : Ahead first ((c ∷ v) ∷ ps)) × Listed first ((c ∷ v) ∷ ps) a) (sym n) (behind_blank first c ps o x.0, behind_listed first c ps o x.0 x.1)
+    go (name n) r =
+        let u = use_name glued c cs (joined ps) n sp.1 in
+        let p = plain_name c cs (joined ps) n more u bf in
+        by_word (first_of is_identifier_start (both-left (is_identifier_start c) (list_all Rattle.js_grammar.specs.Characters.is_identifier_part cs) (both-left (is_plain_name (c ∷ cs)) (list_all (λ d. nat_lt d 128) (c ∷ cs)) n)) refl (sort_first c cs (joined ps) (name n))) p (told_name c cs (joined ps) n u p)
+    go (number n) r =
+        let p = plain_number c cs (joined ps) n (not-true (begins is_glue (joined ps)) (both-right (not glued) (not (begins is_glue (joined ps))) (use_number glued c cs (joined ps) n sp.1))) bf in
+        by_word (first_of is_decimal (both-left (is_decimal c) (list_all is_decimal cs && (not (c == 48) || nothing_left cs)) n) refl (sort_first c cs (joined ps) (number n))) p (told_number c cs (joined ps) n p)
+    go (string s) r =
+        let p = plain_string c cs (joined ps) s in
+        by_word (member is_lexeme_first (34 ∷ 39 ∷ []) c (both-left (one_of (34 ∷ 39 ∷ []) c) (Rattle.js_grammar.specs.CoreTexts.closes_core_string c cs) s) refl) p (told_string c cs (joined ps) s p)
+    go (punctuator q) r =
+        let m = punctuator_mark c cs (joined ps) q in
+        let p = plain_punctuator c cs (joined ps) q more (λ g. next_no_digit ps (subst (λ (b : Bool). are_core b ps ≡ true) g sp.2)) in
+        by_word (punctuator_first c cs (joined ps) m) p (told_punctuator c cs (joined ps) m p)
+
+pub ahead : (first glued : Bool) (ps : List (List ℕ)) → are_core glued ps ≡ true → Lacks (joined ps) → Ahead first ps
+ahead first glued ps h l = (listed first glued ps h l).0

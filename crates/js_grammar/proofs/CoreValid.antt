@@ -7,7 +7,6 @@ use Rattle.js_grammar.specs.Grammar.{Lexemes, last, next, Derives}
 use Rattle.js_grammar.specs.Productions.{Flags, Program, at}
 use Rattle.js_grammar.specs.Table.{rule}
 use Rattle.js_grammar.specs.CoreGrammar.{core_kinds, core_rule}
-use Rattle.js_grammar.specs.Lexed.{Lexed}
 use Rattle.js_grammar.specs.Settings.{Goal, script}
 use Rattle.js_grammar.specs.Options.{Options, program_flags}
 use Rattle.js_grammar.specs.TreeForms.{without_pure}
@@ -18,16 +17,16 @@ use Rattle.js_grammar.specs.Readings.{IsWhole, whole_by}
 use Rattle.js_grammar.specs.TableLaws.{begins_unbuilt, BeginNoUnbuilt}
 use Rattle.js_grammar.proofs.BuiltLines.{in_whole, by_built}
 use Rattle.js_grammar.proofs.CoreDerivations.{core_derives, every_at}
-use Rattle.js_grammar.proofs.CoreLexed.{core_text, core_lexemes}
+use Rattle.js_grammar.proofs.CoreLexed.{core_lexemes, are_pieces, pieces_lexed}
 use Rattle.js_grammar.proofs.CoreParameters.{same_parameters}
 use Rattle.js_grammar.proofs.CoreTrees.{derived_plain, derived_spared, early_spared, record_spared, pure_plain}
 
 -- from the core grammar under some parameters to the one that is built under others, and back
 pub to_whole : {f g : Flags} → SameForCore f g → (t : Tree) {i j : ℕ} {ls rest : Lexemes} → AllCore ls → Derives core_rule (at Program f) t i ls j rest → Derives rule (at Program g) t i ls j rest
-to_whole {f} {g} s t {i} {j} {ls} {rest} c d = (core_derives (at Program g) t i j ls rest c).1 (same_parameters (at Program f) (at Program g) (refl, refl, λ k. record g { in_ = sym s.in_ k; v8 = sym s.v8 k; wide = sym s.wide k }) t c d)
+to_whole {f} {g} s t {i} {j} {ls} {rest} c d = (core_derives (at Program g) t i j ls rest refl c).1 (same_parameters (at Program f) (at Program g) (refl, refl, λ k. record g { in_ = sym s.in_ k; v8 = sym s.v8 k; wide = sym s.wide k }) t c d)
 
 pub to_core : {f g : Flags} → SameForCore f g → (t : Tree) {i j : ℕ} {ls rest : Lexemes} → AllCore ls → Derives rule (at Program f) t i ls j rest → Derives core_rule (at Program g) t i ls j rest
-to_core {f} {g} s t {i} {j} {ls} {rest} c d = same_parameters (at Program f) (at Program g) (refl, refl, λ k. record g { in_ = sym s.in_ k; v8 = sym s.v8 k; wide = sym s.wide k }) t c ((core_derives (at Program f) t i j ls rest c).0 d)
+to_core {f} {g} s t {i} {j} {ls} {rest} c d = same_parameters (at Program f) (at Program g) (refl, refl, λ k. record g { in_ = sym s.in_ k; v8 = sym s.v8 k; wide = sym s.wide k }) t c ((core_derives (at Program f) t i j ls rest refl c).0 d)
 
 -- no core lexeme begins a line that isn't built
 begin_no_unbuilt : (ls : Lexemes) → AllCore ls → BeginNoUnbuilt ls
@@ -35,14 +34,10 @@ begin_no_unbuilt (last x) c = every_at (λ k. not (begins_unbuilt k)) core_kinds
 begin_no_unbuilt (next x ls) c = (every_at (λ k. not (begins_unbuilt k)) core_kinds x.kind (and_parts _ _ c.0).0 refl, begin_no_unbuilt ls c.1)
 
 pub core_in_whole : CoreDerivations
-core_in_whole n t i j ls rest c = let both = core_derives n t i j ls rest c in (λ d. both.0 (by_built n t (begin_no_unbuilt ls c) d), λ d. in_whole n t (both.1 d))
+core_in_whole n t i j ls rest h c = let both = core_derives n t i j ls rest h c in (λ d. both.0 (by_built n t (begin_no_unbuilt ls c) d), λ d. in_whole n t (both.1 d))
 
 pub core_parameters : CoreParameters
 core_parameters f g t i j ls rest s c d = in_whole (at Program g) t (to_whole (record { in_ = refl; v8 = refl; wide = refl }) t c (to_core s t c (by_built (at Program f) t (begin_no_unbuilt ls c) d)))
-
--- the lexemes of a core text at one goal are those at another
-pub lexed_at : {text : List ℕ} {g : Goal} (h : Goal) {ls : Lexemes} → IsUtf8 text → CoreSource text → Lexed g text ls → Lexed h text ls
-lexed_at {text} {g} h {ls} u s l = let one = core_text text u s in subst (Lexed h text) (sym (one.only g ls l)) (one.lexed h)
 
 module _ {text : List ℕ} (goal : Goal) (o : Options) (u : IsUtf8 text) (s : CoreSource text) where
   whole : (t : Tree) → IsReading text o.allow_v8 (without_pure t) → IsWhole Program text goal o t
@@ -52,10 +47,10 @@ module _ {text : List ℕ} (goal : Goal) (o : Options) (u : IsUtf8 text) (s : Co
         short = s.short;
         derived = record {
           lexemes = r.lexemes;
-          lexed = lexed_at goal u s r.lexed;
+          lexed = pieces_lexed goal u r.core r.lexed;
           end = r.end;
           final = r.final;
-          derived = in_whole (at Program (program_flags goal o)) (without_pure t) (to_whole (record { in_ = refl; v8 = refl; wide = refl }) (without_pure t) (core_lexemes text u s script r.lexemes r.lexed) r.derived);
+          derived = in_whole (at Program (program_flags goal o)) (without_pure t) (to_whole (record { in_ = refl; v8 = refl; wide = refl }) (without_pure t) (core_lexemes text u s script r.lexemes (pieces_lexed script u r.core r.lexed)) r.derived);
         };
         early = early_spared text t h;
         exports = record_spared text t h;
@@ -65,7 +60,7 @@ module _ {text : List ℕ} (goal : Goal) (o : Options) (u : IsUtf8 text) (s : Co
   read t w = let d = w.derived in record {
     core = s;
     lexemes = d.lexemes;
-    lexed = lexed_at script u s d.lexed;
+    lexed = are_pieces u s d.lexed;
     end = d.end;
     final = d.final;
     derived = let c = core_lexemes text u s goal d.lexemes d.lexed in to_core (record { in_ = refl; v8 = refl; wide = refl }) (without_pure t) c (by_built (at Program (program_flags goal o)) (without_pure t) (begin_no_unbuilt d.lexemes c) d.derived);

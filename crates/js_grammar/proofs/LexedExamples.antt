@@ -7,7 +7,7 @@ use Rattle.js_base.specs.declared.kind.Kind.TheVariants.{Await, Colon, Decimal, 
 use Rattle.js_base.specs.Texts.{words, punctuators}
 use Rattle.js_base.specs.Keywords.{keyword_of}
 use Rattle.js_grammar.specs.Grammar.{Lexeme, Lexemes, last, next, here}
-use Rattle.js_text.specs.Characters.{one_of}
+use Rattle.js_base.specs.part_text.Characters.{one_of}
 use Rattle.js_grammar.specs.Longest.{longest, none_longer}
 use Rattle.js_grammar.specs.Lexed.{Lexes}
 use Rattle.js_grammar.specs.Lexemes.{LexicalGoal, division, regular_expression, template_tail, hashbang, lexemes_in, kind_in}

@@ -11,7 +11,7 @@ use Rattle.js_grammar.specs.Longest.{longest, none_begins}
 use Rattle.js_grammar.specs.Trivia.{are_trivia, is_trivia_piece, is_irregular}
 use Rattle.js_grammar.specs.Names.{name_kind, name_of, private_kind}
 use Rattle.js_grammar.specs.Numbers.{number_kind, stops_number, has_separator}
-use Rattle.js_text.specs.Decoding.{string_units, cooked, raw_text}
+use Rattle.js_base.specs.part_text.Decoding.{string_units, cooked, raw_text}
 use Rattle.js_grammar.specs.Strings.{string_kind, string_inside}
 use Rattle.js_grammar.specs.Templates.{template_kind, template_tail_kind, template_inside}
 use Rattle.js_grammar.specs.RegularExpressions.{regular_expression_kind, flags, are_flags}

@@ -1,5 +1,5 @@
 -- Small texts, and where diagnostics of them have no mark.
-use Rattle.std.proofs.Common.{ℕ, ◌+◌, ◌≡◌, ◌⊎◌, Bool, true, false, not, List, [], ◌∷◌, ◌++◌, Option, Some, None, inl, inr, refl, sym, ap, subst, ◌∙◌, arith}
+use Rattle.std.proofs.Common.{ℕ, ◌≡◌, ◌⊎◌, true, false, not, List, [], ◌∷◌, Some, None, inl, inr, refl, sym, ap, subst, ◌∙◌, arith}
 use Rattle.std.proofs.lemmas.Bool.{false≢true}
 use Rattle.std.specs.Prelude.{codes, IsTrue}
 use Rattle.std.specs.Str.{chars}
@@ -9,7 +9,7 @@ use Rattle.js_base.specs.declared.kind.Kind.TheVariants.{LCurly, Comma, Colon, I
 use Rattle.js_base.specs.declared.span.Span.{Span}
 use Rattle.js_base.specs.Keywords.{keyword_of}
 use Rattle.js_base.specs.Texts.{words, punctuators}
-use Rattle.js_text.specs.Characters.{one_of}
+use Rattle.js_base.specs.part_text.Characters.{one_of}
 use Rattle.js_grammar.specs.Grammar.{Lexeme, Lexemes, last, next}
 use Rattle.js_grammar.specs.Words.{'new', 'with'}
 use Rattle.js_grammar.specs.Settings.{Goal, script}

@@ -6,14 +6,14 @@ use Rattle.std.specs.List.{list_all, find}
 use Rattle.js_base.specs.declared.kind.Kind.{Kind}
 use Rattle.js_base.specs.declared.kind.Kind.TheVariants.{RegExp, Str, NoSubstitutionTemplate, TemplateHead, TemplateMiddle, TemplateTail}
 use Rattle.js_base.specs.Texts.{text_of, punctuators}
-use Rattle.js_text.specs.Characters.{one_of, is_decimal, is_line_terminator}
-use Rattle.js_text.specs.Escapes.{line_feeds_after, line_feeds}
+use Rattle.js_base.specs.part_text.Characters.{one_of, is_decimal, is_line_terminator}
+use Rattle.js_base.specs.part_text.Escapes.{line_feeds_after, line_feeds}
 use Rattle.js_grammar.specs.Characters.{is_identifier_part, is_white_space, has_line_terminator, begins}
 use Rattle.js_grammar.specs.Longest.{longest, none_longer, none_begins, joined}
 use Rattle.js_grammar.specs.Trivia.{after, within_line, closes_comment, is_blank, is_single_line_comment, is_multi_line_comment, is_html_open, is_html_close, is_trivia_piece, are_trivia}
 use Rattle.js_grammar.specs.Names.{name_of, word_of, private_of}
 use Rattle.js_grammar.specs.Strings.{nothing_left, closes_string, string_inside}
-use Rattle.js_text.specs.Decoding.{string_points}
+use Rattle.js_base.specs.part_text.Decoding.{string_points}
 use Rattle.js_grammar.specs.Templates.{closes_template, part_kind}
 use Rattle.js_grammar.specs.RegularExpressions.{behind_pattern, flags, flagged}
 use Rattle.js_grammar.specs.Lexemes.{LexicalGoal, division, regular_expression, template_tail, hashbang, lexemes_in, punctuator_kind, may_precede, Opening, a_name, a_number, a_string, a_template, a_private_name, a_punctuator, opening}

@@ -1,7 +1,7 @@
 -- The words of the command line that are admitted, and what they set: options in any order, each at most once, a value in the next word or behind `=`.
 use Rattle.std.specs.Prelude.{ℕ, ◌+◌, ◌*◌, ◌-◌, ◌≡◌, Bool, true, false, not, ◌&&◌, List, [], ◌∷◌, ◌++◌, ◌==◌, codes, length, nat_le, Option, Some, None, IsTrue, fold}
 use Rattle.std.specs.List.{list_all, list_any}
-use Rattle.js_text.specs.Characters.{is_decimal}
+use Rattle.js_base.specs.part_text.Characters.{is_decimal}
 use Rattle.js_grammar.specs.Settings.{Goal, script, module_goal, commonjs, unambiguous, Print, prints_tree, prints_record, prints_tokens, Settings}
 
 -- an option, with its value

@@ -3,12 +3,11 @@ use Rattle.std.specs.Prelude.{Bool, List, [], false, true, ◌||◌, ◌∷◌}
 use Rattle.js_base.specs.declared.kind.Kind.{Kind}
 use Rattle.js_base.specs.declared.kind.Kind.TheVariants.{Amp, Amp2, Amp2Eq, AmpEq, Arrow, Bang, Caret, CaretEq, Colon, Comma, Decimal, Dot, Dot3, Eof, Eq, Eq2, Eq3, GtEq, Ident, LAngle, LBrack, LParen, LtEq, Minus, Minus2, MinusEq, Neq, Neq2, Percent, PercentEq, Pipe, Pipe2, Pipe2Eq, PipeEq, Plus, Plus2, PlusEq, Question, Question2, Question2Eq, QuestionDot, RAngle, RBrack, RParen, Semicolon, ShiftLeft, ShiftLeftEq, ShiftRight, ShiftRight3, ShiftRight3Eq, ShiftRightEq, Star, Star2, Star2Eq, StarEq, Str, Tilde}
 use Rattle.js_grammar.specs.Words.{'delete', 'false', 'in', 'instanceof', 'new', 'null', 'this', 'true', 'typeof', 'void'}
-use Rattle.js_grammar.specs.Trees.{array_expression, array_pattern, arrow_function_expression, assignment_expression, assignment_pattern, binary_expression, binding_identifier, boolean_literal, call_expression, chain_expression, computed_member_expression, conditional_expression, directive, elision, empty_statement, expression_statement, formal_parameter, formal_parameter_rest, formal_parameters, identifier_name, identifier_reference, label_identifier, labeled_statement, logical_expression, new_expression, no_op, null_literal, numeric_literal, of, program, sequence_expression, spread_element, static_member_expression, this_expression, unary_expression, update_expression, v8_intrinsic_expression}
-use Rattle.js_grammar.specs.Grammar.{commas, empty_slot, ended, lexeme, many, node, nothing, when, whole_text, ◌▸◌, ◌◇◌}
+use Rattle.js_grammar.specs.Trees.{array_expression, array_pattern, arrow_function_expression, assignment_expression, assignment_pattern, binary_expression, binding_identifier, boolean_literal, call_expression, chain_expression, computed_member_expression, conditional_expression, directive, elision, empty_statement, expression_statement, formal_parameter, formal_parameter_rest, formal_parameters, identifier_name, identifier_reference, label_identifier, labeled_statement, logical_expression, new_expression, no_op, null_literal, numeric_literal, of, program, sequence_expression, spread_element, static_member_expression, this_expression, unary_expression, update_expression, v8_intrinsic_expression, array_assignment_target, assignment_target_rest, assignment_target_with_default}
+use Rattle.js_grammar.specs.Grammar.{commas, empty_slot, ended, lexeme, many, node, nothing, when, whole_text, ◌▸◌, ◌◇◌, never}
 use Rattle.js_grammar.specs.Insertion.{by_edge, is_word}
-use Rattle.js_grammar.specs.Productions.{Additive, And, Argument, ArrayTarget, Arrow', Assignment, Attrs, BElement, Binding, BindingIdentifier, BindingRest, BitAnd, BitOr, BitXor, Block, Body, Break, Call, Case, Catch, Chain, Class, ClassBody, ClassExpr, Coalesce, Conditional, Continue, Debugger, Decorator, Directive, Do, Empty, Equality, Exponent, ExportDecl, ExprStmt, Expression, Flags, For, ForIn, ForOf, FuncExpr, Function, G, IdentifierName, IdentifierReference, If, ImportDecl, Init, Item, LabelIdentifier, Labeled, LeftHandSide, Lexical, Links, ListItem, Member, Multiply, Name, New, Object, ObjectTarget, Or, Param, Params, Pattern, Primary, PrivateName, Program, Relational, Rest, Return, Shift, Short, SimpleTarget, Statement, Sub, Super, Switch, Symbol, Target, Template, Throw, Try, Unary, Update, Var, While, With, Yield, any_of, branches, make, mk, no_newline, op, opt, optional_flag, parens, plus_in, prefix_flag, slot, sym, tok}
-use Rattle.js_grammar.specs.Table.{args, bound_rest, directives_then, identifier, level, paren_expression, rest_of, rule_of, string}
-use Rattle.js_grammar.specs.Pruning.{pruned}
+use Rattle.js_grammar.specs.Productions.{Additive, And, Argument, ArrayTarget, Arrow', Assignment, Attrs, BElement, Binding, BindingIdentifier, BindingRest, BitAnd, BitOr, BitXor, Block, Body, Break, Call, Case, Catch, Chain, Class, ClassBody, ClassExpr, Coalesce, Conditional, Continue, Debugger, Decorator, Directive, Do, Empty, Equality, Exponent, ExportDecl, ExprStmt, Expression, Flags, For, ForIn, ForOf, FuncExpr, Function, G, IdentifierName, IdentifierReference, If, ImportDecl, Init, Item, LabelIdentifier, Labeled, LeftHandSide, Lexical, Links, ListItem, Member, Multiply, Name, New, Object, ObjectTarget, Or, Param, Params, Pattern, Primary, PrivateName, Program, Relational, Rest, Return, Shift, Short, SimpleTarget, Statement, Sub, Super, Switch, Symbol, Target, Template, Throw, Try, Unary, Update, Var, While, With, Yield, any_of, branches, make, mk, no_newline, op, opt, optional_flag, parens, plus_in, prefix_flag, slot, sym, tok, TargetElement, ForInit, Element, DecoratorMember, Property, TargetProperty, PatternProperty, Spec, ExportName, Attr, LooseHead, items}
+use Rattle.js_grammar.specs.Table.{args, bound_rest, directives_then, identifier, level, paren_expression, rest_of, string}
 
 -- The kinds of lexemes of core texts, and the end.
 abbrev pub core_kinds : List Kind
@@ -56,13 +55,30 @@ needs_more _ = false
 abbrev pub dead : Symbol → Bool
 dead s = needs_more s.name
 
+-- the nonterminals that stand only inside such
+abbrev pub stands_inside : Name → Bool
+stands_inside ForInit = true
+stands_inside Element = true
+stands_inside DecoratorMember = true
+stands_inside Property = true
+stands_inside TargetProperty = true
+stands_inside PatternProperty = true
+stands_inside Spec = true
+stands_inside ExportName = true
+stands_inside Attr = true
+stands_inside LooseHead = true
+stands_inside _ = false
+
 -- A member, by a name or in brackets.
 abbrev pub core_access : G → Flags → G
 core_access base f = mk static_member_expression (base ▸ tok Dot ▸ sym IdentifierName f) ◇ mk computed_member_expression (base ▸ tok LBrack ▸ sym Expression (plus_in f) ▸ tok RBrack)
 
+-- the assignment operators but `=` and `/=`
+abbrev pub core_operators : List Kind
+core_operators = PlusEq ∷ MinusEq ∷ StarEq ∷ PercentEq ∷ ShiftLeftEq ∷ ShiftRightEq ∷ ShiftRight3Eq ∷ PipeEq ∷ CaretEq ∷ AmpEq ∷ Amp2Eq ∷ Pipe2Eq ∷ Question2Eq ∷ Star2Eq ∷ []
+
 -- The lines, as in Table; what isn't written out here is no part of a core text.
 unfoldable pub core_of : Name → Flags → G
-unfolding rule_of
 core_of Program f = node (record { kind = program; op = no_op; flags = 0; extent = whole_text }) (directives_then Item f)
 core_of Directive f = mk directive (ended by_edge string)
 core_of Item f = sym ListItem f
@@ -83,7 +99,7 @@ core_of Pattern f = mk array_pattern (tok LBrack ▸ (many (empty_slot ▸ tok C
 core_of Arrow' f = mk arrow_function_expression ((mk formal_parameters (mk formal_parameter (sym BindingIdentifier (record f { await_ = f.await_ || false }) ▸ empty_slot)) ◇ sym Params (record f { await_ = f.await_ || false }))
     ▸ no_newline ▸ tok Arrow ▸ sym Assignment (record f { yield_ = false; await_ = false; awaits = false }))
 core_of Expression f = sym Assignment f ◇ mk sequence_expression (sym Assignment f ▸ tok Comma ▸ commas false (sym Assignment f))
-core_of Assignment f = sym Conditional f ◇ sym Arrow' f ◇ branches (Eq ∷ PlusEq ∷ MinusEq ∷ StarEq ∷ PercentEq ∷ ShiftLeftEq ∷ ShiftRightEq ∷ ShiftRight3Eq ∷ PipeEq ∷ CaretEq ∷ AmpEq ∷ Amp2Eq ∷ Pipe2Eq ∷ Question2Eq ∷ Star2Eq ∷ []) (λ o. op assignment_expression o (sym SimpleTarget f ▸ tok o ▸ sym Assignment f))
+core_of Assignment f = sym Conditional f ◇ sym Arrow' f ◇ branches (Eq ∷ core_operators) (λ o. op assignment_expression o (sym SimpleTarget f ▸ tok o ▸ sym Assignment f))
     ◇ op assignment_expression Eq (sym ArrayTarget f ▸ tok Eq ▸ sym Assignment f)
 core_of Conditional f = sym Short f ◇ mk conditional_expression (sym Short f ▸ tok Question ▸ sym Assignment (plus_in f) ▸ tok Colon ▸ sym Assignment f)
 core_of Short f = sym Or f ◇ sym Coalesce f
@@ -120,7 +136,10 @@ core_of LabelIdentifier f = identifier label_identifier f
 core_of IdentifierName f = mk identifier_name (lexeme (λ k w e. is_word k))
 core_of Target f = sym SimpleTarget f ◇ sym ArrayTarget f
 core_of SimpleTarget f = sym IdentifierReference f ◇ core_access (sym Member f) f ◇ core_access (sym Call f) f ◇ parens (sym SimpleTarget f)
-core_of n f = pruned dead core_kinds (rule_of n f)
+core_of ArrayTarget f = mk array_assignment_target (tok LBrack ▸ items (empty_slot ▸ tok Comma) (sym TargetElement f) (rest_of f (mk assignment_target_rest (tok Dot3 ▸ sym Target f))) ▸ tok RBrack)
+core_of TargetElement f = sym Target f ◇ mk assignment_target_with_default (sym Target f ▸ tok Eq ▸ sym Assignment (plus_in f))
+    ◇ when f.wide (branches core_operators (λ o. mk assignment_target_with_default (sym SimpleTarget f ▸ tok o ▸ sym Assignment (plus_in f))))
+core_of _ f = never
 
 unfoldable pub core_rule : Symbol → G
 unfolding core_of

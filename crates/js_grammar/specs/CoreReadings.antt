@@ -9,8 +9,9 @@ use Rattle.js_grammar.specs.Insertion.{assign_operators, binary_operators, by_ed
 use Rattle.js_grammar.specs.Productions.{Name, Flags, Program, Expression, Symbol, G, at, sym}
 use Rattle.js_grammar.specs.Table.{rule_of, unbuilt_of, whole, string}
 use Rattle.js_grammar.specs.Pruning.{pruned}
-use Rattle.js_grammar.specs.CoreGrammar.{core_kinds, dead, core_of, core_rule}
+use Rattle.js_grammar.specs.CoreGrammar.{core_kinds, dead, stands_inside, core_of, core_rule}
 use Rattle.js_grammar.specs.CoreTexts.{CoreSource}
+use Rattle.js_grammar.specs.CorePieces.{piece_lexemes}
 use Rattle.js_grammar.specs.Lexed.{Lexed}
 use Rattle.js_grammar.specs.Settings.{Goal, script}
 use Rattle.js_grammar.specs.Options.{Options, program_flags}
@@ -19,14 +20,22 @@ use Rattle.js_grammar.specs.Options.{Options, program_flags}
 abbrev pub core_options : Bool → Options
 core_options v8 = record { allow_return = false; preserve_parens = true; allow_v8 = v8 }
 
--- The text is a core text, and Program derives the tree from its lexemes by the core grammar.
+-- The text is a core text, and Program derives the tree from the lexemes of its pieces by the core grammar.
 pub record IsReading (text : List ℕ) (v8 : Bool) (t : Tree) : Type 0 where
   pub core : CoreSource text
   pub lexemes : Lexemes
-  pub lexed : Lexed script text lexemes
+  pub lexed : lexemes ≡ piece_lexemes core.pieces
   pub end : ℕ
   pub final : Lexeme
   pub derived : Derives core_rule (at Program (program_flags script (core_options v8))) t 0 lexemes end (last final)
+
+-- The tree is a reading of the core text, and no other is.
+pub record IsOnlyCoreReading (text : List ℕ) (v8 : Bool) (tree : Tree) : Type 0 where
+  pub reading : IsReading text v8 tree
+  pub only : (t : Tree) → IsReading text v8 t → t ≡ tree
+
+abbrev pub HasNoCoreReading : List ℕ → Bool → Type 0
+HasNoCoreReading text v8 = (t : Tree) → IsReading text v8 t → ⊥
 
 -- What goes on with an expression. The last two do not behind `++` and `--`.
 abbrev pub continues : Kind → Kind → Bool
@@ -74,10 +83,14 @@ AllCore (next x ls) = IsTrue (core_lexeme x) × AllCore ls
 abbrev pub CoreLexemes : Type 0
 CoreLexemes = (text : List ℕ) → IsUtf8 text → CoreSource text → (goal : Goal) (ls : Lexemes) → Lexed goal text ls → AllCore ls
 
--- From core lexemes the whole grammar and the core grammar derive the same.
+-- The lexemes of a core text are those of its pieces, at every goal.
+abbrev pub CorePieces : Type 0
+CorePieces = (text : List ℕ) → IsUtf8 text → (c : CoreSource text) (goal : Goal) (ls : Lexemes) → (Lexed goal text ls → ls ≡ piece_lexemes c.pieces) × (ls ≡ piece_lexemes c.pieces → Lexed goal text ls)
+
+-- From core lexemes the whole grammar and the core grammar derive the same: Program does, and all that it reaches.
 abbrev pub CoreDerivations : Type 0
-CoreDerivations = (n : Symbol) (t : Tree) (i j : ℕ) (ls rest : Lexemes) → AllCore ls → (Derives whole n t i ls j rest → Derives core_rule n t i ls j rest) × (Derives core_rule n t i ls j rest → Derives whole n t i ls j rest)
+CoreDerivations = (n : Symbol) (t : Tree) (i j : ℕ) (ls rest : Lexemes) → stands_inside n.name ≡ false → AllCore ls → (Derives whole n t i ls j rest → Derives core_rule n t i ls j rest) × (Derives core_rule n t i ls j rest → Derives whole n t i ls j rest)
 
 -- Each line of the core grammar is the line of the whole one, cut down to core lexemes.
 abbrev pub CoreLines : Type 0
-CoreLines = (n : Name) (f : Flags) → pruned dead core_kinds (rule_of n f ◇ unbuilt_of n f) ≡ core_of n f
+CoreLines = (n : Name) (f : Flags) → stands_inside n ≡ false → pruned dead core_kinds (rule_of n f ◇ unbuilt_of n f) ≡ core_of n f

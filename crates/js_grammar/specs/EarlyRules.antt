@@ -1,8 +1,8 @@
 -- Early errors (ECMA-262, 5.2.7) that no production of the table leaves out: a predicate for each rule, over a text and its tree.
 use Rattle.std.specs.Prelude.{ℕ, Bool, true, false, not, ◌&&◌, ◌||◌, List, [], ◌∷◌, Option, Some, None, codes, bytes_eq, is_some, unwrap_or, IsTrue}
-use Rattle.js_text.specs.Characters.{one_of}
-use Rattle.js_text.specs.Decoding.{cooked, string_units, name_points}
-use Rattle.js_text.specs.Escapes.{code_units}
+use Rattle.js_base.specs.part_text.Characters.{one_of}
+use Rattle.js_base.specs.part_text.Decoding.{cooked, string_units, name_points}
+use Rattle.js_base.specs.part_text.Escapes.{code_units}
 use Rattle.js_grammar.specs.Trees.{NodeKind, switch_statement, switch_case, try_statement, reg_exp_literal, template_literal, template_element, tagged_template_expression, with_clause, method_definition, property_definition, accessor_property, identifier_name, string_literal, private_identifier, Op, method_op, constructor_op, of, Label, Slots, end, hole, tree, Tree}
 use Rattle.js_grammar.specs.RegularExpressions.{flags}
 use Rattle.js_grammar.specs.Strings.{string_inside}
@@ -206,3 +206,7 @@ pub record EarlyOk (text : List ℕ) (t : Tree) : Type 0 where
   pub no_field_constructor : IsTrue (everywhere (no_field_constructor text) (tree t.label t.slots end))
   pub no_static_prototype : IsTrue (everywhere (no_static_prototype text) (tree t.label t.slots end))
   pub plain_constructor : IsTrue (everywhere (plain_constructor text) (tree t.label t.slots end))
+
+pub record MeetsEarlyRules (text : List ℕ) (t : Tree) : Type 0 where
+  pub not_u_and_v : IsTrue (everywhere (not_u_and_v text) (tree t.label t.slots end))
+  pub cooked : IsTrue (templates_cooked text (tree t.label t.slots end))

@@ -57,6 +57,11 @@ pub record Lex (passing : Passing) (text : List ℕ) (s : ℕ) (y : Lexeme) : Ty
   pub escaped : y.escaped ≡ is_escaped y.kind word
   pub units : y.units ≡ units_of y.kind word
 
+-- behind the place s stands the lexeme y of a lexical goal
+pub record LexemeBehind (goal : LexicalGoal) (text : List ℕ) (s : ℕ) (y : Lexeme) : Type 0 where
+  pub lex : Lex all_faults text s y
+  pub of_goal : lex.goal ≡ goal
+
 -- Lexemes one behind the other, from a place on. The last may be any, so that a fault further on changes nothing.
 abbrev pub Lexes : (ℕ → Lexeme → Type 0) → ℕ → Lexemes → Type 0
 Lexes lex s (last x) = lex s x

@@ -6,14 +6,14 @@ use Rattle.js_base.specs.declared.kind.Kind.{Kind}
 use Rattle.js_base.specs.declared.kind.Kind.TheVariants.{Ident, PrivateIdentifier, Str, QuestionDot, Slash, HashbangComment, Eof}
 use Rattle.js_base.specs.Kinds.{same_kind, one_of_kinds}
 use Rattle.js_base.specs.Texts.{text_of, words, punctuators}
-use Rattle.js_text.specs.Characters.{one_of, is_decimal}
+use Rattle.js_base.specs.part_text.Characters.{one_of, is_decimal}
 use Rattle.js_grammar.specs.Characters.{is_identifier_start, begins}
 use Rattle.js_grammar.specs.Longest.{Class}
 use Rattle.js_grammar.specs.Trivia.{after, within_line}
-use Rattle.js_text.specs.Escapes.{code_units}
+use Rattle.js_base.specs.part_text.Escapes.{code_units}
 use Rattle.js_grammar.specs.Names.{name_of, name_kind, private_kind, has_backslash}
 use Rattle.js_grammar.specs.Numbers.{number_kind, is_number, has_separator}
-use Rattle.js_text.specs.Decoding.{string_units}
+use Rattle.js_base.specs.part_text.Decoding.{string_units}
 use Rattle.js_grammar.specs.Strings.{string_kind, string_inside}
 use Rattle.js_grammar.specs.Templates.{template_kind, template_tail_kind}
 use Rattle.js_grammar.specs.RegularExpressions.{regular_expression_kind}

@@ -6,14 +6,14 @@ use Rattle.js_base.specs.declared.diagnostic.DiagnosticKind.{DiagnosticKind}
 use Rattle.js_base.specs.declared.diagnostic.DiagnosticKind.TheVariants as fault
 use Rattle.js_grammar.specs.Grammar.{Lexeme, Lexemes}
 use Rattle.js_grammar.specs.Settings.{Goal}
-use Rattle.js_text.specs.Characters.{one_of, is_decimal}
+use Rattle.js_base.specs.part_text.Characters.{one_of, is_decimal}
 use Rattle.js_grammar.specs.Characters.{width, begins}
 use Rattle.js_grammar.specs.Longest.{Class, longest, none_longer, none_begins, joined}
 use Rattle.js_grammar.specs.Trivia.{after, within_line, is_html_comment, is_multi_line_comment}
-use Rattle.js_text.specs.Escapes.{line_feeds}
+use Rattle.js_base.specs.part_text.Escapes.{line_feeds}
 use Rattle.js_grammar.specs.Names.{name_of}
 use Rattle.js_grammar.specs.Numbers.{number_kind, stops_number}
-use Rattle.js_text.specs.Decoding.{string_points}
+use Rattle.js_base.specs.part_text.Decoding.{string_points}
 use Rattle.js_grammar.specs.Strings.{nothing_left, closes_string}
 use Rattle.js_grammar.specs.Templates.{template_kind, template_tail_kind}
 use Rattle.js_grammar.specs.RegularExpressions.{flags}

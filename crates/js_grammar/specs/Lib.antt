@@ -35,11 +35,15 @@ pub mod EarlyRules
 pub mod Options
 pub mod TreeForms
 pub mod Pruning
+pub mod CorePieces
 pub mod CoreGrammar
 pub mod CoreReadings
+pub mod CoreOutputs
+pub mod Ends
 pub mod Readings
 pub mod CoreLaws
 pub mod Marks
+pub mod Found
 pub mod Derivations
 pub mod PureMarks
 pub mod CommandLine

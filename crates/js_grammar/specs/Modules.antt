@@ -3,7 +3,7 @@ use Rattle.std.specs.Prelude.{ℕ, ◌+◌, Bool, true, false, List, [], ◌∷�
 use Rattle.std.specs.List.{flat_map}
 use Rattle.std.specs.Str.{byte}
 use Rattle.std.specs.Char.{len_utf8}
-use Rattle.js_text.specs.Characters.{is_line_terminator}
+use Rattle.js_base.specs.part_text.Characters.{is_line_terminator}
 use Rattle.js_base.specs.declared.diagnostic.Diagnostic.{Diagnostic}
 use Rattle.js_base.specs.declared.span.Span.{Span}
 use Rattle.js_grammar.specs.BoundNames.{bound_names}

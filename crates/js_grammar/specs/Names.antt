@@ -6,7 +6,7 @@ use Rattle.js_base.specs.declared.kind.Kind.{Kind}
 use Rattle.js_base.specs.declared.kind.Kind.TheVariants.{PrivateIdentifier}
 use Rattle.js_base.specs.Keywords.{keyword_of}
 use Rattle.js_grammar.specs.Characters.{is_identifier_start, is_identifier_part}
-use Rattle.js_text.specs.Escapes.{in_name, code_points}
+use Rattle.js_base.specs.part_text.Escapes.{in_name, code_points}
 
 -- IdentifierStart and IdentifierParts, of code points
 abbrev pub is_plain_name : List ℕ → Bool

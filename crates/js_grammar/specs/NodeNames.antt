@@ -1,7 +1,7 @@
 -- What names and strings of a tree stand for, of the text that it was read from.
 use Rattle.std.specs.Prelude.{ℕ, ◌≡◌, ◌==◌, List, [], ◌∷◌, Option, Some, None, IsSome, if◌then◌else◌, chars, encode_utf8_all, slice_range, unwrap_or}
 use Rattle.std.specs.Char.Utf16.{has_unpaired_surrogate, utf16_lossy_chars}
-use Rattle.js_text.specs.Decoding.{string_units, name_text}
+use Rattle.js_base.specs.part_text.Decoding.{string_units, name_text}
 use Rattle.js_base.specs.declared.kind.Kind.TheVariants.{Str}
 use Rattle.js_base.specs.declared.span.Span.{Span}
 use Rattle.js_base.specs.Spans.{LiesIn}

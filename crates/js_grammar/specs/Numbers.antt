@@ -5,7 +5,7 @@ use Rattle.std.specs.Str.{byte}
 use Rattle.js_base.specs.declared.kind.Kind.{Kind}
 use Rattle.js_base.specs.declared.kind.Kind.TheVariants.{Decimal, Float, Binary, Octal, Hex, PositiveExponential, NegativeExponential, DecimalBigInt, BinaryBigInt, OctalBigInt, HexBigInt}
 use Rattle.js_base.specs.Kinds.{one_of_kinds}
-use Rattle.js_text.specs.Characters.{one_of, is_decimal, is_octal, is_binary, is_hex}
+use Rattle.js_base.specs.part_text.Characters.{one_of, is_decimal, is_octal, is_binary, is_hex}
 use Rattle.js_grammar.specs.Characters.{is_identifier_start, begins}
 
 -- what characters are, as what is left of a number

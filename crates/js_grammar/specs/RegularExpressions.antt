@@ -4,7 +4,7 @@ use Rattle.std.specs.List.{list_all}
 use Rattle.std.specs.Str.{byte}
 use Rattle.js_base.specs.declared.kind.Kind.{Kind}
 use Rattle.js_base.specs.declared.kind.Kind.TheVariants.{RegExp}
-use Rattle.js_text.specs.Characters.{one_of, is_line_terminator}
+use Rattle.js_base.specs.part_text.Characters.{one_of, is_line_terminator}
 use Rattle.js_grammar.specs.Characters.{is_identifier_part}
 
 -- Behind the opening slash: what stands behind the slash that ends the pattern. That is the first one neither directly behind a backslash nor in brackets.

@@ -4,9 +4,9 @@ use Rattle.std.specs.List.{list_all}
 use Rattle.std.specs.Str.{byte}
 use Rattle.js_base.specs.declared.kind.Kind.{Kind}
 use Rattle.js_base.specs.declared.kind.Kind.TheVariants.{Str}
-use Rattle.js_text.specs.Characters.{one_of}
-use Rattle.js_text.specs.Escapes.{line_feeds}
-use Rattle.js_text.specs.Decoding.{string_points}
+use Rattle.js_base.specs.part_text.Characters.{one_of}
+use Rattle.js_base.specs.part_text.Escapes.{line_feeds}
+use Rattle.js_base.specs.part_text.Decoding.{string_points}
 
 abbrev pub nothing_left : List ℕ → Bool
 nothing_left = list_all (λ c. false)

@@ -2,7 +2,7 @@
 use Rattle.std.specs.Prelude.{ℕ, Bool, true, false, not, ◌&&◌, ◌||◌, List, [], ◌∷◌, ◌++◌, codes, ◌==◌}
 use Rattle.std.specs.List.{list_all, list_any}
 use Rattle.std.specs.Str.{byte}
-use Rattle.js_text.specs.Characters.{is_line_terminator}
+use Rattle.js_base.specs.part_text.Characters.{is_line_terminator}
 use Rattle.js_grammar.specs.Characters.{is_white_space, has_line_terminator}
 use Rattle.js_grammar.specs.Longest.{Class, longest, none_begins, joined}
 

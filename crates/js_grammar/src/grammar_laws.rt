@@ -1,6 +1,6 @@
 //! Laws about the grammar of the whole language.
 
-ghost use Rattle.js_grammar.specs.CoreReadings.{CoreLines, CoreOmission, CoreDerivations, CoreLexemes, CoreReading};
+ghost use Rattle.js_grammar.specs.CoreReadings.{CoreLines, CoreOmission, CoreDerivations, CoreLexemes, CorePieces, CoreReading};
 ghost use Rattle.js_grammar.specs.CoreLaws.{CoreParameters, CoreValidity};
 
 /// Each line of the core grammar is the line of the whole one, cut down to core lexemes.
@@ -16,6 +16,11 @@ pub fn law_of_core_omission()
 /// The lexemes of a core text are core lexemes.
 pub fn law_of_core_lexemes()
     ensures { CoreLexemes }
+{}
+
+/// The lexemes of a core text are those of its pieces, at every goal.
+pub fn law_of_core_pieces()
+    ensures { CorePieces }
 {}
 
 /// From core lexemes the whole grammar and the core grammar derive the same trees.

@@ -5,7 +5,7 @@ use Rattle.std.specs.List.Sorted.{IsStrictlySortedBy}
 use Rattle.std.specs.Cmp.Lexicographic.{slice_cmp}
 use Rattle.std.specs.Ordering.{nat_cmp}
 use Rattle.js_grammar.specs.ModuleRecords.{own_export_names}
-use Rattle.js_visits.specs.Options.{places_of}
+use Rattle.js_record.specs.part_visits.Options.{places_of}
 use Rattle.js_graph.specs.Modules.{Module, target_by}
 use Rattle.js_graph.specs.Paths.{Reaches}
 

@@ -11,7 +11,7 @@ use crate::module::{Module, are_linked};
 use crate::names::{Texts, exported_names};
 use crate::resolution::Resolution;
 use crate::walk::resolve;
-use js_memory::NoMemory;
+use js_base::NoMemory;
 use js_record::ModuleRecord;
 use std::alloc::Global;
 use std::marker::Model;

@@ -11,10 +11,8 @@ ghost use Rattle.js_graph.specs.Places.{ArePlaces};
 
 use crate::places::Index;
 use indexmap::IndexMap;
-use js_memory::NoMemory;
-use js_record::ModuleRecord;
-use js_text::Text;
-use js_visits::{ExportEntries, ExportEntry, NameSpan};
+use js_base::{NoMemory, Text};
+use js_record::{ExportEntries, ExportEntry, ModuleRecord, NameSpan};
 use std::alloc::Global;
 use std::marker::Model;
 

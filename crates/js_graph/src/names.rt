@@ -9,10 +9,8 @@ ghost use Rattle.js_graph.specs.Names.{AreExported, AreStarNames, is_taken, name
 use crate::module::Module;
 use crate::name::Name;
 use indexmap::IndexSet;
-use js_memory::{List, NoMemory};
-use js_record::ModuleRecord;
-use js_text::Text;
-use js_visits::ExportEntries;
+use js_base::{List, NoMemory, Text};
+use js_record::{ExportEntries, ModuleRecord};
 use std::alloc::Global;
 
 /// A list of texts.

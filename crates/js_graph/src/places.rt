@@ -6,10 +6,8 @@ ghost use Rattle.js_graph.specs.Leads.{export_of, is_default_at};
 ghost use Rattle.js_graph.specs.Places.{AreDefaults, ArePlaces, IsIndexOf, is_kept};
 
 use indexmap::{IndexMap, IndexSet};
-use js_base::Span;
-use js_memory::NoMemory;
-use js_record::ModuleRecord;
-use js_visits::{ExportEntries, ImportEntries, ImportImportName};
+use js_base::{NoMemory, Span};
+use js_record::{ExportEntries, ImportEntries, ImportImportName, ModuleRecord};
 use std::alloc::Global;
 
 /// Where the exports of a record and its default imports stand.

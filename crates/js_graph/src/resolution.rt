@@ -2,7 +2,7 @@
 
 ghost use Rattle.std.specs.Prelude.{◌≡◌, ◌↔◌, IsTrue};
 
-use js_text::Text;
+use js_base::Text;
 
 /// What ResolveExport (ECMA-262, 16.2.1.7.2.2) answers.
 #[derive(Drop)]

@@ -13,9 +13,8 @@ use crate::module::Module;
 use crate::name::Name;
 use crate::resolution::{Binding, BindingName, Resolution};
 use indexmap::IndexSet;
-use js_memory::NoMemory;
-use js_text::Text;
-use js_visits::{ExportEntry, ExportImportName, ExportLocalName};
+use js_base::{NoMemory, Text};
+use js_record::{ExportEntry, ExportImportName, ExportLocalName};
 use std::alloc::Global;
 use std::mem;
 

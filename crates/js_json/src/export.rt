@@ -12,7 +12,7 @@ ghost use Rattle.js_json.specs.Json.{max_levels, json_of, slots_json, list};
 ghost use Rattle.js_json.specs.Names.{AreNamed};
 
 use crate::node::node_value;
-use js_memory::NoMemory;
+use js_base::NoMemory;
 use js_tree::{NodeId, Tree};
 use serde_json::Value;
 use std::alloc::Global;

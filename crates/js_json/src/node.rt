@@ -12,8 +12,7 @@ ghost use Rattle.js_json.specs.Json.{string_or_null, words_set, object_of};
 ghost use Rattle.js_json.specs.Members.{with_texts};
 ghost use Rattle.js_json.specs.Names.{read_name};
 
-use js_base::Span;
-use js_memory::NoMemory;
+use js_base::{NoMemory, Span};
 use js_tree::{NodeFlags, NodeId, NodeKind, Op, Tree};
 use serde_json::{Map, Value, put};
 use std::alloc::Global;

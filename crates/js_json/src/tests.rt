@@ -5,8 +5,7 @@ ghost use Rattle.std.specs.List.{All};
 ghost use Rattle.js_base.specs.Spans.{LiesIn};
 
 use crate::{MAX_LEVELS, tree_json};
-use js_base::{Span, UpdateOperator};
-use js_memory::NoMemory;
+use js_base::{NoMemory, Span, UpdateOperator};
 use js_tree::{NodeFlags, NodeId, NodeKind, NumberBase, Op, ParserAstBuilder, Tree};
 use serde_json::Value;
 use std::alloc::Global;

@@ -5,25 +5,25 @@ use Rattle.js_base.specs.declared.kind.Kind.{Kind}
 use Rattle.js_base.specs.declared.kind.Kind.TheVariants.{RAngle, RCurly}
 use Rattle.js_base.specs.declared.token.Token.{Token}
 use Rattle.js_base.specs.declared.diagnostic.Diagnostic.{Diagnostic}
-use Rattle.js_grammar.specs.Grammar.{Lexeme}
-use Rattle.js_grammar.specs.Settings.{Goal}
-use Rattle.js_grammar.specs.Characters.{has_line_terminator, width}
-use Rattle.js_grammar.specs.Longest.{none_begins, joined}
-use Rattle.js_grammar.specs.Trivia.{is_trivia_piece, are_trivia}
-use Rattle.js_grammar.specs.Lexemes.{LexicalGoal, division, kind_in}
-use Rattle.js_grammar.specs.Lexed.{IsLexeme}
-use Rattle.js_grammar.specs.LexicalFaults.{behind}
-use Rattle.js_words.specs.declared.scan.Scanned.{Scanned}
-use Rattle.js_words.specs.declared.scan.Fault.{Fault}
+use Rattle.part_words.specs.js_grammar.Grammar.{Lexeme}
+use Rattle.part_words.specs.js_grammar.Settings.{Goal}
+use Rattle.part_words.specs.js_grammar.Characters.{has_line_terminator, width}
+use Rattle.part_words.specs.js_grammar.Longest.{none_begins, joined}
+use Rattle.part_words.specs.js_grammar.Trivia.{is_trivia_piece, are_trivia}
+use Rattle.part_words.specs.js_grammar.Lexemes.{LexicalGoal, division, kind_in}
+use Rattle.part_words.specs.js_grammar.Lexed.{IsLexeme}
+use Rattle.part_words.specs.js_grammar.LexicalFaults.{behind}
+use Rattle.part_words.specs.declared.scan.Scanned.{Scanned}
+use Rattle.part_words.specs.declared.scan.Fault.{Fault}
 use Rattle.js_lex.specs.declared.output.LexerOutput.{LexerOutput}
-use Rattle.js_words.specs.Places.{Word}
-use Rattle.js_words.specs.Scans.{IsScanned, IsStopped, Scans}
+use Rattle.part_words.specs.Places.{Word}
+use Rattle.part_words.specs.Scans.{IsScanned, IsStopped, Scans}
 use Rattle.js_lex.specs.States.{State, SameText}
 use Rattle.js_lex.specs.Reading.{is_right_angle, cut, Tells, LexemeBehind, GivesLexeme, GivesNone, WasGiven, GivesAgain, relexed}
 use Rattle.js_lex.specs.Settling.{token_of, undetermined_of, diagnostic_of, Fits, SettledAgain, SettledBehind, ScanEnds}
 use Rattle.js_lex.proofs.ReadAgain.{unflagged}
-use Rattle.js_words.proofs.KindsOfLexemes.{determined, plain_end, brace_word}
-use Rattle.js_scan.proofs.StringPlaces.{front_word}
+use Rattle.part_words.proofs.KindsOfLexemes.{determined, plain_end, brace_word}
+use Rattle.part_scan.proofs.StringPlaces.{front_word}
 use Rattle.js_lex.proofs.Giving.{lexeme_of, lexeme_behind, gives_none, determined_outcome, trivia_ends}
 
 pub cancel : (u v w : List ℕ) → u ++ v ≡ u ++ w → v ≡ w

@@ -7,18 +7,18 @@ use Rattle.std.proofs.lemmas.Bool.{eqb-true}
 use Rattle.std.proofs.lemmas.Str.{IsCharBoundary-start, encodes-chars, length-encode}
 use Rattle.js_base.specs.declared.kind.Kind.TheVariants.{Str}
 use Rattle.js_base.specs.declared.span.Span.{Span}
-use Rattle.js_text.specs.Characters.{one_of}
-use Rattle.js_text.specs.Escapes.{line_feeds, line_feeds_after}
-use Rattle.js_text.specs.Decoding.{string_points}
-use Rattle.js_grammar.specs.Characters.{width}
-use Rattle.js_grammar.specs.Strings.{nothing_left, closes_string, string_inside, string_kind}
-use Rattle.js_grammar.proofs.LongestLemmas.{both-left, both-right, not-true}
-use Rattle.js_grammar.proofs.Finding.{member}
-use Rattle.js_grammar.specs.LexicalFaults.{behind}
-use Rattle.js_words.specs.Places.{Word}
+use Rattle.js_base.specs.part_text.Characters.{one_of}
+use Rattle.js_base.specs.part_text.Escapes.{line_feeds, line_feeds_after}
+use Rattle.js_base.specs.part_text.Decoding.{string_points}
+use Rattle.part_words.specs.js_grammar.Characters.{width}
+use Rattle.part_words.specs.js_grammar.Strings.{nothing_left, closes_string, string_inside, string_kind}
+use Rattle.part_words.proofs.js_grammar.LongestLemmas.{both-left, both-right, not-true}
+use Rattle.part_words.proofs.js_grammar.Finding.{member}
+use Rattle.part_words.specs.js_grammar.LexicalFaults.{behind}
+use Rattle.part_words.specs.Places.{Word}
 use Rattle.js_lex.specs.States.{State}
-use Rattle.js_words.proofs.Places.{width-append}
-use Rattle.js_scan.proofs.StringPlaces.{front_word, part_chars}
+use Rattle.part_words.proofs.Places.{width-append}
+use Rattle.part_scan.proofs.StringPlaces.{front_word, part_chars}
 
 -- the quote is the last of the characters
 record EndsWith (q : ℕ) (cs : List ℕ) : Type 0 where

@@ -5,28 +5,28 @@ use Rattle.js_base.specs.declared.kind.Kind.{Kind}
 use Rattle.js_base.specs.declared.kind.Kind.TheVariants.{Slash, SlashEq, RegExp, Undetermined}
 use Rattle.js_base.specs.declared.token.Token.{Token}
 use Rattle.js_base.specs.declared.diagnostic.Diagnostic.{Diagnostic}
-use Rattle.js_text.specs.Characters.{one_of}
+use Rattle.js_base.specs.part_text.Characters.{one_of}
 use Rattle.js_base.specs.Kinds.{same_kind}
-use Rattle.js_grammar.specs.Grammar.{Lexeme}
-use Rattle.js_grammar.specs.Characters.{begins}
-use Rattle.js_grammar.specs.Longest.{joined}
-use Rattle.js_grammar.specs.Trivia.{are_trivia}
-use Rattle.js_grammar.specs.Lexemes.{division, regular_expression, kind_in}
-use Rattle.js_grammar.specs.LexicalFaults.{behind}
-use Rattle.js_words.specs.declared.scan.Scanned.{Scanned}
-use Rattle.js_words.specs.Places.{Word}
+use Rattle.part_words.specs.js_grammar.Grammar.{Lexeme}
+use Rattle.part_words.specs.js_grammar.Characters.{begins}
+use Rattle.part_words.specs.js_grammar.Longest.{joined}
+use Rattle.part_words.specs.js_grammar.Trivia.{are_trivia}
+use Rattle.part_words.specs.js_grammar.Lexemes.{division, regular_expression, kind_in}
+use Rattle.part_words.specs.js_grammar.LexicalFaults.{behind}
+use Rattle.part_words.specs.declared.scan.Scanned.{Scanned}
+use Rattle.part_words.specs.Places.{Word}
 use Rattle.js_lex.specs.States.{State, SameText}
 use Rattle.js_lex.specs.Reading.{cut, Tells, LexemeBehind, GivesLexeme, GivesNone, Outcome, WasGiven, GivesAgain, FlagsStand, flag_faults, relexed}
 use Rattle.js_lex.specs.Settling.{token_of, SettledAgain, SettledBehind}
-use Rattle.js_words.specs.Scans.{IsStopped}
+use Rattle.part_words.specs.Scans.{IsStopped}
 use Rattle.js_lex.specs.Kept.{Grows}
-use Rattle.js_scan.specs.RegularExpressionParts.{IsRegularExpression}
-use Rattle.js_words.specs.declared.scan.Fault.{Fault}
-use Rattle.js_scan.specs.declared.regular_expression.RegularExpression.{RegularExpression}
+use Rattle.part_scan.specs.RegularExpressionParts.{IsRegularExpression}
+use Rattle.part_words.specs.declared.scan.Fault.{Fault}
+use Rattle.part_scan.specs.declared.regular_expression.RegularExpression.{RegularExpression}
 use Rattle.js_lex.proofs.ReadAgain.{unflagged}
-use Rattle.js_words.proofs.KindsOfLexemes.{plain_end, slash_word, slash_equals_word, no_comment_opens}
-use Rattle.js_scan.proofs.StringPlaces.{front_word}
-use Rattle.js_words.proofs.Flags.{spelled}
+use Rattle.part_words.proofs.KindsOfLexemes.{plain_end, slash_word, slash_equals_word, no_comment_opens}
+use Rattle.part_scan.proofs.StringPlaces.{front_word}
+use Rattle.part_words.proofs.Flags.{spelled}
 use Rattle.js_lex.proofs.Marks.{flags_marked, pattern_boundary}
 use Rattle.js_lex.proofs.Giving.{lexeme_behind}
 use Rattle.js_lex.proofs.Again.{passed, given_start, cut_kind, again_lexeme, gives_again, cancel}
@@ -62,7 +62,7 @@ slash_for old given text e u g k = subst (λ (v : List ℕ). SlashStands v given
 
 -- ---- what is given in its place
 
-going_outcome : {text : List ℕ} {s : ℕ} {t : Token} (source : Rattle.js_grammar.specs.Settings.Goal) (ds : List Diagnostic) → same_kind Undetermined t.kind ≡ false → GivesLexeme regular_expression (λ z. z) text s t → Outcome regular_expression (λ z. z) source text s t ds ds
+going_outcome : {text : List ℕ} {s : ℕ} {t : Token} (source : Rattle.part_words.specs.js_grammar.Settings.Goal) (ds : List Diagnostic) → same_kind Undetermined t.kind ≡ false → GivesLexeme regular_expression (λ z. z) text s t → Outcome regular_expression (λ z. z) source text s t ds ds
 going_outcome {text = text} {s = s} {t = t} source ds k g = subst (λ (b : Bool). elim b as (λ _. Type 0) [ true ↦ (d : Diagnostic) × (ds ≡ d ∷ []) × GivesNone regular_expression source text s t d | false ↦ (◌≡◌ {A = List Diagnostic} ds ds) × GivesLexeme regular_expression (λ z. z) text s t ]) (sym k) (refl, g)
 
 -- a regular expression
@@ -79,7 +79,7 @@ found_again old new given t r u b same place is h = (ds, ds, subst (λ (z : Toke
     kept : Grows old.kept h.mid [] [] [] ds
     kept = h.flags_kept is.flags_word is.flags_stand
 
-    marks : (s : ℕ) (y : Lexeme) → IsCharBoundary old.text s → LexemeBehind division old.text s y → Tells (cut y) given → Rattle.std.specs.List.All (λ d. Rattle.js_grammar.specs.LexicalFaults.FaultyBehind d.kind old.goal old.text s d.span.start d.span.end) ds
+    marks : (s : ℕ) (y : Lexeme) → IsCharBoundary old.text s → LexemeBehind division old.text s y → Tells (cut y) given → Rattle.std.specs.List.All (λ d. Rattle.part_words.specs.js_grammar.LexicalFaults.FaultyBehind d.kind old.goal old.text s d.span.start d.span.end) ds
     marks s y between l tells =
         let p = passed u between l in
         let e : given.span.start ≡ y.from = given_start y tells in
@@ -103,7 +103,7 @@ found_again old new given t r u b same place is h = (ds, ds, subst (λ (z : Toke
     }
 
     flags_there : FlagsStand old.text r.pattern_end (token_of sc given.span.start given.is_on_new_line) ds
-    flags_there = (is.flags_word, is.flags_stand, ap Rattle.js_grammar.specs.RegularExpressions.flags (spelled old.text given.span.start r.end is.scanned.word u b (let e = is.scanned.stands.end in omega arith) is.scanned.stands) ∙ is.has_flags, refl)
+    flags_there = (is.flags_word, is.flags_stand, ap Rattle.part_words.specs.js_grammar.RegularExpressions.flags (spelled old.text given.span.start r.end is.scanned.word u b (let e = is.scanned.stands.end in omega arith) is.scanned.stands) ∙ is.has_flags, refl)
 
 -- no regular expression
 pub stopped_again : (old new : State) (given t : Token) (f : Fault) → IsUtf8 old.text → IsCharBoundary old.text given.span.start → SameText old new → new.place ≡ t.span.end → IsStopped regular_expression old.text given.span.start f → SettledBehind old.text old.keeps_tokens given (Err f) None old.kept new.kept t → (going_on : List Diagnostic) × (faults : List Diagnostic) × GivesAgain regular_expression old new given t going_on faults × FlagsStand old.text t.span.end t going_on

@@ -3,16 +3,16 @@ use Rattle.std.proofs.Common.{◌≡◌, ℕ, true, false, List, [], ◌∷◌, 
 use Rattle.std.specs.Prelude.{IsUtf8, IfOk, Result, Ok, Err, is_some}
 use Rattle.js_base.specs.declared.kind.Kind.{Kind}
 use Rattle.js_base.specs.declared.token.Token.{Token}
-use Rattle.js_grammar.specs.Trivia.{are_trivia}
-use Rattle.js_grammar.specs.Lexemes.{hashbang, hashbang_kind, division, kind_in}
-use Rattle.js_grammar.specs.LexicalFaults.{behind}
-use Rattle.js_words.specs.declared.scan.Scanned.{Scanned}
-use Rattle.js_words.specs.Scans.{IsScanned, NoLexeme}
+use Rattle.part_words.specs.js_grammar.Trivia.{are_trivia}
+use Rattle.part_words.specs.js_grammar.Lexemes.{hashbang, hashbang_kind, division, kind_in}
+use Rattle.part_words.specs.js_grammar.LexicalFaults.{behind}
+use Rattle.part_words.specs.declared.scan.Scanned.{Scanned}
+use Rattle.part_words.specs.Scans.{IsScanned, NoLexeme}
 use Rattle.js_lex.specs.States.{State, SameText}
 use Rattle.js_lex.specs.Reading.{GivesHashbang, GivesFirst, GivesNext}
 use Rattle.js_lex.specs.Settling.{token_of}
 use Rattle.std.proofs.lemmas.Str.{IsCharBoundary-start}
-use Rattle.js_words.proofs.Places.{none_passed}
+use Rattle.part_words.proofs.Places.{none_passed}
 use Rattle.js_lex.proofs.TriviaLemmas.{none_piece}
 use Rattle.js_lex.proofs.Hashbangs.{begins_so}
 use Rattle.js_lex.proofs.Giving.{lexeme_of, lexeme_behind}

@@ -6,19 +6,19 @@ use Rattle.std.proofs.lemmas.Str.{len_utf8_bounds}
 use Rattle.js_base.specs.declared.span.Span.{Span}
 use Rattle.js_base.specs.declared.diagnostic.Diagnostic.{Diagnostic}
 use Rattle.js_base.specs.declared.diagnostic.DiagnosticKind.TheVariants.{RegExpFlag}
-use Rattle.js_grammar.specs.Characters.{width}
-use Rattle.js_grammar.specs.LexicalFaults.{behind}
+use Rattle.part_words.specs.js_grammar.Characters.{width}
+use Rattle.part_words.specs.js_grammar.LexicalFaults.{behind}
 use Rattle.js_lex.specs.declared.output.LexerOutput.{LexerOutput}
-use Rattle.js_scan.specs.declared.regular_expression.Flag.{Flag}
-use Rattle.js_words.specs.Places.{Word}
+use Rattle.part_scan.specs.declared.regular_expression.Flag.{Flag}
+use Rattle.part_words.specs.Places.{Word}
 use Rattle.js_lex.specs.Kept.{Grows, fault_at}
 use Rattle.js_lex.specs.Reading.{is_wrong_flag, flag_faults}
-use Rattle.js_scan.specs.declared.regular_expression.Seen.{Seen}
-use Rattle.js_scan.specs.RegularExpressionParts.{SeenIn, IsFlag}
-use Rattle.js_words.proofs.Places.{none_passed, then}
+use Rattle.part_scan.specs.declared.regular_expression.Seen.{Seen}
+use Rattle.part_scan.specs.RegularExpressionParts.{SeenIn, IsFlag}
+use Rattle.part_words.proofs.Places.{none_passed, then}
 use Rattle.js_lex.proofs.Keeping.{grow_on}
-use Rattle.js_words.proofs.Flags.{others_stand}
-use Rattle.js_scan.proofs.FlagsSeen.{seen_none}
+use Rattle.part_words.proofs.Flags.{others_stand}
+use Rattle.part_scan.proofs.FlagsSeen.{seen_none}
 
 -- the fault that a wrong flag between two places is
 abbrev pub fault_between : Span → Diagnostic

@@ -7,19 +7,19 @@ use Rattle.js_base.specs.declared.token.Token.{Token}
 use Rattle.js_base.specs.declared.diagnostic.Diagnostic.{Diagnostic}
 use Rattle.js_base.specs.Kinds.{same_kind}
 use Rattle.js_base.specs.Spans.{LiesIn}
-use Rattle.js_grammar.specs.Settings.{Goal}
-use Rattle.js_grammar.specs.Characters.{begins}
-use Rattle.js_grammar.specs.Strings.{string_kind}
-use Rattle.js_grammar.specs.Lexemes.{division, kind_in, plain_kind, Opening, opening, a_string, kind_of}
-use Rattle.js_text.specs.Characters.{is_decimal}
-use Rattle.js_words.proofs.KindsOfLexemes.{plain_end, opened_is}
+use Rattle.part_words.specs.js_grammar.Settings.{Goal}
+use Rattle.part_words.specs.js_grammar.Characters.{begins}
+use Rattle.part_words.specs.js_grammar.Strings.{string_kind}
+use Rattle.part_words.specs.js_grammar.Lexemes.{division, kind_in, plain_kind, Opening, opening, a_string, kind_of}
+use Rattle.js_base.specs.part_text.Characters.{is_decimal}
+use Rattle.part_words.proofs.KindsOfLexemes.{plain_end, opened_is}
 use Rattle.js_lex.proofs.Again.{passed, given_start, cut_kind, cut_same}
-use Rattle.js_grammar.specs.Grammar.{Lexeme}
-use Rattle.js_grammar.specs.Characters.{width}
-use Rattle.js_grammar.specs.LexicalFaults.{behind}
-use Rattle.js_words.specs.Places.{Word}
-use Rattle.js_scan.proofs.StringPlaces.{front_word}
-use Rattle.js_words.proofs.Flags.{spelled}
+use Rattle.part_words.specs.js_grammar.Grammar.{Lexeme}
+use Rattle.part_words.specs.js_grammar.Characters.{width}
+use Rattle.part_words.specs.js_grammar.LexicalFaults.{behind}
+use Rattle.part_words.specs.Places.{Word}
+use Rattle.part_scan.proofs.StringPlaces.{front_word}
+use Rattle.part_words.proofs.Flags.{spelled}
 use Rattle.js_lex.specs.States.{State}
 use Rattle.js_lex.specs.Reading.{cut, is_right_angle, LexemeBehind, GivesLexeme, GivesNone, Outcome, GivesNext, WasGiven}
 

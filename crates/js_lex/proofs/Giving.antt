@@ -13,30 +13,30 @@ use Rattle.js_base.specs.declared.source_type.Goal.{Goal as SourceGoal}
 use Rattle.js_base.specs.declared.source_type.Goal.TheVariants.{Script, Module, CommonJs, Unambiguous}
 use Rattle.js_base.specs.Sources.{is_goal}
 use Rattle.js_base.specs.Kinds.{same_kind}
-use Rattle.js_grammar.specs.Grammar.{Lexeme}
-use Rattle.js_grammar.specs.Settings.{Goal}
-use Rattle.js_grammar.specs.Characters.{has_line_terminator, width}
-use Rattle.js_grammar.specs.Longest.{longest, none_begins, joined}
-use Rattle.js_grammar.specs.Trivia.{is_trivia_piece, are_trivia}
-use Rattle.js_grammar.specs.Lexemes.{LexicalGoal, division, kind_in, is_escaped, units_of}
-use Rattle.js_grammar.specs.Lexed.{Stands, IsLexeme}
-use Rattle.js_grammar.specs.LexicalFaults.{behind, Due, Stopping, Condition, FaultyBehind}
-use Rattle.js_grammar.proofs.LongestLemmas.{both-right}
-use Rattle.js_grammar.proofs.Alike.{stands-same}
-use Rattle.js_words.specs.declared.scan.Scanned.{Scanned}
-use Rattle.js_words.specs.declared.scan.Fault.{Fault}
+use Rattle.part_words.specs.js_grammar.Grammar.{Lexeme}
+use Rattle.part_words.specs.js_grammar.Settings.{Goal}
+use Rattle.part_words.specs.js_grammar.Characters.{has_line_terminator, width}
+use Rattle.part_words.specs.js_grammar.Longest.{longest, none_begins, joined}
+use Rattle.part_words.specs.js_grammar.Trivia.{is_trivia_piece, are_trivia}
+use Rattle.part_words.specs.js_grammar.Lexemes.{LexicalGoal, division, kind_in, is_escaped, units_of}
+use Rattle.part_words.specs.js_grammar.Lexed.{Stands, IsLexeme}
+use Rattle.part_words.specs.js_grammar.LexicalFaults.{behind, Due, Stopping, Condition, FaultyBehind}
+use Rattle.part_words.proofs.js_grammar.LongestLemmas.{both-right}
+use Rattle.part_words.proofs.js_grammar.Alike.{stands-same}
+use Rattle.part_words.specs.declared.scan.Scanned.{Scanned}
+use Rattle.part_words.specs.declared.scan.Fault.{Fault}
 use Rattle.js_lex.specs.declared.trivia.Trivia.{Trivia}
 use Rattle.js_lex.specs.declared.output.LexerOutput.{LexerOutput}
-use Rattle.js_words.specs.Places.{Word}
+use Rattle.part_words.specs.Places.{Word}
 use Rattle.js_lex.specs.Kept.{Grows, Extends}
-use Rattle.js_words.specs.Scans.{IsScanned, IsStopped, NoLexeme, Scans}
+use Rattle.part_words.specs.Scans.{IsScanned, IsStopped, NoLexeme, Scans}
 use Rattle.js_lex.specs.TriviaPassed.{IsPassed, PassesBlanks, NoTrivia}
 use Rattle.js_lex.specs.Comments.{comment_at, irregular_at, html_fault_at, each_at}
 use Rattle.js_lex.proofs.Keeping.{grow_on, extend_on}
 use Rattle.js_lex.proofs.Marks.{html_marked}
 use Rattle.js_lex.specs.States.{State, goal_of}
 use Rattle.js_lex.specs.Reading.{is_right_angle, cut, Tells, LexemeBehind, GivesLexeme, GivesNone, Outcome, GivesNext, in_a_module, kept_token}
-use Rattle.js_words.proofs.KindsOfLexemes.{determined, plain_end, greater_word}
+use Rattle.part_words.proofs.KindsOfLexemes.{determined, plain_end, greater_word}
 use Rattle.js_lex.specs.Settling.{shown, shown_scan, token_of, undetermined_of, diagnostic_of, Fits, Settled, SettledAgain, ScanEnds, GivesAtOnce, TellsLexeme}
 
 -- behind trivia no further piece begins

@@ -5,19 +5,19 @@ use Rattle.std.proofs.lemmas.Bool.{eqb-true}
 use Rattle.js_base.specs.declared.kind.Kind.{Kind}
 use Rattle.js_base.specs.declared.kind.Kind.TheVariants.{HashbangComment}
 use Rattle.js_base.specs.Texts.{words}
-use Rattle.js_text.specs.Characters.{is_line_terminator}
-use Rattle.js_grammar.specs.Characters.{begins}
-use Rattle.js_grammar.specs.Trivia.{within_line, after}
-use Rattle.js_grammar.specs.Longest.{longest, none_longer}
-use Rattle.js_grammar.specs.Lexemes.{hashbang, hashbang_kind, lexemes_in, is_escaped}
-use Rattle.js_grammar.specs.LexicalFaults.{behind}
-use Rattle.js_grammar.proofs.LongestLemmas.{both, both-left, both-right, not-true}
-use Rattle.js_grammar.proofs.CoreLemmas.{none_longer-from}
-use Rattle.js_words.specs.Places.{Word}
-use Rattle.js_words.specs.Scans.{IsScanned, NoLexeme}
+use Rattle.js_base.specs.part_text.Characters.{is_line_terminator}
+use Rattle.part_words.specs.js_grammar.Characters.{begins}
+use Rattle.part_words.specs.js_grammar.Trivia.{within_line, after}
+use Rattle.part_words.specs.js_grammar.Longest.{longest, none_longer}
+use Rattle.part_words.specs.js_grammar.Lexemes.{hashbang, hashbang_kind, lexemes_in, is_escaped}
+use Rattle.part_words.specs.js_grammar.LexicalFaults.{behind}
+use Rattle.part_words.proofs.js_grammar.LongestLemmas.{both, both-left, both-right, not-true}
+use Rattle.part_words.proofs.js_grammar.CoreLemmas.{none_longer-from}
+use Rattle.part_words.specs.Places.{Word}
+use Rattle.part_words.specs.Scans.{IsScanned, NoLexeme}
 use Rattle.js_lex.specs.TriviaPassed.{IsLineEnd}
-use Rattle.js_words.proofs.Places.{then}
-use Rattle.js_words.proofs.Fronts.{not_all}
+use Rattle.part_words.proofs.Places.{then}
+use Rattle.part_words.proofs.Fronts.{not_all}
 
 abbrev if_line : Bool → Option Kind
 if_line b = elim b [ true ↦ Some HashbangComment | false ↦ None ]

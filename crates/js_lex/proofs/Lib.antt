@@ -17,3 +17,5 @@ pub mod Settled
 pub mod Lying
 pub mod Ordered
 pub mod Marked
+pub use Rattle.part_scan.proofs as part_scan
+pub use Rattle.part_words.proofs as part_words

@@ -10,28 +10,28 @@ use Rattle.js_base.specs.declared.diagnostic.Diagnostic.{Diagnostic}
 use Rattle.js_base.specs.declared.kind.Kind.TheVariants.{Undetermined}
 use Rattle.js_base.specs.Kinds.{same_kind}
 use Rattle.js_base.specs.Spans.{LiesIn}
-use Rattle.js_memory.specs.Lists.{replaced}
-use Rattle.js_grammar.specs.Grammar.{Lexeme}
-use Rattle.js_grammar.specs.Settings.{Goal}
-use Rattle.js_grammar.specs.Characters.{width}
-use Rattle.js_grammar.specs.Longest.{joined}
-use Rattle.js_grammar.specs.Trivia.{is_irregular}
-use Rattle.js_grammar.specs.Lexemes.{LexicalGoal, division}
-use Rattle.js_grammar.specs.LexicalFaults.{behind, FaultyBehind}
+use Rattle.js_base.specs.part_memory.Lists.{replaced}
+use Rattle.part_words.specs.js_grammar.Grammar.{Lexeme}
+use Rattle.part_words.specs.js_grammar.Settings.{Goal}
+use Rattle.part_words.specs.js_grammar.Characters.{width}
+use Rattle.part_words.specs.js_grammar.Longest.{joined}
+use Rattle.part_words.specs.js_grammar.Trivia.{is_irregular}
+use Rattle.part_words.specs.js_grammar.Lexemes.{LexicalGoal, division}
+use Rattle.part_words.specs.js_grammar.LexicalFaults.{behind, FaultyBehind}
 use Rattle.js_lex.specs.declared.comment.Comment.{Comment}
 use Rattle.js_lex.specs.declared.comment.CommentKind.{CommentKind}
 use Rattle.js_lex.specs.declared.output.LexerOutput.{LexerOutput}
 use Rattle.js_lex.specs.declared.checkpoint.Lengths.{Lengths}
 use Rattle.js_lex.specs.Comments.{comment_kind, comment_at, irregular_at, html_fault_at, span_at, each_at}
 use Rattle.js_lex.specs.Kept.{IsEmpty, LieIn, Extends, lengths_of, first_kept}
-use Rattle.js_words.specs.Places.{Word}
+use Rattle.part_words.specs.Places.{Word}
 use Rattle.js_lex.specs.States.{State}
 use Rattle.js_lex.specs.Reading.{cut, GivesLexeme, GivesNone, Outcome, GivesNext, in_a_module, is_kept, kept_token, relexed}
-use Rattle.js_words.specs.declared.scan.Scanned.{Scanned}
-use Rattle.js_words.specs.declared.scan.Fault.{Fault}
-use Rattle.js_scan.specs.declared.regular_expression.RegularExpression.{RegularExpression}
+use Rattle.part_words.specs.declared.scan.Scanned.{Scanned}
+use Rattle.part_words.specs.declared.scan.Fault.{Fault}
+use Rattle.part_scan.specs.declared.regular_expression.RegularExpression.{RegularExpression}
 use Rattle.js_lex.specs.Settling.{Fits, SettledAgain, HasFlags, SettledBehind, ScanEnds, diagnostic_of}
-use Rattle.js_scan.proofs.StringPlaces.{front_word}
+use Rattle.part_scan.proofs.StringPlaces.{front_word}
 use Rattle.js_lex.proofs.ReadAgain.{lie_flags}
 use Rattle.std.proofs.Math.Seq.{take-append_seam}
 

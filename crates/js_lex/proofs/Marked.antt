@@ -5,12 +5,12 @@ use Rattle.std.specs.List.{Any}
 use Rattle.std.proofs.lemmas.Bool.{eqb-true}
 use Rattle.std.proofs.lemmas.List.{get_or-take, take_all}
 use Rattle.std.proofs.lemmas.List.Folds.{list_any_more, Any-from_list_any}
-use Rattle.js_grammar.specs.CoreTexts.{starts, occurs}
-use Rattle.js_grammar.specs.LexicalFaults.{behind}
-use Rattle.js_grammar.proofs.LongestLemmas.{both-left}
+use Rattle.part_words.specs.js_grammar.CoreTexts.{starts, occurs}
+use Rattle.part_words.specs.js_grammar.LexicalFaults.{behind}
+use Rattle.part_words.proofs.js_grammar.LongestLemmas.{both-left}
 use Rattle.js_lex.specs.declared.comment.Comment.{Comment}
 use Rattle.js_lex.specs.Comments.{AreInOrder, is_before, has_before}
-use Rattle.js_words.specs.Places.{Word}
+use Rattle.part_words.specs.Places.{Word}
 
 or-false : (a b : Bool) → b ≡ false → (a || b) ≡ a
 or-false true b e = refl

@@ -8,25 +8,25 @@ use Rattle.std.proofs.lemmas.List.Elements.{All-nil, All-cons, All-append}
 use Rattle.js_base.specs.declared.kind.Kind.TheVariants.{RegExp}
 use Rattle.js_base.specs.declared.diagnostic.Diagnostic.{Diagnostic}
 use Rattle.js_base.specs.declared.diagnostic.DiagnosticKind.TheVariants.{RegExpFlag, HtmlCommentInModule}
-use Rattle.js_text.specs.Characters.{one_of, is_line_terminator}
-use Rattle.js_grammar.specs.Grammar.{Lexeme}
-use Rattle.js_grammar.specs.Settings.{Goal, script, module_goal, commonjs, unambiguous}
-use Rattle.js_grammar.specs.Characters.{width}
-use Rattle.js_grammar.specs.Longest.{joined}
-use Rattle.js_grammar.specs.Trivia.{is_html_comment}
-use Rattle.js_grammar.specs.Lexemes.{LexicalGoal, regular_expression, kind_in}
-use Rattle.js_grammar.specs.Lexed.{Lex, Stands, all_faults, in_module, passing_of}
-use Rattle.js_grammar.specs.RegularExpressions.{behind_pattern, flags}
-use Rattle.js_grammar.specs.LexicalFaults.{behind, FaultyBehind}
-use Rattle.js_words.specs.Places.{Word}
+use Rattle.js_base.specs.part_text.Characters.{one_of, is_line_terminator}
+use Rattle.part_words.specs.js_grammar.Grammar.{Lexeme}
+use Rattle.part_words.specs.js_grammar.Settings.{Goal, script, module_goal, commonjs, unambiguous}
+use Rattle.part_words.specs.js_grammar.Characters.{width}
+use Rattle.part_words.specs.js_grammar.Longest.{joined}
+use Rattle.part_words.specs.js_grammar.Trivia.{is_html_comment}
+use Rattle.part_words.specs.js_grammar.Lexemes.{LexicalGoal, regular_expression, kind_in}
+use Rattle.part_words.specs.js_grammar.Lexed.{Lex, Stands, all_faults, in_module, passing_of}
+use Rattle.part_words.specs.js_grammar.RegularExpressions.{behind_pattern, flags}
+use Rattle.part_words.specs.js_grammar.LexicalFaults.{behind, FaultyBehind}
+use Rattle.part_words.specs.Places.{Word}
 use Rattle.js_lex.specs.Comments.{html_fault_at, each_at}
 use Rattle.js_lex.specs.Reading.{LexemeBehind, in_a_module, is_wrong_flag, flag_faults}
-use Rattle.js_scan.specs.RegularExpressionParts.{IsRegularExpression}
-use Rattle.js_scan.specs.declared.regular_expression.RegularExpression.{RegularExpression}
-use Rattle.js_words.proofs.KindsOfLexemes.{pattern_is}
+use Rattle.part_scan.specs.RegularExpressionParts.{IsRegularExpression}
+use Rattle.part_scan.specs.declared.regular_expression.RegularExpression.{RegularExpression}
+use Rattle.part_words.proofs.KindsOfLexemes.{pattern_is}
 use Rattle.js_lex.proofs.Passing.{joined-more}
-use Rattle.js_words.proofs.Places.{width-append}
-use Rattle.js_scan.proofs.StringPlaces.{front_word}
+use Rattle.part_words.proofs.Places.{width-append}
+use Rattle.part_scan.proofs.StringPlaces.{front_word}
 
 -- ---- the flags of a regular expression
 

@@ -8,24 +8,24 @@ use Rattle.js_base.specs.declared.kind.Kind.TheVariants.{Undetermined, Eof, RAng
 use Rattle.js_base.specs.declared.token.Token.{Token}
 use Rattle.js_base.specs.Kinds.{one_of_kinds}
 use Rattle.js_base.specs.KindSets.{identifier_name_kinds}
-use Rattle.js_text.specs.Characters.{is_decimal, is_scalar}
-use Rattle.js_text.specs.Escapes.{in_name, code_points}
-use Rattle.js_text.specs.Decoding.{utf8_of, only_if, name_text}
-use Rattle.js_grammar.specs.Characters.{width, begins, is_identifier_start, is_identifier_part}
-use Rattle.js_grammar.specs.Names.{is_plain_name, named, name_of, word_of}
-use Rattle.js_grammar.specs.Lexemes.{division, kind_in, kind_of, Opening, opening, a_name, a_punctuator}
-use Rattle.js_grammar.specs.LexicalFaults.{behind}
-use Rattle.js_grammar.proofs.LongestLemmas.{both, both-left, both-right}
-use Rattle.js_words.specs.declared.name.Position.TheVariants.{Start, Part}
-use Rattle.js_words.specs.Places.{Word}
+use Rattle.js_base.specs.part_text.Characters.{is_decimal, is_scalar}
+use Rattle.js_base.specs.part_text.Escapes.{in_name, code_points}
+use Rattle.js_base.specs.part_text.Decoding.{utf8_of, only_if, name_text}
+use Rattle.part_words.specs.js_grammar.Characters.{width, begins, is_identifier_start, is_identifier_part}
+use Rattle.part_words.specs.js_grammar.Names.{is_plain_name, named, name_of, word_of}
+use Rattle.part_words.specs.js_grammar.Lexemes.{division, kind_in, kind_of, Opening, opening, a_name, a_punctuator}
+use Rattle.part_words.specs.js_grammar.LexicalFaults.{behind}
+use Rattle.part_words.proofs.js_grammar.LongestLemmas.{both, both-left, both-right}
+use Rattle.part_words.specs.declared.name.Position.TheVariants.{Start, Part}
+use Rattle.part_words.specs.Places.{Word}
 use Rattle.js_lex.specs.States.{State}
 use Rattle.js_lex.specs.Reading.{is_right_angle, GivesNext}
 use Rattle.js_lex.proofs.Again.{passed, given_start, cut_kind, cut_same}
-use Rattle.js_words.proofs.Flags.{spelled}
+use Rattle.part_words.proofs.Flags.{spelled}
 use Rattle.js_lex.proofs.Given.{lexeme_given}
-use Rattle.js_words.proofs.KindsOfLexemes.{opened, opened_is, opened_member, unopened, plain_end}
-use Rattle.js_words.proofs.NameSurrogates.{may_stand-scalar}
-use Rattle.js_scan.proofs.StringPlaces.{front_word}
+use Rattle.part_words.proofs.KindsOfLexemes.{opened, opened_is, opened_member, unopened, plain_end}
+use Rattle.part_words.proofs.NameSurrogates.{may_stand-scalar}
+use Rattle.part_scan.proofs.StringPlaces.{front_word}
 
 -- ---- what characters are that are a name
 

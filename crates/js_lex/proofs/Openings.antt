@@ -1,13 +1,13 @@
 -- What a character is that opens one class of lexemes alone.
 use Rattle.std.proofs.Common.{◌≡◌, ℕ, ◌+◌, ◌==◌, Bool, true, false, List, [], ◌∷◌, refl, ap, ◌∙◌, subst, ◌&&◌, ◌||◌}
 use Rattle.std.proofs.lemmas.Bool.{eqb-true}
-use Rattle.js_text.specs.Characters.{one_of, is_decimal}
-use Rattle.js_grammar.specs.Characters.{is_identifier_start}
-use Rattle.js_grammar.specs.Lexemes.{a_name, a_number, a_string, a_template, a_private_name, a_punctuator, opening}
-use Rattle.js_grammar.specs.Lexemes.{Opening}
-use Rattle.js_grammar.specs.Characters.{begins}
-use Rattle.js_grammar.specs.LexicalFaults.{behind}
-use Rattle.js_words.specs.Places.{Word}
+use Rattle.js_base.specs.part_text.Characters.{one_of, is_decimal}
+use Rattle.part_words.specs.js_grammar.Characters.{is_identifier_start}
+use Rattle.part_words.specs.js_grammar.Lexemes.{a_name, a_number, a_string, a_template, a_private_name, a_punctuator, opening}
+use Rattle.part_words.specs.js_grammar.Lexemes.{Opening}
+use Rattle.part_words.specs.js_grammar.Characters.{begins}
+use Rattle.part_words.specs.js_grammar.LexicalFaults.{behind}
+use Rattle.part_words.specs.Places.{Word}
 
 pub template_opens : (c : ℕ) (digit : Bool) → opening c digit ≡ a_template → c ≡ 96
 template_opens c digit h = by (is_identifier_start c || (c == 92)) refl (is_decimal c || ((c == 46) && digit)) refl (one_of (34 ∷ 39 ∷ []) c) refl (c == 96) refl (c == 35) refl

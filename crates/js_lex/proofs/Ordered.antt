@@ -5,8 +5,8 @@ use Rattle.std.proofs.Math.ListN.{get_or-append}
 use Rattle.std.proofs.Math.Seq.{get_or-append_seam}
 use Rattle.std.proofs.lemmas.List.Elements.{All-nil, All-cons, All-append, All-head, All-tail}
 use Rattle.std.proofs.lemmas.List.Sorted.{IsNonDecreasingBy-push, IsNonDecreasingBy-take, IsNonDecreasingBy-short}
-use Rattle.js_grammar.specs.Characters.{width}
-use Rattle.js_grammar.specs.Lexemes.{division}
+use Rattle.part_words.specs.js_grammar.Characters.{width}
+use Rattle.part_words.specs.js_grammar.Lexemes.{division}
 use Rattle.js_lex.specs.declared.comment.Comment.{Comment}
 use Rattle.js_lex.specs.declared.comment.CommentKind.{CommentKind}
 use Rattle.js_lex.specs.declared.output.LexerOutput.{LexerOutput}

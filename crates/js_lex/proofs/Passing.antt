@@ -6,22 +6,22 @@ use Rattle.std.proofs.Math.Bool.{or-false, or_assoc}
 use Rattle.std.proofs.Math.Seq.{drop-append_seam, take-append_seam}
 use Rattle.std.proofs.lemmas.List.{map-append}
 use Rattle.js_base.specs.declared.span.Span.{Span}
-use Rattle.js_text.specs.Characters.{is_line_terminator}
-use Rattle.js_grammar.specs.Characters.{has_line_terminator, width}
-use Rattle.js_grammar.specs.Longest.{longest, none_begins, joined}
-use Rattle.js_grammar.specs.Trivia.{is_trivia_piece, are_trivia, is_html_comment, is_irregular}
-use Rattle.js_grammar.specs.LexicalFaults.{behind}
-use Rattle.js_grammar.proofs.LongestLemmas.{both}
+use Rattle.js_base.specs.part_text.Characters.{is_line_terminator}
+use Rattle.part_words.specs.js_grammar.Characters.{has_line_terminator, width}
+use Rattle.part_words.specs.js_grammar.Longest.{longest, none_begins, joined}
+use Rattle.part_words.specs.js_grammar.Trivia.{is_trivia_piece, are_trivia, is_html_comment, is_irregular}
+use Rattle.part_words.specs.js_grammar.LexicalFaults.{behind}
+use Rattle.part_words.proofs.js_grammar.LongestLemmas.{both}
 use Rattle.js_lex.specs.declared.comment.Comment.{Comment}
 use Rattle.js_lex.specs.declared.comment.CommentKind.{CommentKind}
 use Rattle.js_lex.specs.declared.trivia.Piece.{Piece}
 use Rattle.js_lex.specs.declared.trivia.Trivia.{Trivia}
 use Rattle.js_lex.specs.declared.output.LexerOutput.{LexerOutput}
-use Rattle.js_words.specs.Places.{Word}
+use Rattle.part_words.specs.Places.{Word}
 use Rattle.js_lex.specs.Kept.{Grows}
 use Rattle.js_lex.specs.Comments.{comment_kind, comment_at, irregular_at, html_fault_at, each_at, span_at, attached}
 use Rattle.js_lex.specs.TriviaPassed.{IsPiece, IsPassed, PlainBlankAt, PassesBlanks, told, comment_told, blank_told, fault_told}
-use Rattle.js_words.proofs.Places.{then, none_passed, width-append}
+use Rattle.part_words.proofs.Places.{then, none_passed, width-append}
 use Rattle.js_lex.proofs.Keeping.{grow_on}
 
 -- the pieces so far: whichever follow as trivia, they are trivia together

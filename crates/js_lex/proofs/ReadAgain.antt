@@ -9,13 +9,13 @@ use Rattle.js_base.specs.declared.span.Span.{Span}
 use Rattle.js_base.specs.declared.diagnostic.Diagnostic.{Diagnostic}
 use Rattle.js_base.specs.declared.diagnostic.DiagnosticKind.TheVariants.{RegExpFlag}
 use Rattle.js_base.specs.Spans.{LiesIn}
-use Rattle.js_grammar.specs.Characters.{width}
+use Rattle.part_words.specs.js_grammar.Characters.{width}
 use Rattle.js_lex.specs.declared.output.LexerOutput.{LexerOutput}
 use Rattle.js_lex.specs.declared.comment.Comment.{Comment}
-use Rattle.js_words.specs.declared.scan.Scanned.{Scanned}
-use Rattle.js_words.specs.declared.scan.Fault.{Fault}
-use Rattle.js_scan.specs.declared.regular_expression.RegularExpression.{RegularExpression}
-use Rattle.js_words.specs.Places.{Word}
+use Rattle.part_words.specs.declared.scan.Scanned.{Scanned}
+use Rattle.part_words.specs.declared.scan.Fault.{Fault}
+use Rattle.part_scan.specs.declared.regular_expression.RegularExpression.{RegularExpression}
+use Rattle.part_words.specs.Places.{Word}
 use Rattle.js_lex.specs.Kept.{Extends, LieIn, fault_at}
 use Rattle.js_lex.specs.Reading.{is_wrong_flag, flag_faults}
 use Rattle.js_lex.specs.Settling.{SettledAgain, HasFlags, FlagsKept, SettledBehind}

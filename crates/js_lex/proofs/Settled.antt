@@ -9,25 +9,25 @@ use Rattle.js_base.specs.declared.diagnostic.DiagnosticKind.{DiagnosticKind}
 use Rattle.js_base.specs.declared.diagnostic.DiagnosticKind.TheVariants as fault
 use Rattle.js_base.specs.Kinds.{same_kind}
 use Rattle.js_base.proofs.KindLemmas.{kind_of_same}
-use Rattle.js_text.specs.Characters.{one_of}
-use Rattle.js_text.specs.Escapes.{in_name, before_all, code_points}
-use Rattle.js_grammar.specs.Grammar.{Lexeme}
-use Rattle.js_grammar.specs.Settings.{Goal}
-use Rattle.js_grammar.specs.Characters.{width, is_identifier_start, has_line_terminator}
-use Rattle.js_grammar.specs.Longest.{Class, longest, none_longer, joined}
-use Rattle.js_grammar.specs.Names.{named, name_of}
-use Rattle.js_grammar.specs.Strings.{nothing_left}
-use Rattle.js_grammar.specs.Lexemes.{LexicalGoal, division, lexemes_in, is_separated}
-use Rattle.js_grammar.specs.LexicalFaults.{behind, Unterminated, InvalidCharacter, InvalidNameEscape, InvalidStringEscape, is_name_word, is_right_inside, Stopping}
-use Rattle.js_grammar.proofs.LongestLemmas.{fronts, GoesOn, Same, none_longer-at, longest-same, both-left}
-use Rattle.js_grammar.proofs.Alike.{stands-same, lex-same}
-use Rattle.js_grammar.proofs.CorePlain.{no_backslash, points-append}
-use Rattle.js_grammar.proofs.Finding.{member}
-use Rattle.js_words.specs.Faults.{fault_kind, Reaches}
+use Rattle.js_base.specs.part_text.Characters.{one_of}
+use Rattle.js_base.specs.part_text.Escapes.{in_name, before_all, code_points}
+use Rattle.part_words.specs.js_grammar.Grammar.{Lexeme}
+use Rattle.part_words.specs.js_grammar.Settings.{Goal}
+use Rattle.part_words.specs.js_grammar.Characters.{width, is_identifier_start, has_line_terminator}
+use Rattle.part_words.specs.js_grammar.Longest.{Class, longest, none_longer, joined}
+use Rattle.part_words.specs.js_grammar.Names.{named, name_of}
+use Rattle.part_words.specs.js_grammar.Strings.{nothing_left}
+use Rattle.part_words.specs.js_grammar.Lexemes.{LexicalGoal, division, lexemes_in, is_separated}
+use Rattle.part_words.specs.js_grammar.LexicalFaults.{behind, Unterminated, InvalidCharacter, InvalidNameEscape, InvalidStringEscape, is_name_word, is_right_inside, Stopping}
+use Rattle.part_words.proofs.js_grammar.LongestLemmas.{fronts, GoesOn, Same, none_longer-at, longest-same, both-left}
+use Rattle.part_words.proofs.js_grammar.Alike.{stands-same, lex-same}
+use Rattle.part_words.proofs.js_grammar.CorePlain.{no_backslash, points-append}
+use Rattle.part_words.proofs.js_grammar.Finding.{member}
+use Rattle.part_words.specs.Faults.{fault_kind, Reaches}
 use Rattle.js_lex.specs.Settling.{GivesAtOnce}
 use Rattle.js_lex.specs.States.{State}
 use Rattle.js_lex.specs.Reading.{cut, LexemeBehind, GivesLexeme, GivesNone, Outcome, GivesNext}
-use Rattle.js_words.proofs.Parts.{parts_same}
+use Rattle.part_words.proofs.Parts.{parts_same}
 
 -- ---- the span of a fault that stops
 
@@ -64,7 +64,7 @@ not_name c cs n s = ap named (points-append in_name (c ∷ []) cs (plainly n)) �
 
     by : (o : Option (List ℕ)) → named (before_all (c ∷ []) o) ≡ None
     by None = refl
-    by (Some zs) = ap (λ (b : Bool). elim (Rattle.std.proofs.Common.◌&&◌ b (Rattle.std.specs.List.list_all Rattle.js_grammar.specs.Characters.is_identifier_part zs)) [ true ↦ Some (c ∷ zs) | false ↦ None ]) s
+    by (Some zs) = ap (λ (b : Bool). elim (Rattle.std.proofs.Common.◌&&◌ b (Rattle.std.specs.List.list_all Rattle.part_words.specs.js_grammar.Characters.is_identifier_part zs)) [ true ↦ Some (c ∷ zs) | false ↦ None ]) s
 
 some_not : {A : Type 0} (o : Option A) → is_some o ≡ true → o ≡ None → ⊥
 some_not o h e = let k : is_some o ≡ false = ap is_some e in cc
@@ -167,10 +167,10 @@ escapes_differ {text = text} {i = i} a b = by (mark_is a.mark a.marked)
     no_backslash_there = member no_backslash (34 ∷ 39 ∷ []) b.quote is_quote refl
 
     no_start : is_identifier_start b.quote ≡ false
-    no_start = Rattle.js_grammar.proofs.LongestLemmas.not-true (is_identifier_start b.quote) (member (λ c. not (is_identifier_start c)) (34 ∷ 39 ∷ []) b.quote is_quote refl)
+    no_start = Rattle.part_words.proofs.js_grammar.LongestLemmas.not-true (is_identifier_start b.quote) (member (λ c. not (is_identifier_start c)) (34 ∷ 39 ∷ []) b.quote is_quote refl)
 
     no_mark : (b.quote == 35) ≡ false
-    no_mark = Rattle.js_grammar.proofs.LongestLemmas.not-true (b.quote == 35) (member (λ c. not (c == 35)) (34 ∷ 39 ∷ []) b.quote is_quote refl)
+    no_mark = Rattle.part_words.proofs.js_grammar.LongestLemmas.not-true (b.quote == 35) (member (λ c. not (c == 35)) (34 ∷ 39 ∷ []) b.quote is_quote refl)
 
     by : (a.mark ≡ []) ⊎ (a.mark ≡ 35 ∷ []) → ⊥
     by (inl e) = begins_otherwise b.quote (b.inside ++ 92 ∷ b.rest) a.name a.rest no_backslash_there no_start
@@ -196,10 +196,10 @@ stopping_same fault.UnterminatedRegexp text i from to from' to' a b r q = (a.0 �
 stopping_same fault.UnterminatedComment text i from to from' to' a b r q = (a.0 ∙ sym b.0, unterminated_same _ _ a.1 b.1)
 stopping_same fault.InvalidEscape text i from to from' to' a b r q =
     let e = escape_same a b in
-    (e, parts_same r (subst (λ (n : ℕ). Rattle.js_words.specs.Faults.PartsEnd false text (n + 1) to') (sym e) q))
+    (e, parts_same r (subst (λ (n : ℕ). Rattle.part_words.specs.Faults.PartsEnd false text (n + 1) to') (sym e) q))
 stopping_same fault.InvalidNumber text i from to from' to' a b r q =
     let e = a.0 ∙ sym b.0 in
-    (e, parts_same r (subst (λ (n : ℕ). Rattle.js_words.specs.Faults.PartsEnd true text n to') (sym e) q))
+    (e, parts_same r (subst (λ (n : ℕ). Rattle.part_words.specs.Faults.PartsEnd true text n to') (sym e) q))
 stopping_same _ text i from to from' to' a b r q = absurd a
 
 -- ---- the token

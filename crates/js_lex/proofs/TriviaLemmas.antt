@@ -5,40 +5,40 @@ use Rattle.std.specs.List.{list_all}
 use Rattle.std.proofs.lemmas.Bool.{and_left, and_right}
 use Rattle.std.proofs.Math.Bool.{and-false, and-true, not-not, or-false}
 use Rattle.std.proofs.lemmas.List.Folds.{list_all-append, list_any-append}
-use Rattle.js_text.specs.Characters.{is_line_terminator}
-use Rattle.js_grammar.specs.Characters.{has_line_terminator, begins, width}
-use Rattle.js_grammar.specs.Longest.{longest, none_longer, none_begins}
-use Rattle.js_grammar.specs.Trivia.{after, within_line, closes_comment, is_blank, is_single_line_comment, is_multi_line_comment, is_html_open, is_html_close, is_html_comment, is_trivia_piece}
-use Rattle.js_grammar.specs.CoreTexts.{starts}
-use Rattle.js_grammar.specs.LexicalFaults.{behind}
-use Rattle.js_grammar.proofs.LongestLemmas.{both-left, both-right, both, not-true, none_longer-at}
-use Rattle.js_grammar.proofs.Finding.{neither, neither-left, neither-right}
-use Rattle.js_grammar.proofs.CoreFirst.{lt-true}
-use Rattle.js_text.specs.Characters.{one_of}
-use Rattle.js_grammar.specs.Trivia.{is_irregular}
-use Rattle.js_words.specs.declared.byte_class.ByteClass.{ByteClass}
-use Rattle.js_words.specs.ByteClasses.{IsOf, Stays, is_trivia_class, begins_no_trivia, is_line_class, is_comment_class, stays_on_line, stays_in_comment}
+use Rattle.js_base.specs.part_text.Characters.{is_line_terminator}
+use Rattle.part_words.specs.js_grammar.Characters.{has_line_terminator, begins, width}
+use Rattle.part_words.specs.js_grammar.Longest.{longest, none_longer, none_begins}
+use Rattle.part_words.specs.js_grammar.Trivia.{after, within_line, closes_comment, is_blank, is_single_line_comment, is_multi_line_comment, is_html_open, is_html_close, is_html_comment, is_trivia_piece}
+use Rattle.part_words.specs.js_grammar.CoreTexts.{starts}
+use Rattle.part_words.specs.js_grammar.LexicalFaults.{behind}
+use Rattle.part_words.proofs.js_grammar.LongestLemmas.{both-left, both-right, both, not-true, none_longer-at}
+use Rattle.part_words.proofs.js_grammar.Finding.{neither, neither-left, neither-right}
+use Rattle.part_words.proofs.js_grammar.CoreFirst.{lt-true}
+use Rattle.js_base.specs.part_text.Characters.{one_of}
+use Rattle.part_words.specs.js_grammar.Trivia.{is_irregular}
+use Rattle.part_words.specs.declared.byte_class.ByteClass.{ByteClass}
+use Rattle.part_words.specs.ByteClasses.{IsOf, Stays, is_trivia_class, begins_no_trivia, is_line_class, is_comment_class, stays_on_line, stays_in_comment}
 use Rattle.std.proofs.lemmas.Bool.{eqb-true}
-use Rattle.js_words.proofs.ByteClasses.{agree, stays}
-use Rattle.js_grammar.proofs.CoreLemmas.{none_longer-from}
-use Rattle.js_words.specs.Places.{Word, Peeks}
+use Rattle.part_words.proofs.ByteClasses.{agree, stays}
+use Rattle.part_words.proofs.js_grammar.CoreLemmas.{none_longer-from}
+use Rattle.part_words.specs.Places.{Word, Peeks}
 use Rattle.std.proofs.lemmas.Str.{len_utf8_bounds}
 use Rattle.js_lex.specs.TriviaPassed.{IsPiece, PieceAt, BlankAt, IsBlankPiece, IsLineEnd, IsBlockEnd, block_kind, PlainBlankAt, NoTrivia}
 use Rattle.js_lex.specs.Comments.{comment_kind}
 use Rattle.js_lex.specs.declared.comment.CommentKind.TheVariants.{Line, SingleLineBlock, MultiLineBlock}
 use Rattle.js_lex.specs.declared.trivia.Piece.{Piece}
 use Rattle.js_lex.specs.declared.trivia.Trivia.{Trivia}
-use Rattle.js_words.proofs.Places.{then}
-use Rattle.js_words.proofs.Fronts.{not_all, onwards}
-use Rattle.js_scan.proofs.Punctuators.{passes, ascii_of}
-use Rattle.js_scan.specs.Punctuators.{punctuator_of}
+use Rattle.part_words.proofs.Places.{then}
+use Rattle.part_words.proofs.Fronts.{not_all, onwards}
+use Rattle.part_scan.proofs.Punctuators.{passes, ascii_of}
+use Rattle.part_scan.specs.Punctuators.{punctuator_of}
 use Rattle.js_base.specs.declared.kind.Kind.{Kind}
-use Rattle.js_words.specs.declared.scan.Scanned.{Scanned}
+use Rattle.part_words.specs.declared.scan.Scanned.{Scanned}
 use Rattle.std.specs.Prelude.{IfSome}
 use Rattle.js_base.specs.Texts.{text_of, punctuators}
-use Rattle.js_words.specs.ByteClasses.{is_letter_class}
-use Rattle.js_words.specs.declared.byte_class.ByteClass.TheVariants.{Letter}
-use Rattle.js_grammar.proofs.CoreNames.{ascii}
+use Rattle.part_words.specs.ByteClasses.{is_letter_class}
+use Rattle.part_words.specs.declared.byte_class.ByteClass.TheVariants.{Letter}
+use Rattle.part_words.proofs.js_grammar.CoreNames.{ascii}
 use Rattle.std.proofs.lemmas.Bool.Decides.{nat_tests}
 
 -- ---- lines
@@ -182,7 +182,7 @@ never_closed star all f w more e = go (closes_comment false w) refl
     goes_on false = (42, 47 ∷ [], refl)
 
     clash : (m : List ℕ) (c : ℕ) (x : List ℕ) → closes_comment false w ≡ true → all ≡ w ++ m → closes_comment star (c ∷ x) ≡ true → ⊥
-    clash [] c x h e k = let a = closed false w c x h in let b : closes_comment false (w ++ c ∷ x) ≡ closes_comment star (c ∷ x) = subst (λ (u : List ℕ). closes_comment false (u ++ c ∷ x) ≡ closes_comment star (c ∷ x)) (e ∙ Rattle.js_grammar.proofs.LongestLemmas.append-nil w) (f (c ∷ x)) in cc
+    clash [] c x h e k = let a = closed false w c x h in let b : closes_comment false (w ++ c ∷ x) ≡ closes_comment star (c ∷ x) = subst (λ (u : List ℕ). closes_comment false (u ++ c ∷ x) ≡ closes_comment star (c ∷ x)) (e ∙ Rattle.part_words.proofs.js_grammar.LongestLemmas.append-nil w) (f (c ∷ x)) in cc
     clash (d ∷ m) c x h e k = let a : closes_comment false (w ++ ((d ∷ m) ++ c ∷ x)) ≡ false = closed false w d (m ++ c ∷ x) h in let b : closes_comment false (w ++ ((d ∷ m) ++ c ∷ x)) ≡ closes_comment star (c ∷ x) = subst (λ (u : List ℕ). closes_comment false u ≡ closes_comment star (c ∷ x)) (ap (λ (u : List ℕ). u ++ c ∷ x) e ∙ append_assoc w (d ∷ m) (c ∷ x)) (f (c ∷ x)) in cc
 
     go : (b : Bool) → closes_comment false w ≡ b → closes_comment false w ≡ false

@@ -5,9 +5,9 @@ use Rattle.std.specs.List.Sorted.{IsNonDecreasingBy}
 use Rattle.js_base.specs.declared.span.Span.{Span}
 use Rattle.js_base.specs.declared.diagnostic.Diagnostic.{Diagnostic}
 use Rattle.js_base.specs.declared.diagnostic.DiagnosticKind.TheVariants.{HtmlCommentInModule}
-use Rattle.js_grammar.specs.Characters.{width, has_line_terminator}
-use Rattle.js_grammar.specs.Trivia.{is_single_line_comment, is_multi_line_comment, is_html_comment, is_irregular}
-use Rattle.js_grammar.specs.CommentMarks.{is_pure_comment, is_no_side_effects_comment}
+use Rattle.part_words.specs.js_grammar.Characters.{width, has_line_terminator}
+use Rattle.part_words.specs.js_grammar.Trivia.{is_single_line_comment, is_multi_line_comment, is_html_comment, is_irregular}
+use Rattle.part_words.specs.js_grammar.CommentMarks.{is_pure_comment, is_no_side_effects_comment}
 use Rattle.js_lex.specs.declared.comment.Comment.{Comment}
 use Rattle.js_lex.specs.declared.mark.Sort.{Sort}
 use Rattle.js_lex.specs.declared.mark.Sort.TheVariants.{Pure, NoSideEffects}

@@ -1,7 +1,7 @@
 -- Where the opening of a hashbang comment ends (ECMA-262, 12.5).
 use Rattle.std.specs.Prelude.{ℕ, ◌≡◌, List, ◌∷◌, Option, MatchOption, codes}
-use Rattle.js_grammar.specs.LexicalFaults.{behind}
-use Rattle.js_words.specs.Places.{Word}
+use Rattle.part_words.specs.js_grammar.LexicalFaults.{behind}
+use Rattle.part_words.specs.Places.{Word}
 
 -- the place behind the `#!` with which the text begins, none where it doesn't
 abbrev pub OpeningEnds : List ℕ → Option ℕ → Type 0

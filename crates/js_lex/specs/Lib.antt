@@ -6,3 +6,5 @@ pub mod Reading
 pub mod Settling
 pub mod Openings
 pub mod Hashbangs
+pub use Rattle.part_scan.specs as part_scan
+pub use Rattle.part_words.specs as part_words

@@ -1,8 +1,8 @@
 -- What a character begins, and the end of the text.
 use Rattle.std.specs.Prelude.{ℕ, false}
 use Rattle.js_base.specs.declared.kind.Kind.TheVariants.{Eof}
-use Rattle.js_grammar.specs.Lexemes as lexemes
-use Rattle.js_words.specs.declared.scan.Scanned.{Scanned}
+use Rattle.part_words.specs.js_grammar.Lexemes as lexemes
+use Rattle.part_words.specs.declared.scan.Scanned.{Scanned}
 use Rattle.js_lex.specs.declared.plain_goal.Opening.{Opening}
 use Rattle.js_lex.specs.declared.plain_goal.Opening.TheVariants as opens
 

@@ -8,22 +8,23 @@ use Rattle.js_base.specs.declared.diagnostic.Diagnostic.{Diagnostic}
 use Rattle.js_base.specs.declared.diagnostic.DiagnosticKind.TheVariants.{RegExpFlag}
 use Rattle.js_base.specs.Kinds.{same_kind, one_of_kinds}
 use Rattle.js_base.specs.Spans.{LiesIn}
-use Rattle.js_text.specs.Characters.{one_of}
-use Rattle.js_memory.specs.Lists.{replaced}
-use Rattle.js_grammar.specs.Grammar.{Lexeme}
-use Rattle.js_grammar.specs.Settings.{Goal}
-use Rattle.js_grammar.specs.Characters.{width, has_line_terminator}
-use Rattle.js_grammar.specs.Longest.{joined}
-use Rattle.js_grammar.specs.Lexemes.{LexicalGoal, division, hashbang, is_separated}
-use Rattle.js_grammar.specs.Lexed.{Stands, Lex, in_module, all_faults, passing_of}
-use Rattle.js_grammar.specs.RegularExpressions.{flags}
-use Rattle.js_grammar.specs.LexicalFaults.{behind, Due, Stopping, FaultyBehind}
+use Rattle.js_base.specs.part_text.Characters.{one_of}
+use Rattle.js_base.specs.part_memory.Lists.{replaced}
+use Rattle.part_words.specs.js_grammar.Grammar.{Lexeme}
+use Rattle.part_words.specs.js_grammar.Settings.{Goal}
+use Rattle.part_words.specs.js_grammar.Characters.{width, has_line_terminator}
+use Rattle.part_words.specs.js_grammar.Longest.{joined}
+use Rattle.part_words.specs.js_grammar.Lexemes.{LexicalGoal, division, hashbang, is_separated}
+use Rattle.part_words.specs.js_grammar.Lexed.{Stands, in_module, passing_of}
+use Rattle.part_words.specs.js_grammar.RegularExpressions.{flags}
+use Rattle.part_words.specs.js_grammar.LexicalFaults.{behind, Due, Stopping, FaultyBehind}
 use Rattle.js_lex.specs.Comments.{comment_at, irregular_at, html_fault_at, each_at}
 use Rattle.js_lex.specs.Kept.{Grows}
-use Rattle.js_words.specs.Places.{Word}
-use Rattle.js_words.specs.Faults.{fault_kind, Reaches}
-use Rattle.js_words.specs.Scans.{NoLexeme}
+use Rattle.part_words.specs.Places.{Word}
+use Rattle.part_words.specs.Faults.{fault_kind, Reaches}
+use Rattle.part_words.specs.Scans.{NoLexeme}
 use Rattle.js_lex.specs.States.{State, SameText}
+pub use Rattle.part_words.specs.js_grammar.Lexed.{LexemeBehind}
 
 -- ---- a token and the lexeme that it tells
 
@@ -42,11 +43,6 @@ pub record Tells (y : Lexeme) (t : Token) : Type 0 where
   pub end : t.span.end ≡ y.to
   pub newline : t.is_on_new_line ≡ y.newline
   pub escaped : t.escaped ≡ y.escaped
-
--- behind the place s stands the lexeme y of a lexical goal
-pub record LexemeBehind (goal : LexicalGoal) (text : List ℕ) (s : ℕ) (y : Lexeme) : Type 0 where
-  pub lex : Lex all_faults text s y
-  pub of_goal : lex.goal ≡ goal
 
 -- behind the place s stands a lexeme of the goal, which the token tells, with its mark "has a separator"
 pub record GivesLexeme (goal : LexicalGoal) (shown : Lexeme → Lexeme) (text : List ℕ) (s : ℕ) (t : Token) : Type 0 where

@@ -3,17 +3,17 @@ use Rattle.std.specs.Prelude.{ℕ, ◌+◌, ◌≡◌, ◌<◌, ◌≤◌, Bool,
 use Rattle.js_base.specs.declared.kind.Kind.TheVariants.{RAngle, Undetermined}
 use Rattle.js_base.specs.declared.token.Token.{Token}
 use Rattle.js_base.specs.declared.diagnostic.Diagnostic.{Diagnostic}
-use Rattle.js_words.specs.declared.scan.Scanned.{Scanned}
-use Rattle.js_words.specs.declared.scan.Fault.{Fault}
+use Rattle.part_words.specs.declared.scan.Scanned.{Scanned}
+use Rattle.part_words.specs.declared.scan.Fault.{Fault}
 use Rattle.js_lex.specs.declared.output.LexerOutput.{LexerOutput}
 use Rattle.js_lex.specs.Kept.{Grows}
 use Rattle.js_lex.specs.Reading.{is_right_angle, kept_token, relexed, flag_faults, GivesNext}
-use Rattle.js_grammar.specs.Settings.{Goal}
-use Rattle.js_grammar.specs.Lexemes.{division}
-use Rattle.js_words.specs.Places.{Word}
-use Rattle.js_words.specs.Scans.{IsScanned}
+use Rattle.part_words.specs.js_grammar.Settings.{Goal}
+use Rattle.part_words.specs.js_grammar.Lexemes.{division}
+use Rattle.part_words.specs.Places.{Word}
+use Rattle.part_words.specs.Scans.{IsScanned}
 use Rattle.js_lex.specs.TriviaPassed.{NoTrivia}
-use Rattle.js_scan.specs.declared.regular_expression.RegularExpression.{RegularExpression}
+use Rattle.part_scan.specs.declared.regular_expression.RegularExpression.{RegularExpression}
 
 -- of a punctuator that begins with `>`, the sign alone
 abbrev pub shown : ℕ → Scanned → Scanned

@@ -3,7 +3,7 @@ use Rattle.std.specs.Prelude.{ℕ, ◌≡◌, ◌≤◌, Bool, List, length, IsU
 use Rattle.js_base.specs.declared.TheConstants.{MAX_LEN}
 use Rattle.js_base.specs.declared.source_type.SourceType.{SourceType}
 use Rattle.js_base.specs.declared.source_type.Goal.TheVariants as source
-use Rattle.js_grammar.specs.Settings.{Goal, script, module_goal, commonjs, unambiguous}
+use Rattle.part_words.specs.js_grammar.Settings.{Goal, script, module_goal, commonjs, unambiguous}
 use Rattle.js_lex.specs.declared.output.LexerOutput.{LexerOutput}
 use Rattle.js_lex.specs.Comments.{AreInOrder}
 use Rattle.js_lex.specs.Kept.{LieIn}

@@ -1,20 +1,20 @@
 -- The trivia that a lexer passes, and what is kept of it.
 use Rattle.std.specs.Prelude.{ℕ, ◌+◌, ◌≡◌, ◌==◌, Bool, true, false, not, List, [], ◌∷◌, ◌++◌, Option, Some, None, IsTrue}
-use Rattle.js_text.specs.Characters.{is_line_terminator}
+use Rattle.js_base.specs.part_text.Characters.{is_line_terminator}
 use Rattle.js_base.specs.declared.span.Span.{Span}
 use Rattle.js_base.specs.declared.diagnostic.Diagnostic.{Diagnostic}
 use Rattle.js_base.specs.declared.diagnostic.DiagnosticKind.TheVariants.{HtmlCommentInModule}
-use Rattle.js_grammar.specs.Characters.{has_line_terminator, begins}
-use Rattle.js_grammar.specs.Longest.{longest, none_begins, joined}
-use Rattle.js_grammar.specs.Trivia.{is_trivia_piece, are_trivia, is_html_comment, is_irregular, is_blank, within_line, closes_comment}
+use Rattle.part_words.specs.js_grammar.Characters.{has_line_terminator, begins}
+use Rattle.part_words.specs.js_grammar.Longest.{longest, none_begins, joined}
+use Rattle.part_words.specs.js_grammar.Trivia.{is_trivia_piece, are_trivia, is_html_comment, is_irregular, is_blank, within_line, closes_comment}
 use Rattle.js_lex.specs.declared.comment.Comment.{Comment}
 use Rattle.js_lex.specs.declared.comment.CommentKind.{CommentKind}
 use Rattle.js_lex.specs.declared.comment.CommentKind.TheVariants.{SingleLineBlock, MultiLineBlock}
-use Rattle.js_grammar.specs.LexicalFaults.{behind}
+use Rattle.part_words.specs.js_grammar.LexicalFaults.{behind}
 use Rattle.js_lex.specs.declared.trivia.Piece.{Piece}
 use Rattle.js_lex.specs.declared.trivia.Trivia.{Trivia}
 use Rattle.js_lex.specs.declared.output.LexerOutput.{LexerOutput}
-use Rattle.js_words.specs.Places.{Word}
+use Rattle.part_words.specs.Places.{Word}
 use Rattle.js_lex.specs.Comments.{comment_kind, comment_at, irregular_at, html_fault_at, each_at}
 use Rattle.js_lex.specs.Kept.{Grows}
 

@@ -3,8 +3,7 @@
 ghost use Rattle.std.specs.Prelude.{◌≡◌, ◌++◌, take, drop, map, IsTrue};
 ghost use Rattle.js_lex.specs.Comments.{attached, Follow};
 
-use js_base::Span;
-use js_memory::List;
+use js_base::{List, Span};
 
 /// The kinds of comments.
 #[derive(Debug, Clone, Copy, PartialEq, Eq)]

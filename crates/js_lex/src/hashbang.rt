@@ -1,14 +1,14 @@
 //! The hashbang comment (ECMA-262, section 12.5).
 
 ghost use Rattle.std.specs.Prelude.{MatchOption};
-ghost use Rattle.js_grammar.specs.Lexemes.{hashbang};
-ghost use Rattle.js_words.specs.Scans.{IsScanned, NoLexeme};
+ghost use Rattle.part_words.specs.js_grammar.Lexemes.{hashbang};
+ghost use Rattle.part_words.specs.Scans.{IsScanned, NoLexeme};
 ghost use Rattle.js_lex.specs.Hashbangs.{OpeningEnds};
 
 use crate::trivia::line_end;
 use js_base::Kind;
-use js_words::character::next_character;
-use js_words::scan::Scanned;
+use part_words::character::next_character;
+use part_words::scan::Scanned;
 
 /// The hashbang comment at a byte offset, up to the end of the line; none where the offset is not the text's start or
 /// the text does not begin with `#!` (ECMA-262, section 12.5).

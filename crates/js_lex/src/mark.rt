@@ -3,12 +3,12 @@
 ghost use Rattle.std.specs.Prelude.{◌≡◌, ◌<◌, IsTrue, length, nat_lt, chars};
 ghost use Rattle.std.specs.List.{list_all, All};
 ghost use Rattle.js_base.specs.Spans.{LiesIn};
-ghost use Rattle.js_grammar.specs.CoreTexts.{occurs};
+ghost use Rattle.part_words.specs.js_grammar.CoreTexts.{occurs};
 ghost use Rattle.js_lex.specs.Comments.{sort_of, has_before, AreInOrder};
 
 use crate::comment::Comments;
-use js_words::character::next_character;
-use js_words::place::goes_on;
+use part_words::character::next_character;
+use part_words::place::goes_on;
 
 /// The sorts of comments that mark what stands behind them.
 #[derive(Clone, Copy)]

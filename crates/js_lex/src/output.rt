@@ -5,8 +5,7 @@ ghost use Rattle.js_lex.specs.Kept.{IsEmpty, Grows, Extends, fault_at, lengths_o
 
 use crate::checkpoint::Lengths;
 use crate::comment::Comments;
-use js_base::{Diagnostic, DiagnosticKind, Diagnostics, Span, Spans, Tokens};
-use js_memory::NoMemory;
+use js_base::{Diagnostic, DiagnosticKind, Diagnostics, NoMemory, Span, Spans, Tokens};
 use std::alloc::Global;
 
 /// What was kept while a text was read, each list in the order of the text.

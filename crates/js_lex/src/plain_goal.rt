@@ -1,27 +1,27 @@
 //! The plain lexical goal: InputElementDiv (ECMA-262, chapter 12).
 
 ghost use Rattle.std.specs.Prelude.{◌≡◌, ◌<◌, ◌≤◌, Bool, IsTrue, IfSome, IsCharBoundary, codes};
-ghost use Rattle.js_grammar.specs.Longest.{none_begins};
-ghost use Rattle.js_grammar.specs.Trivia.{is_trivia_piece};
-ghost use Rattle.js_text.specs.Characters.{one_of};
-ghost use Rattle.js_grammar.specs.Lexemes.{division};
+ghost use Rattle.part_words.specs.js_grammar.Longest.{none_begins};
+ghost use Rattle.part_words.specs.js_grammar.Trivia.{is_trivia_piece};
+ghost use Rattle.js_base.specs.part_text.Characters.{one_of};
+ghost use Rattle.part_words.specs.js_grammar.Lexemes.{division};
 ghost use Rattle.js_lex.specs.TriviaPassed.{NoTrivia};
-ghost use Rattle.js_grammar.specs.Lexemes as lexemes;
-ghost use Rattle.js_grammar.specs.LexicalFaults.{behind};
-ghost use Rattle.js_words.specs.Scans.{Scans, IsScanned};
+ghost use Rattle.part_words.specs.js_grammar.Lexemes as lexemes;
+ghost use Rattle.part_words.specs.js_grammar.LexicalFaults.{behind};
+ghost use Rattle.part_words.specs.Scans.{Scans, IsScanned};
 ghost use Rattle.js_lex.specs.Openings.{end_at, opening_told};
 
 use js_base::Kind;
-use js_scan::number::number_at;
-use js_scan::punctuator::{lone_at, punctuator_at};
-use js_scan::string::string_at;
-use js_scan::template::template_at;
-use js_words::byte_class::{ByteClass, class_of};
-use js_words::character::next_character;
-use js_words::class::is_identifier_start;
-use js_words::name::{ascii_name_at, name_at, private_name_at};
-use js_words::place::{byte_at, digit_at};
-use js_words::scan::{Scan, Scanned};
+use part_scan::number::number_at;
+use part_scan::punctuator::{lone_at, punctuator_at};
+use part_scan::string::string_at;
+use part_scan::template::template_at;
+use part_words::byte_class::{ByteClass, class_of};
+use part_words::character::next_character;
+use part_words::class::is_identifier_start;
+use part_words::name::{ascii_name_at, name_at, private_name_at};
+use part_words::place::{byte_at, digit_at};
+use part_words::scan::{Scan, Scanned};
 
 /// What a character begins.
 #[derive(Clone, Copy)]

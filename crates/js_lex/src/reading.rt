@@ -1,7 +1,7 @@
 //! How a token is made of what a scan answers, and what is kept of it.
 
 ghost use Rattle.std.specs.Prelude.{Ok, Err, ◌≡◌, ◌≤◌, ◌<◌, ◌+◌, [], length, IfOk, IfSome, OnOk, OnErr, IsCharBoundary, false};
-ghost use Rattle.js_grammar.specs.Lexemes.{division};
+ghost use Rattle.part_words.specs.js_grammar.Lexemes.{division};
 ghost use Rattle.js_lex.specs.Kept.{Grows, Extends};
 ghost use Rattle.js_lex.specs.States.{goal_of};
 ghost use Rattle.js_lex.specs.Reading as reading;
@@ -12,9 +12,8 @@ ghost use Rattle.js_lex.specs.Settling.{Fits, Settled, GivesAtOnce, TellsLexeme}
 use crate::output::LexerOutput;
 use crate::plain_goal::{frequent_at, plain_at};
 use crate::trivia::{begins_no_trivia, pass_blanks, pass_trivia};
-use js_base::{Kind, MAX_LEN, SourceType, Span, Token};
-use js_memory::NoMemory;
-use js_words::scan::{Fault, Scan, Scanned};
+use js_base::{Kind, MAX_LEN, NoMemory, SourceType, Span, Token};
+use part_words::scan::{Fault, Scan, Scanned};
 
 /// The next token of the plain goal from a place on; of a punctuator that begins with `>` this sign alone. What is
 /// passed and given is kept. After want of memory what was kept before is still there.

@@ -3,17 +3,16 @@
 
 ghost use Rattle.std.specs.Prelude.{◌≡◌, ◌≤◌, ℕ, List, [], false, length, IfOk, OnOk, OnErr, IsCharBoundary};
 ghost use Rattle.js_base.specs.declared.kind.Kind.TheVariants.{RegExp};
-ghost use Rattle.js_words.specs.Places.{Word};
+ghost use Rattle.part_words.specs.Places.{Word};
 ghost use Rattle.js_lex.specs.Kept.{Grows, Extends};
 ghost use Rattle.js_lex.specs.Reading.{flag_faults};
 ghost use Rattle.js_lex.specs.Settling.{Fits, SettledAgain, HasFlags, FlagsKept, SettledBehind};
 
 use crate::output::LexerOutput;
 use crate::reading::{is_kept, settle_fault, token_of};
-use js_base::{DiagnosticKind, Kind, MAX_LEN, Span, Token};
-use js_memory::NoMemory;
-use js_scan::regular_expression::{NONE_SEEN, RegularExpression, flag_at};
-use js_words::scan::{Scan, Scanned};
+use js_base::{DiagnosticKind, Kind, MAX_LEN, NoMemory, Span, Token};
+use part_scan::regular_expression::{NONE_SEEN, RegularExpression, flag_at};
+use part_words::scan::{Scan, Scanned};
 
 /// The token of what a scan at the start of a token answers. It is put in place of the token kept last, where tokens are
 /// asked for, unless no lexeme stands there; then the fault is kept. Before it each wrong flag of a regular expression is

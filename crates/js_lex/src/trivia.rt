@@ -2,22 +2,21 @@
 //! comments).
 
 ghost use Rattle.std.specs.Prelude.{◌≡◌, ◌≤◌, ◌+◌, [], ◌∷◌, Bool, ◌&&◌, false, length, IfOk, OnErr, OnOk, Some, None, IsTrue, IsCharBoundary};
-ghost use Rattle.js_text.specs.Characters.{one_of};
-ghost use Rattle.js_words.specs.ByteClasses as classes;
-ghost use Rattle.js_words.specs.ByteClasses.{Stays};
-ghost use Rattle.js_words.specs.Places.{Word};
+ghost use Rattle.js_base.specs.part_text.Characters.{one_of};
+ghost use Rattle.part_words.specs.ByteClasses as classes;
+ghost use Rattle.part_words.specs.ByteClasses.{Stays};
+ghost use Rattle.part_words.specs.Places.{Word};
 ghost use Rattle.js_lex.specs.Kept.{Grows, Extends};
 ghost use Rattle.js_lex.specs.TriviaPassed.{PieceAt, BlankAt, PlainBlankAt, BlockEnd, IsLineEnd, block_kind, told, comment_told, blank_told, fault_told, IsPassed, PassesBlanks};
 ghost use Rattle.js_lex.specs.declared.comment.CommentKind.TheVariants.{Line};
 
 use crate::comment::{Comment, CommentKind, attach};
 use crate::output::LexerOutput;
-use js_base::{DiagnosticKind, MAX_LEN, Span};
-use js_memory::NoMemory;
-use js_words::byte_class::class_of;
-use js_words::character::{Character, character_of, next_character};
-use js_words::class::{is_line_terminator, is_white_space};
-use js_words::place::{byte_at, goes_on};
+use js_base::{DiagnosticKind, MAX_LEN, NoMemory, Span};
+use part_words::byte_class::class_of;
+use part_words::character::{Character, character_of, next_character};
+use part_words::class::{is_line_terminator, is_white_space};
+use part_words::place::{byte_at, goes_on};
 
 /// A piece of trivia: one white space or line terminator, or one comment.
 #[derive(Clone, Copy)]

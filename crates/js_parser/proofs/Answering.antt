@@ -12,7 +12,7 @@ use Rattle.js_base.specs.declared.source_type.SourceType.{SourceType}
 use Rattle.js_base.specs.declared.span.Span.{Span}
 use Rattle.js_grammar.specs.Trees.{Slots, end, tree, Tree}
 use Rattle.js_grammar.specs.Marks.{Mark}
-use Rattle.js_lex.specs.States.{goal_of}
+use Rattle.js_cursor.specs.js_lex.States.{goal_of}
 use Rattle.js_tree.specs.declared.id.NodeId.{NodeId}
 use Rattle.js_tree.specs.Nodes.{Node, empty_program, program_node}
 use Rattle.js_tree.specs.Holding.{HoldsAll, IsTree, program_tree, with_program}
@@ -23,9 +23,9 @@ use Rattle.std.proofs.lemmas.Bool.{false≢true}
 use Rattle.std.proofs.lemmas.Str.{IsCharBoundary-start, IsCharBoundary-end}
 use Rattle.js_base.specs.Spans.{LiesIn}
 use Rattle.js_base.specs.declared.token.Token.{Token}
-use Rattle.js_lex.specs.Kept.{LieIn}
-use Rattle.js_lex.specs.declared.comment.Comment.{Comment}
-use Rattle.js_lex.specs.declared.output.LexerOutput.{LexerOutput}
+use Rattle.js_cursor.specs.js_lex.Kept.{LieIn}
+use Rattle.js_cursor.specs.js_lex.declared.comment.Comment.{Comment}
+use Rattle.js_cursor.specs.js_lex.declared.output.LexerOutput.{LexerOutput}
 use Rattle.js_core.proofs.Lists.{first_empty, second_empty}
 use Rattle.js_core.specs.Readings.{HasNoReading, HasNoReadingBy, IsOnlyReadingBy, AreOf}
 use Rattle.js_parser.specs.Broken.{told_in}
@@ -37,7 +37,7 @@ use Rattle.js_parser.proofs.Leftovers.{all_early, covered, early_marked, in_prog
 use Rattle.js_grammar.specs.CoverInitialisers.{initialised_in}
 use Rattle.js_grammar.proofs.CoverInitialisers.{Marked}
 use Rattle.js_tree.specs.Covering.{placed}
-use Rattle.js_parsing_laws.specs.States.{NodesLie}
+use Rattle.js_core.specs.laws_shared.States.{NodesLie}
 use Rattle.js_grammar.specs.Options.{Options}
 use Rattle.js_grammar.specs.Settings.{Goal}
 use Rattle.js_core.specs.Kept.{TellsRead, KeepsRight}
@@ -46,9 +46,9 @@ use Rattle.js_parser.proofs.NodeSpans.{slots_lie, program_lie}
 use Rattle.js_core.specs.Taken.{IsOf, ReadOrNot, ProgramTaken, ProgramRefused, ProgramStops}
 use Rattle.js_cursor.specs.declared.stop.Stop.{Stop}
 use Rattle.js_cursor.specs.declared.stop.Stop.TheVariants.{Fatal}
-use Rattle.js_parsing_laws.specs.Classes.{IsEarly}
-use Rattle.js_parsing_laws.proofs.Classes.{lexical_by}
-use Rattle.js_parsing_laws.specs.States.{NodesLie}
+use Rattle.js_core.specs.laws_shared.Classes.{IsEarly}
+use Rattle.js_core.proofs.laws_shared.Classes.{lexical_by}
+use Rattle.js_core.specs.laws_shared.States.{NodesLie}
 
 none_of_two : {K : Type 0} (a b : List K) → a ≡ [] → b ≡ [] → a ++ b ≡ []
 none_of_two a b e f = λ i. e i ++ f i

@@ -4,8 +4,8 @@ use Rattle.std.specs.Prelude.{◌==◌, is_some, option_map}
 use Rattle.std.proofs.lemmas.Bool.{false≢true}
 use Rattle.std.proofs.lemmas.Bool.Decides.{nat_tests}
 use Rattle.std.proofs.lemmas.List.{drop_more, length_push, drop_all}
-use Rattle.js_text.specs.Decoding.{cooked}
-use Rattle.js_text.specs.Escapes.{in_template, Step, outside, backslash, go, read_from, before_all, line_feeds, line_feeds_after, code_units}
+use Rattle.js_base.specs.part_text.Decoding.{cooked}
+use Rattle.js_base.specs.part_text.Escapes.{in_template, Step, outside, backslash, go, read_from, before_all, line_feeds, line_feeds_after, code_units}
 use Rattle.js_grammar.specs.Names.{has_backslash}
 
 or-left : (a b : Bool) → (a || b) ≡ false → a ≡ false

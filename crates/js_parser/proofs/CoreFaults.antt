@@ -9,9 +9,9 @@ use Rattle.js_base.specs.declared.kind.Kind.{Kind}
 use Rattle.js_base.specs.declared.kind.Kind.TheVariants.{Eof, RegExp, Str, Decimal, Float, Hex, HexBigInt, Octal, OctalBigInt, Binary, BinaryBigInt, DecimalBigInt, PositiveExponential, NegativeExponential}
 use Rattle.js_base.specs.Kinds.{code}
 use Rattle.js_base.specs.Texts.{text_of}
-use Rattle.js_text.specs.Characters.{one_of, is_decimal, is_octal, is_binary, is_hex}
-use Rattle.js_text.specs.Escapes.{line_feeds}
-use Rattle.js_text.specs.Decoding.{string_points}
+use Rattle.js_base.specs.part_text.Characters.{one_of, is_decimal, is_octal, is_binary, is_hex}
+use Rattle.js_base.specs.part_text.Escapes.{line_feeds}
+use Rattle.js_base.specs.part_text.Decoding.{string_points}
 use Rattle.js_grammar.specs.Grammar.{Lexeme, Lexemes, last, next}
 use Rattle.js_grammar.specs.Characters.{width, begins}
 use Rattle.js_grammar.specs.Longest.{longest, none_longer, none_begins, joined}

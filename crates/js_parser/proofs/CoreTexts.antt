@@ -20,15 +20,15 @@ use Rattle.js_grammar.specs.CoreGrammar.{core_kinds, core_rule}
 use Rattle.js_grammar.specs.CoreTexts.{CoreSource}
 use Rattle.js_grammar.specs.CoreReadings.{core_lexeme, core_options, AllCore, IsReading}
 use Rattle.js_grammar.proofs.CoreDerivations.{every_at}
-use Rattle.js_grammar.proofs.CoreLexed.{core_first, core_lexemes}
+use Rattle.js_grammar.proofs.CoreLexed.{core_first, core_lexemes, are_pieces, pieces_lexed}
 use Rattle.js_grammar.proofs.CoreTrees.{derived_plain, derived_spared, early_spared, pure_plain}
-use Rattle.js_grammar.proofs.CoreValid.{to_core, to_whole, lexed_at}
+use Rattle.js_grammar.proofs.CoreValid.{to_core, to_whole}
 use Rattle.js_grammar.proofs.NoEnd.{ends_once_by, ends_behind}
-use Rattle.js_lex.specs.declared.output.LexerOutput.{LexerOutput}
-use Rattle.js_lex.specs.Reading.{LexemeBehind}
-use Rattle.js_lex.specs.States.{goal_of}
-use Rattle.js_parsing_laws.specs.Lexemes.{Faultless, is_read, is_read_kind}
-use Rattle.js_parsing_laws.proofs.Paths.{read_of}
+use Rattle.js_cursor.specs.js_lex.declared.output.LexerOutput.{LexerOutput}
+use Rattle.js_cursor.specs.js_lex.Reading.{LexemeBehind}
+use Rattle.js_cursor.specs.js_lex.States.{goal_of}
+use Rattle.js_core.specs.laws_shared.Lexemes.{Faultless, is_read, is_read_kind}
+use Rattle.js_core.proofs.laws_shared.Paths.{read_of}
 use Rattle.js_tree.specs.Nodes.{Node}
 use Rattle.js_parser.specs.Parsed.{options_of, IsAnswer}
 use Rattle.std.specs.List.{All}
@@ -43,7 +43,7 @@ use Rattle.js_base.specs.Diagnostics.{class_of}
 use Rattle.js_grammar.specs.LexicalFaults.{Faulty}
 use Rattle.js_grammar.specs.Marks.{Mark, StandsAt}
 use Rattle.js_cursor.specs.Places.{IsFault}
-use Rattle.js_parsing_laws.specs.Classes.{IsEarly, EndsParse, EndedByLast, ends_parse}
+use Rattle.js_core.specs.laws_shared.Classes.{IsEarly, EndsParse, EndedByLast, ends_parse}
 use Rattle.js_parser.proofs.CoreFaults.{none_faulty}
 use Rattle.js_core.specs.Readings.{parameters, read_at, AreOf, Reading, ReadingBy, IsOnlyReading, HasNoReading, AreRead, from_text_start, behind_a_hashbang}
 use Rattle.js_core.specs.EarlyErrors.{MeetsEarlyRules}
@@ -95,7 +95,7 @@ module _ {text : List ℕ} (u : IsUtf8 text) (s : CoreSource text) where
     to_core_reading t r = let d = r.strict in let l = lexed_whole d in record {
       core = s;
       lexemes = d.lexemes;
-      lexed = lexed_at script u s l;
+      lexed = are_pieces u s l;
       end = d.place;
       final = d.final;
       derived = to_core (record { in_ = refl; v8 = refl; wide = refl }) t (core_lexemes text u s goal d.lexemes l) d.derived;
@@ -111,8 +111,8 @@ module _ {text : List ℕ} (u : IsUtf8 text) (s : CoreSource text) where
 
     pub to_reading : (t : Tree) → IsReading text o.allow_v8 t → Reading text goal o t
     to_reading t r =
-        let c = core_lexemes text u s script r.lexemes r.lexed in
-        let l = lexed_at goal u s r.lexed in
+        let l = pieces_lexed goal u r.core r.lexed in
+        let c = core_lexemes text u s goal r.lexemes l in
         let d = to_whole {g = parameters goal o} (record { in_ = refl; v8 = refl; wide = refl }) t c r.derived in
         record {
           strict = record {

@@ -4,7 +4,7 @@ use Rattle.std.specs.List.{All}
 use Rattle.std.specs.Prelude.{is_some, IsTrue}
 use Rattle.std.proofs.lemmas.Bool.{false≢true, not-true, and_parts, eqb-true}
 use Rattle.std.proofs.lemmas.List.Elements.{All-nil, All-cons, All-append}
-use Rattle.js_text.specs.Decoding.{cooked}
+use Rattle.js_base.specs.part_text.Decoding.{cooked}
 use Rattle.js_base.specs.Spans.{LiesIn}
 use Rattle.js_base.specs.declared.diagnostic.DiagnosticKind.{DiagnosticKind}
 use Rattle.js_base.specs.declared.diagnostic.DiagnosticKind.TheVariants.{RegExpFlagUAndV, TemplateLiteral}
@@ -24,7 +24,7 @@ use Rattle.js_tree.specs.Covering.{placed}
 use Rattle.js_parser.specs.Broken.{past, within as inner, broken_rule, told_rule, told_in}
 use Rattle.js_parser.specs.FlagScans.{has_both}
 use Rattle.js_parser.specs.NodeSpans.{SlotsLie}
-use Rattle.js_parsing_laws.specs.Told.{unrelated_at}
+use Rattle.js_core.specs.laws_shared.Told.{unrelated_at}
 use Rattle.js_parser.specs.declared.early.Position.{Position}
 use Rattle.js_parser.specs.declared.early.Position.TheVariants.{Anywhere, InTemplate}
 

@@ -7,7 +7,7 @@ use Rattle.js_base.specs.declared.diagnostic.Diagnostic.{Diagnostic}
 use Rattle.js_base.specs.declared.diagnostic.DiagnosticKind.{DiagnosticKind}
 use Rattle.js_base.specs.declared.diagnostic.DiagnosticKind.TheVariants.{CoverInitializedName, RegExpFlagUAndV, TemplateLiteral}
 use Rattle.js_base.specs.declared.diagnostic.DiagnosticClass.TheVariants.{Early}
-use Rattle.js_text.specs.Decoding.{cooked}
+use Rattle.js_base.specs.part_text.Decoding.{cooked}
 use Rattle.js_base.specs.Diagnostics.{class_of}
 use Rattle.js_base.specs.declared.span.Span.{Span}
 use Rattle.js_base.specs.Spans.{LiesIn}
@@ -24,12 +24,12 @@ use Rattle.js_grammar.proofs.CoverInitialisers.{Each, Led, Marked, each_listed, 
 use Rattle.js_grammar.specs.Productions.{Program}
 use Rattle.js_tree.specs.Covering.{placed as made}
 use Rattle.js_tree.specs.Holding.{program_tree}
-use Rattle.js_lex.specs.declared.output.LexerOutput.{LexerOutput}
+use Rattle.js_cursor.specs.js_lex.declared.output.LexerOutput.{LexerOutput}
 use Rattle.js_cursor.proofs.Moving.{reached_next}
-use Rattle.js_parsing_laws.specs.Classes.{IsEarly}
-use Rattle.js_parsing_laws.specs.Lexemes.{Faultless}
-use Rattle.js_parsing_laws.specs.Told.{unrelated_at}
-use Rattle.js_parsing_laws.proofs.Kept.{faults_aside}
+use Rattle.js_core.specs.laws_shared.Classes.{IsEarly}
+use Rattle.js_core.specs.laws_shared.Lexemes.{Faultless}
+use Rattle.js_core.specs.laws_shared.Told.{unrelated_at}
+use Rattle.js_core.proofs.laws_shared.Kept.{faults_aside}
 use Rattle.js_core.specs.Kept.{IsKeptOf}
 use Rattle.js_parser.specs.Broken.{past, within, broken_rule, told_rule, told_in}
 use Rattle.js_parser.specs.FlagScans.{has_both}

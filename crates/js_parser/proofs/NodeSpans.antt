@@ -9,8 +9,8 @@ use Rattle.js_tree.specs.Holding.{Stands, stands, StandsAll, no_slots, next_chil
 use Rattle.std.specs.Prelude.{chars}
 use Rattle.std.specs.List.{All}
 use Rattle.js_tree.specs.Sources.{text_of}
-use Rattle.js_parsing_laws.specs.NodeTexts.{NodeFits, Texted}
-use Rattle.js_parsing_laws.specs.States.{NodesLie}
+use Rattle.js_core.specs.laws_shared.NodeTexts.{NodeFits, Texted}
+use Rattle.js_core.specs.laws_shared.States.{NodesLie}
 use Rattle.js_parser.specs.NodeSpans.{NodeLies, SlotsLie}
 
 mutual

@@ -21,10 +21,10 @@ use Rattle.js_grammar.proofs.Behind.{lexed_behind}
 use Rattle.js_grammar.proofs.CoverInitialisers.{line_marked}
 use Rattle.js_grammar.proofs.Looks.{covers, covered}
 use Rattle.js_grammar.proofs.Renamed.{remarked, first_of, second_of, mark_of}
-use Rattle.js_words.specs.Places.{Word}
-use Rattle.js_words.proofs.Flags.{spelled}
-use Rattle.js_lex.proofs.Again.{cancel}
-use Rattle.js_scan.proofs.StringPlaces.{front_word}
+use Rattle.js_cursor.specs.part_words.Places.{Word}
+use Rattle.js_cursor.proofs.part_words.Flags.{spelled}
+use Rattle.js_cursor.proofs.js_lex.Again.{cancel}
+use Rattle.js_cursor.proofs.part_scan.StringPlaces.{front_word}
 use Rattle.js_core.specs.Readings.{parameters}
 use Rattle.js_parser.proofs.Validity.{all_plain}
 use Rattle.js_parser.specs.SameSource.{Source, one_lexeme, inside_part, any_source, source_of, IsOneLexeme, is_part, closing, HasSource, HaveSources, ReadingsHaveSources}

@@ -2,8 +2,8 @@
 use Rattle.std.proofs.Common.{ℕ, List, Bool, subst}
 use Rattle.js_base.specs.declared.options.ParseOptions.{ParseOptions}
 use Rattle.js_base.specs.declared.source_type.SourceType.{SourceType}
-use Rattle.js_lex.specs.States.{goal_of}
-use Rattle.js_lex.specs.declared.output.LexerOutput.{LexerOutput}
+use Rattle.js_cursor.specs.js_lex.States.{goal_of}
+use Rattle.js_cursor.specs.js_lex.declared.output.LexerOutput.{LexerOutput}
 use Rattle.js_cursor.specs.Parsers.{Parser}
 use Rattle.js_cursor.specs.Starts.{Starts}
 use Rattle.js_tree.specs.Nodes.{Node}

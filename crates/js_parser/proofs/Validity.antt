@@ -22,9 +22,9 @@ use Rattle.js_grammar.specs.TreeForms.{without_pure}
 use Rattle.js_grammar.specs.Trivia.{are_trivia}
 use Rattle.js_grammar.proofs.BuiltLines.{in_whole, by_built}
 use Rattle.js_grammar.proofs.NoEnd.{ends_once_by, ends_behind}
-use Rattle.js_lex.specs.Reading.{LexemeBehind}
-use Rattle.js_lex.proofs.TriviaLemmas.{some_width}
-use Rattle.js_parsing_laws.specs.Lexemes.{Faultless, is_read}
+use Rattle.js_cursor.specs.js_lex.Reading.{LexemeBehind}
+use Rattle.js_cursor.proofs.js_lex.TriviaLemmas.{some_width}
+use Rattle.js_core.specs.laws_shared.Lexemes.{Faultless, is_read}
 use Rattle.js_parser.specs.Language.{is_built, AllBuilt, AreBuilt, ReadingsAreValid}
 use Rattle.js_parser.specs.Language as language
 use Rattle.js_core.specs.Readings.{parameters, AreRead, Reading, from_text_start, behind_a_hashbang}

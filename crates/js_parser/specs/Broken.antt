@@ -1,6 +1,6 @@
 -- What is told of the nodes that break an early rule, in the order of the tree.
 use Rattle.std.specs.Prelude.{ℕ, cond, List, [], ◌∷◌, ◌++◌, Option, Some, None, is_some, chars, nat_lt, suc}
-use Rattle.js_text.specs.Decoding.{cooked}
+use Rattle.js_base.specs.part_text.Decoding.{cooked}
 use Rattle.js_base.specs.declared.diagnostic.Diagnostic.{Diagnostic}
 use Rattle.js_base.specs.declared.diagnostic.DiagnosticKind.{DiagnosticKind}
 use Rattle.js_base.specs.declared.diagnostic.DiagnosticKind.TheVariants.{RegExpFlagUAndV, TemplateLiteral}
@@ -13,7 +13,7 @@ use Rattle.js_tree.specs.Labels.{kind_of}
 use Rattle.js_tree.specs.Nodes.{Node, node_at}
 use Rattle.js_tree.specs.Sources.{text_of}
 use Rattle.js_parser.specs.FlagScans.{has_both}
-use Rattle.js_parsing_laws.specs.Told.{unrelated_at}
+use Rattle.js_core.specs.laws_shared.Told.{unrelated_at}
 use Rattle.js_parser.specs.declared.early.Pending.{Pending}
 use Rattle.js_parser.specs.declared.early.Position.{Position}
 use Rattle.js_parser.specs.declared.early.Position.TheVariants.{Anywhere, Tag, Tagged, InTemplate}

@@ -8,19 +8,11 @@ use Rattle.js_base.specs.declared.source_type.SourceType.{SourceType}
 use Rattle.js_base.specs.Diagnostics.{class_of}
 use Rattle.js_base.specs.Spans.{LiesIn}
 use Rattle.js_grammar.specs.Trees.{Tree}
-use Rattle.js_grammar.specs.CoreReadings.{IsReading}
 use Rattle.js_grammar.specs.Settings.{script, unambiguous}
-use Rattle.js_lex.specs.States.{goal_of}
+use Rattle.js_cursor.specs.js_lex.States.{goal_of}
 use Rattle.js_tree.specs.Nodes.{Node}
 use Rattle.js_tree.specs.Holding.{IsTree}
-
--- The tree is a reading of the core text, and no other is.
-pub record IsOnlyCoreReading (text : List ℕ) (v8 : Bool) (tree : Tree) : Type 0 where
-  pub reading : IsReading text v8 tree
-  pub only : (t : Tree) → IsReading text v8 t → t ≡ tree
-
-abbrev pub HasNoCoreReading : List ℕ → Bool → Type 0
-HasNoCoreReading text v8 = (t : Tree) → IsReading text v8 t → ⊥
+pub use Rattle.js_grammar.specs.CoreReadings.{IsOnlyCoreReading, HasNoCoreReading}
 
 -- the classes of what may be told of a core text: none of them Lexical, Record, Flow or Overlong
 abbrev pub told_of_core : DiagnosticClass → Bool

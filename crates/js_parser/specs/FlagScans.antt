@@ -1,6 +1,6 @@
 -- Whether the flags `u` and `v` stand in a regular expression of which a part was read.
 use Rattle.std.specs.Prelude.{ℕ, Bool, false, ◌&&◌, ◌||◌, List, [], ◌∷◌, unwrap_or}
-use Rattle.js_text.specs.Characters.{one_of}
+use Rattle.js_base.specs.part_text.Characters.{one_of}
 use Rattle.js_grammar.specs.RegularExpressions.{behind_pattern, flags}
 use Rattle.js_parser.specs.declared.flags.Read.{Read}
 use Rattle.js_parser.specs.declared.flags.Read.TheVariants.{Nothing, Slash, Pattern, Flags, Other}

@@ -10,8 +10,8 @@ use Rattle.js_grammar.specs.Readings.{IsWhole}
 use Rattle.js_grammar.specs.Settings.{Goal}
 use Rattle.js_grammar.specs.TableLaws.{begins_unbuilt}
 use Rattle.js_grammar.specs.TreeForms.{without_pure}
-use Rattle.js_lex.specs.Reading.{LexemeBehind}
-use Rattle.js_parsing_laws.specs.Lexemes.{is_read}
+use Rattle.js_cursor.specs.js_lex.Reading.{LexemeBehind}
+use Rattle.js_core.specs.laws_shared.Lexemes.{is_read}
 use Rattle.js_core.specs.Readings.{Reading}
 
 -- a lexeme that is read, and begins no production that isn't built

@@ -4,7 +4,7 @@ use Rattle.js_base.specs.declared.diagnostic.Diagnostic.{Diagnostic}
 use Rattle.js_base.specs.declared.diagnostic.DiagnosticKind.{DiagnosticKind}
 use Rattle.js_base.specs.declared.diagnostic.DiagnosticKind.TheVariants.{CoverInitializedName}
 use Rattle.js_base.specs.declared.span.Span.{Span}
-use Rattle.js_parsing_laws.specs.Told.{unrelated_at}
+use Rattle.js_core.specs.laws_shared.Told.{unrelated_at}
 
 -- one of a kind at each span
 abbrev pub told_at : DiagnosticKind → List Span → List Diagnostic

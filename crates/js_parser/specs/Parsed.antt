@@ -9,9 +9,9 @@ use Rattle.js_grammar.specs.CoverInitialisers.{initialised_in}
 use Rattle.js_grammar.specs.Trees.{Tree, end}
 use Rattle.js_grammar.specs.Options.{Options}
 use Rattle.js_grammar.specs.Settings.{Goal}
-use Rattle.js_lex.specs.Kept.{LieIn}
-use Rattle.js_lex.specs.States.{goal_of}
-use Rattle.js_lex.specs.declared.output.LexerOutput.{LexerOutput}
+use Rattle.js_cursor.specs.js_lex.Kept.{LieIn}
+use Rattle.js_cursor.specs.js_lex.States.{goal_of}
+use Rattle.js_cursor.specs.js_lex.declared.output.LexerOutput.{LexerOutput}
 use Rattle.js_tree.specs.Covering.{placed}
 use Rattle.js_tree.specs.Nodes.{Node, empty_program}
 use Rattle.js_tree.specs.Holding.{IsTree, program_tree}
@@ -22,8 +22,8 @@ use Rattle.js_parser.specs.Leftover.{leftover}
 use Rattle.js_parser.specs.NodeSpans.{NodeLies, SlotsLie}
 use Rattle.js_core.specs.Readings.{read_at, HasNoReading, HasNoLooseReading, IsOnlyReading, AreOf, ReadingBy}
 use Rattle.std.specs.List.{All}
-use Rattle.js_parsing_laws.specs.Classes.{IsEarly, EndedByLast}
-use Rattle.js_parsing_laws.specs.States.{NodesLie}
+use Rattle.js_core.specs.laws_shared.Classes.{IsEarly, EndedByLast}
+use Rattle.js_core.specs.laws_shared.States.{NodesLie}
 
 -- where none are asked for: parentheses have nodes, and nothing else is on
 abbrev pub default_options : ParseOptions

@@ -5,8 +5,8 @@ ghost use Rattle.js_base.specs.declared.options.ParseOptions.{ParseOptions};
 ghost use Rattle.js_base.specs.declared.source_type.SourceType.{SourceType};
 ghost use Rattle.js_cursor.specs.Places.{IsAt};
 ghost use Rattle.js_grammar.specs.ModuleRecords.{record_of_parts};
-ghost use Rattle.js_lex.specs.States.{goal_of};
-ghost use Rattle.js_parsing_laws.specs.States.{NodesLie};
+ghost use Rattle.js_cursor.specs.js_lex.States.{goal_of};
+ghost use Rattle.js_core.specs.laws_shared.States.{NodesLie};
 ghost use Rattle.js_parser.specs.FaultsTold.{ends_in_fault, is_stopped_by_fault, told_at_stop, without_last};
 ghost use Rattle.js_core.specs.Kept.{KeepsRight};
 ghost use Rattle.js_parser.specs.Leftover.{told_at, with_leftover};
@@ -15,14 +15,13 @@ ghost use Rattle.js_core.specs.Taken.{ProgramTaken, ProgramRefused};
 
 use crate::early::early_errors;
 use js_base::{
-    Diagnostic, DiagnosticClass, DiagnosticKind, Diagnostics, Kind, SourceType, Span, Spans, Tokens,
+    Diagnostic, DiagnosticClass, DiagnosticKind, Diagnostics, Kind, NoMemory, SourceType, Span,
+    Spans, Tokens,
 };
-use js_core::{Parser, parse_program};
-use js_lex::Comments;
-use js_memory::NoMemory;
-use js_record::{ModuleRecord, ModuleVisits};
+use js_core::{RuntimeParser, parse_program};
+use js_cursor::Comments;
+use js_record::{ModuleRecord, ModuleRecordBuilder, ModuleVisits};
 use js_tree::{NodeId, ParserAstBuilder, Tree};
-use js_visits::ModuleRecordBuilder;
 use std::alloc::Global;
 
 /// A program.
@@ -57,7 +56,7 @@ pub struct ParserReturn {
 /// The answer for a text that was taken to its end, or to where no lexeme stands.
 pub fn taken(
     source_type: SourceType,
-    p: Parser<'_>,
+    p: RuntimeParser<'_>,
     items: Vec<Option<NodeId>>,
 ) -> Result<ParserReturn, NoMemory>
     requires at { IsAt p }
@@ -94,7 +93,7 @@ pub fn taken(
 }
 
 /// The answer for a text whose parse a fatal diagnostic ended: a program without children.
-pub fn refused(source_type: SourceType, p: Parser<'_>) -> Result<ParserReturn, NoMemory>
+pub fn refused(source_type: SourceType, p: RuntimeParser<'_>) -> Result<ParserReturn, NoMemory>
     requires { IsAt p }
     ensures answer { IfOk result (λ r. (text : List ℕ) (s : SourceType) (o : ParseOptions) → ProgramRefused text s o p.entry → IsAnswer text (goal_of s) (options_of o) r.program.tree (record { comments = r.program.comments; irregular_whitespaces = r.irregular_whitespaces; tokens = r.tokens; errors = r.diagnostics }) r.fatal_error) }
     ensures kept { IfOk result (λ r. (text : List ℕ) (s : SourceType) (o : ParseOptions) (asks : Bool) → ProgramRefused text s o p.entry → KeepsRight text (goal_of s) (options_of o) asks (record { comments = r.program.comments; irregular_whitespaces = r.irregular_whitespaces; tokens = r.tokens; errors = r.diagnostics })) }
@@ -160,7 +159,7 @@ pub fn overlong(alloc: Global, source_type: SourceType) -> Result<ParserReturn, 
 }
 
 /// Whether the fatal diagnostic is the fault of what stands there, where no lexeme does.
-fn is_stopped_by_fault(p: &Parser<'_>) -> bool
+fn is_stopped_by_fault(p: &RuntimeParser<'_>) -> bool
     ensures { result ≡ is_stopped_by_fault p.now }
 {
     p.at(Kind::Undetermined) && ends_in_fault(&p.errors)

@@ -2,7 +2,7 @@
 
 ghost use Rattle.std.specs.Prelude.{◌≡◌, ◌<◌, ◌≤◌, ◌++◌, ℕ, List, chars, is_some, length, true, false, None, IfOk, OnOk};
 ghost use Rattle.std.specs.List.{All};
-ghost use Rattle.js_text.specs.Decoding.{cooked};
+ghost use Rattle.js_base.specs.part_text.Decoding.{cooked};
 ghost use Rattle.js_base.specs.Spans.{LiesIn};
 ghost use Rattle.js_grammar.specs.Names as names;
 ghost use Rattle.js_grammar.specs.Trees.{Tree as SeenTree};
@@ -16,8 +16,7 @@ ghost use Rattle.js_parser.specs.Broken as broken;
 ghost use Rattle.js_parser.specs.Broken.{past, within, rule_at, told_of, told_in, pending, pending_within, pending_alike, first_end};
 
 use crate::flags::has_u_and_v;
-use js_base::{Diagnostic, DiagnosticKind, Diagnostics};
-use js_memory::NoMemory;
+use js_base::{Diagnostic, DiagnosticKind, Diagnostics, NoMemory};
 use js_tree::{NodeId, NodeKind, Tree};
 use std::alloc::Global;
 

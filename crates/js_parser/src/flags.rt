@@ -1,7 +1,7 @@
 //! The flags of a regular expression (ECMA-262, section 12.9.5).
 
 ghost use Rattle.std.specs.Prelude.{◌≡◌, ◌∷◌, [], ℕ, List, chars, unwrap_or};
-ghost use Rattle.js_text.specs.Characters as base;
+ghost use Rattle.js_base.specs.part_text.Characters as base;
 ghost use Rattle.js_grammar.specs.RegularExpressions.{behind_pattern, flags};
 ghost use Rattle.js_parser.specs.FlagScans.{both_among, both_behind};
 

@@ -6,18 +6,18 @@ ghost use Rattle.js_base.specs.declared.source_type.Goal.TheVariants.{Unambiguou
 ghost use Rattle.js_base.specs.Sources.{is_goal};
 ghost use Rattle.js_grammar.specs.CoreTexts.{CoreSource};
 ghost use Rattle.js_grammar.specs.ModuleRecords.{record_of_parts};
-ghost use Rattle.js_lex.specs.States.{goal_of};
+ghost use Rattle.js_cursor.specs.js_lex.States.{goal_of};
 ghost use Rattle.js_parser.specs.CoreAnswers.{IsCoreAnswer};
 ghost use Rattle.js_core.specs.Kept.{KeepsRight};
 ghost use Rattle.js_core.specs.Readings.{read_at};
 ghost use Rattle.js_parser.specs.Parsed.{default_options, options_of, Answers, IsAnswer};
 
 use crate::answer::{ParserReturn, overlong, refused, taken};
-use js_base::{MAX_LEN, ParseOptions, SourceType};
+use js_base::{MAX_LEN, NoMemory, ParseOptions, SourceType};
 use js_core::parse_program;
-use js_cursor::{ParserImpl, Stop};
-use js_lex::{LexerConfig, NoTokensParserConfig, ParserConfig, RuntimeParserConfig};
-use js_memory::NoMemory;
+use js_cursor::{
+    LexerConfig, NoTokensParserConfig, ParserConfig, ParserImpl, RuntimeParserConfig, Stop,
+};
 use std::alloc::Global;
 
 /// The parser of one text.

@@ -1,7 +1,7 @@
 -- In a store in which every node is read from the text and stands above its children, each number stands for a tree.
 use Rattle.std.proofs.Common.{◌≡◌, ℕ, zero, suc, ◌<◌, true, false, List, [], ◌∷◌, ◌++◌, Option, Some, None, length, get_or, arith, sym, ap, ◌∙◌, subst, true≢false}
 use Rattle.std.specs.Prelude.{IsSome, chars}
-use Rattle.js_text.specs.Decoding.{name_text}
+use Rattle.js_base.specs.part_text.Decoding.{name_text}
 use Rattle.js_base.specs.Spans.{LiesIn}
 use Rattle.js_base.specs.declared.span.Span.{Span}
 use Rattle.js_base.specs.declared.kind.Kind.TheVariants.{Str}

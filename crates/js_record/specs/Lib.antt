@@ -5,3 +5,4 @@ pub mod Distinct
 pub mod NodeKinds
 pub mod Shown
 pub mod Checked
+pub use Rattle.part_visits.specs as part_visits

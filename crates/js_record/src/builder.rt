@@ -7,10 +7,9 @@ ghost use Rattle.js_record.specs.Shown.{IsRead, IsTree, OfTree};
 
 use crate::record::{ModuleRecord, errors_of, record_of};
 use crate::visiting;
-use js_base::{Diagnostics, Span};
-use js_memory::NoMemory;
+use js_base::{Diagnostics, NoMemory, Span};
 use js_tree::{NodeId, ParserAstBuilder};
-use js_visits::{ModuleRecordBuilder, Part};
+use part_visits::{ModuleRecordBuilder, Part};
 
 /// The visits by which declarations reach the record of their module, and what is made of them all.
 pub trait ModuleVisits: Sized {

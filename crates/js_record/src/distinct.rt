@@ -4,7 +4,7 @@ ghost use Rattle.std.specs.Prelude.{◌≡◌, ◌&&◌, bytes_eq, drop};
 ghost use Rattle.std.specs.List.{list_any};
 ghost use Rattle.js_record.specs.Distinct.{names_of, no_two, none_shared};
 
-use js_visits::ExportEntries;
+use part_visits::ExportEntries;
 
 /// Whether one of the entries from this place on is exported by the name.
 fn is_asked(entries: &ExportEntries, start: usize, name: &str) -> bool

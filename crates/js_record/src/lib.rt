@@ -10,4 +10,9 @@ mod record;
 mod visiting;
 
 pub use builder::ModuleVisits;
+pub use part_visits::{
+    DynamicImport, DynamicImports, ExportEntries, ExportEntry, ExportExportName, ExportImportName,
+    ExportLocalName, ImportEntries, ImportEntry, ImportImportName, ModuleRecordBuilder, NameSpan,
+    RequestedModule, RequestedModules,
+};
 pub use record::ModuleRecord;

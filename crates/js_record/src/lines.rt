@@ -5,14 +5,12 @@ ghost use Rattle.std.specs.List.{flat_map};
 ghost use Rattle.std.specs.Fmt.{decimal};
 ghost use Rattle.js_grammar.specs.Lines.{span_text};
 ghost use Rattle.js_grammar.specs.RecordLines.{name_text, default_text, import_name_text, taken_name_text, export_name_text, local_name_text, request_text, syntax_line, request_line, binding_line, import_line, export_names, export_line, dynamic_line, meta_line, record_text};
-ghost use Rattle.js_visits.specs.Names.{import_name_of, taken_name_of, export_name_of, local_name_of};
+ghost use Rattle.part_visits.specs.Names.{import_name_of, taken_name_of, export_name_of, local_name_of};
 
 use crate::record::ModuleRecord;
 use indexmap::IndexMap;
-use js_base::{Span, Spans};
-use js_memory::NoMemory;
-use js_text::Text;
-use js_visits::{
+use js_base::{NoMemory, Span, Spans, Text};
+use part_visits::{
     DynamicImport, DynamicImports, ExportEntries, ExportEntry, ExportExportName, ExportImportName,
     ExportLocalName, ImportEntries, ImportEntry, ImportImportName, NameSpan, RequestedModule,
     RequestedModules,

@@ -9,10 +9,8 @@ ghost use Rattle.js_record.specs.Firsts.{AreFirst};
 ghost use Rattle.js_record.specs.Places.{placed_of};
 
 use indexmap::IndexMap;
-use js_base::Span;
-use js_memory::{List, NoMemory};
-use js_text::Text;
-use js_visits::{
+use js_base::{List, NoMemory, Span, Text};
+use part_visits::{
     Copied, ExportEntries, ExportEntry, ExportImportName, ExportLocalName, ImportEntries,
     ImportEntry, ImportImportName, NameSpan,
 };

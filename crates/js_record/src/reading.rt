@@ -9,11 +9,9 @@ ghost use Rattle.js_tree.specs.Nodes.{node_at};
 ghost use Rattle.js_record.specs.NodeKinds.{is_word, is_string};
 ghost use Rattle.js_record.specs.Shown.{label_at, IsNear, first_shown, second_shown, optional_shown, first_of, rest_of};
 
-use js_base::Span;
-use js_memory::NoMemory;
-use js_text::{Text, decode_name};
+use js_base::{NoMemory, Span, Text, decode_name};
 use js_tree::{NodeId, NodeKind, ParserAstBuilder, without_sign};
-use js_visits::NameSpan;
+use part_visits::NameSpan;
 use std::alloc::Global;
 
 /// Whether a node of this kind is a name.

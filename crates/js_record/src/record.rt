@@ -8,10 +8,8 @@ ghost use Rattle.js_record.specs.Exports.{IsMadeOf, made};
 use crate::distinct::are_all_distinct;
 use crate::placing::{Places, place_all};
 use indexmap::IndexMap;
-use js_base::{Diagnostic, DiagnosticKind, Diagnostics, Span, Spans};
-use js_memory::{List, NoMemory};
-use js_text::Text;
-use js_visits::{
+use js_base::{Diagnostic, DiagnosticKind, Diagnostics, List, NoMemory, Span, Spans, Text};
+use part_visits::{
     DynamicImport, DynamicImports, ExportEntries, ExportEntry, ImportEntries, ImportEntry,
     NameSpan, Part, Request, RequestedModules, listed,
 };

@@ -9,14 +9,13 @@ ghost use Rattle.js_grammar.specs.Modules.{syntax, defaults_of, declared_entry, 
 ghost use Rattle.js_grammar.specs.BoundNames.{bound_names};
 ghost use Rattle.js_tree.specs.Labels.{kind_of};
 ghost use Rattle.js_tree.specs.Nodes.{node_at};
-ghost use Rattle.js_visits.specs.Names.{local_name_of};
+ghost use Rattle.part_visits.specs.Names.{local_name_of};
 ghost use Rattle.js_record.specs.Shown.{label_at, ids_of, IsNear, IsDeep, first_shown, second_shown, import_shown, name_shown, own_shown, from_shown, import_by, import_part_shown, export_named_shown, export_from_by, export_from_shown, export_all_by, export_all_shown, export_default_by, export_default_shown, import_call_shown, IsBelow, IsGood, IsRead, IsReadWhole, OfTree};
 
 use crate::reading::{first, first_name, name_of, optional_name, rest, second_name, specifier_of};
-use js_base::Span;
-use js_memory::NoMemory;
+use js_base::{NoMemory, Span};
 use js_tree::{NodeId, NodeKind, ParserAstBuilder};
-use js_visits::{
+use part_visits::{
     Copied, DynamicImport, ExportEntry, ExportExportName, ExportImportName, ExportLocalName,
     ImportEntry, ImportImportName, NameSpan, Part, Request, RequestedModule,
 };

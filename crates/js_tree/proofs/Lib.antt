@@ -14,3 +14,4 @@ pub mod WalkLemmas
 pub mod CountLemmas
 pub mod CoverLemmas
 pub mod Coverings
+pub use Rattle.js_grammar.proofs as js_grammar

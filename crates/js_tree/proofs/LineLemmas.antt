@@ -3,7 +3,7 @@ use Rattle.std.proofs.Common.{◌≡◌, ◌==◌, ◌&&◌, ◌+◌, ◌<◌, �
 use Rattle.std.specs.Prelude.{encode_utf8, encode_utf8_all}
 use Rattle.std.proofs.lemmas.List.{drop_more, length_push, drop_all}
 use Rattle.std.proofs.lemmas.Bool.{ne_eqb}
-use Rattle.js_text.specs.Escapes.{line_feeds_after}
+use Rattle.js_base.specs.part_text.Escapes.{line_feeds_after}
 
 -- a step of the loop
 pub line-turn : (us vs cs ys whole : List ℕ) (a b : Bool) (c : ℕ)

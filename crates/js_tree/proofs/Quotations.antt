@@ -7,9 +7,9 @@ use Rattle.std.proofs.lemmas.Bool.{eqb-true, and_right}
 use Rattle.std.proofs.lemmas.List.{get_or_at, take_at}
 use Rattle.std.proofs.lemmas.Str.{encode_ascii, encodes-chars, encodes-append, scalars-chars, chars_from_encodes, IsCharBoundary-after_ascii, IsCharBoundary-before_ascii}
 use Rattle.js_base.specs.declared.kind.Kind.TheVariants.{Str}
-use Rattle.js_text.specs.Characters.{one_of}
-use Rattle.js_text.specs.Escapes.{line_feeds, line_feeds_after}
-use Rattle.js_text.specs.Decoding.{string_points}
+use Rattle.js_base.specs.part_text.Characters.{one_of}
+use Rattle.js_base.specs.part_text.Escapes.{line_feeds, line_feeds_after}
+use Rattle.js_base.specs.part_text.Decoding.{string_points}
 use Rattle.js_grammar.specs.Strings.{nothing_left, closes_string, string_inside, string_kind}
 use Rattle.js_grammar.proofs.LongestLemmas.{both-left, both-right, both, not-true}
 use Rattle.js_grammar.proofs.Finding.{member, either}

@@ -1,6 +1,6 @@
 -- Which tree the node of a number stands for, and which numbers it reaches.
 use Rattle.std.specs.Prelude.{◌≡◌, ℕ, ◌<◌, ◌≤◌, List, [], ◌∷◌, ◌++◌, length, Option, Some, None, Result, Ok, Err, slice_get, get_or, drop}
-use Rattle.js_memory.specs.declared.no_memory.NoMemory.{NoMemory}
+use Rattle.js_base.specs.part_memory.declared.no_memory.NoMemory.{NoMemory}
 use Rattle.js_base.specs.declared.span.Span.{Span}
 use Rattle.js_grammar.specs.Trees.{Label, Slots, end, hole, tree, Tree}
 use Rattle.js_tree.specs.declared.id.NodeId.{NodeId}

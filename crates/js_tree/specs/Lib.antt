@@ -11,3 +11,4 @@ pub mod Names
 pub mod Rooms
 pub mod Rows
 pub mod Covering
+pub use Rattle.js_grammar.specs as js_grammar

@@ -1,8 +1,8 @@
 -- What the text of a node stands for. A node is read with the text that it was made for: its span lies in that text and splits no character.
 use Rattle.std.specs.Prelude.{◌≡◌, ℕ, ◌-◌, ◌==◌, not, List, [], ◌∷◌, length, take, filter, if◌then◌else◌, Option, Some, None, unwrap_or, chars, encode_utf8_all, slice_range}
 use Rattle.std.specs.Char.Utf16.{has_unpaired_surrogate, utf16_lossy_chars}
-use Rattle.js_text.specs.Characters.{one_of}
-use Rattle.js_text.specs.Decoding.{string_units, raw_text}
+use Rattle.js_base.specs.part_text.Characters.{one_of}
+use Rattle.js_base.specs.part_text.Decoding.{string_units, raw_text}
 use Rattle.js_base.specs.declared.kind.Kind.TheVariants.{Str}
 use Rattle.js_grammar.specs.NodeNames.{without_sign}
 use Rattle.js_grammar.specs.Strings.{string_kind, string_inside}

@@ -12,7 +12,7 @@ ghost use Rattle.js_tree.specs.Parts.{below_all, found_at, due_at};
 use crate::columns::Columns;
 use crate::id::NodeId;
 use crate::kind::NodeKind;
-use js_memory::NoMemory;
+use js_base::NoMemory;
 use std::alloc::Global;
 
 /// Of which slots of a node its bound names are those.

@@ -8,7 +8,7 @@ ghost use Rattle.js_tree.specs.Parts.{below_all};
 use crate::bound::push_children;
 use crate::columns::Columns;
 use crate::id::NodeId;
-use js_memory::NoMemory;
+use js_base::NoMemory;
 
 /// How many nodes are reached from one more node with these children, its own included, by the counts of the nodes before
 /// it. More than fit 32 bits count as want of memory.

@@ -13,8 +13,7 @@ use crate::bound::push_children;
 use crate::columns::Columns;
 use crate::id::NodeId;
 use crate::kind::NodeKind;
-use js_base::Span;
-use js_memory::NoMemory;
+use js_base::{NoMemory, Span};
 use std::alloc::Global;
 
 /// The bit of the flag of shorthands.

@@ -19,8 +19,7 @@ use crate::op::{
     BigintBase, ClauseWord, DeclarationKind, MethodKind, NumberBase, Op, PropertyKind,
 };
 use itoa::Buffer;
-use js_base::Span;
-use js_memory::NoMemory;
+use js_base::{NoMemory, Span};
 use std::alloc::Global;
 
 /// The greatest length of the lines of a tree, in bytes. Indents grow with depth, so a small text may have lines without

@@ -5,8 +5,8 @@ ghost use Rattle.js_base.specs.Spans.{LiesIn};
 ghost use Rattle.js_tree.specs.Nodes.{node_at};
 ghost use Rattle.js_tree.specs.Sources.{text_of, name_of, IsString, units_of, IsKey, prop_name_of};
 ghost use Rattle.js_tree.specs.Sources as sources;
-ghost use Rattle.js_text.specs.Escapes.{line_feeds_after};
-ghost use Rattle.js_text.specs.Decoding.{raw_text, string_points};
+ghost use Rattle.js_base.specs.part_text.Escapes.{line_feeds_after};
+ghost use Rattle.js_base.specs.part_text.Decoding.{raw_text, string_points};
 ghost use Rattle.js_base.specs.declared.kind.Kind.TheVariants.{Str};
 ghost use Rattle.js_grammar.specs.NodeNames.{without_sign};
 ghost use Rattle.js_grammar.specs.Strings.{string_kind, string_inside};
@@ -14,9 +14,7 @@ ghost use Rattle.js_grammar.specs.Strings.{string_kind, string_inside};
 use crate::columns::Columns;
 use crate::id::NodeId;
 use crate::kind::NodeKind;
-use js_base::Span;
-use js_memory::NoMemory;
-use js_text::{JsStr, Text, decode_string};
+use js_base::{JsStr, NoMemory, Span, Text, decode_string};
 use std::alloc::{AllocError, Global};
 
 /// The text at a span.

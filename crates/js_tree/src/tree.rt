@@ -11,7 +11,7 @@ ghost use Rattle.js_tree.specs.Nodes.{node_at};
 ghost use Rattle.js_tree.specs.Holding.{Stands, IsTree};
 ghost use Rattle.js_tree.specs.Sources.{text_of, name_of, IsString, units_of, raw_bytes, digit_bytes, IsKey, prop_name_of};
 ghost use Rattle.js_tree.specs.Binding.{Binds};
-ghost use Rattle.js_text.specs.Decoding.{cooked};
+ghost use Rattle.js_base.specs.part_text.Decoding.{cooked};
 
 use crate::columns::Columns;
 use crate::flags::NodeFlags;
@@ -19,9 +19,7 @@ use crate::id::NodeId;
 use crate::kind::NodeKind;
 use crate::op::Op;
 use crate::reading::{digits_of, with_line_feeds};
-use js_base::Span;
-use js_memory::NoMemory;
-use js_text::{JsStr, Text, decode_template};
+use js_base::{JsStr, NoMemory, Span, Text, decode_template};
 use std::alloc::Global;
 use std::marker::Model;
 

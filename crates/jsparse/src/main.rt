@@ -1,20 +1,7 @@
 //! The program `jsparse`: a JavaScript parser whose answers are proved.
 #![tactic(auto)]
 
-mod answer;
-mod ends;
-mod failing;
-mod laws;
-mod lines;
-mod room;
-mod run;
-mod standard;
-mod status;
-mod steady;
-mod words;
-
-use crate::standard::{StdinSource, StdoutSink};
-use crate::status::Status;
+use js_run::{Status, StdinSource, StdoutSink, run};
 use std::process::ExitCode;
 use std::rt::Env;
 use std::{env, io};
@@ -31,7 +18,7 @@ fn main(rt: HostRuntime) -> ExitCode {
         Ok(words) => {
             let mut source = StdinSource::new(rt.stdin());
             let mut sink = StdoutSink::new(rt.stdout());
-            run::run(rt.alloc(), &words, &mut source, &mut sink)
+            run(rt.alloc(), &words, &mut source, &mut sink)
         }
         Err(e) if e.kind() == io::ErrorKind::OutOfMemory => Status::NoMemory,
         Err(_) => Status::Usage,

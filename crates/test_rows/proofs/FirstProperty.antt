@@ -16,12 +16,12 @@ use Rattle.js_tree.specs.declared.kind.NodeKind.TheVariants as made
 use Rattle.js_tree.proofs.HoldingLemmas.{AreWithin-left}
 use Rattle.js_cursor.specs.Parsers.{Parser}
 use Rattle.js_cursor.proofs.Moving.{reached_next}
-use Rattle.js_parsing_laws.specs.Lexemes.{Lex}
-use Rattle.js_targets.specs.Targets.{is_object, is_literal, is_property}
-use Rattle.js_targets.proofs.LiteralsAsTargets.{lexeme_between}
-use Rattle.js_targets.proofs.ReusedNodes.{distinct_left}
-use Rattle.js_targets.proofs.Targets.{Literal, of_array, of_object, array_line, by_braces, by_primary, literal_shape, may_literal, of_assignment}
-use Rattle.js_covers.specs.Covered.{AnyLabel, IsProperty, OnlyTree, ReadBefore, an_expression}
+use Rattle.parse_shared.specs.laws_shared.Lexemes.{Lex}
+use Rattle.parse_targets.specs.Targets.{is_object, is_literal, is_property}
+use Rattle.parse_targets.proofs.LiteralsAsTargets.{lexeme_between}
+use Rattle.parse_targets.proofs.ReusedNodes.{distinct_left}
+use Rattle.parse_targets.proofs.Targets.{Literal, of_array, of_object, array_line, by_braces, by_primary, literal_shape, may_literal, of_assignment}
+use Rattle.parse_targets.specs.Covered.{AnyLabel, IsProperty, OnlyTree, ReadBefore, an_expression}
 use Rattle.test_rows.proofs.WasRead.{held_kind, inside}
 
 -- ---- the node

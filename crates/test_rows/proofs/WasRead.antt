@@ -17,17 +17,17 @@ use Rattle.js_tree.specs.Nodes.{Node, node_at}
 use Rattle.js_tree.specs.declared.id.NodeId.{NodeId}
 use Rattle.js_tree.specs.declared.kind.NodeKind.TheVariants as made
 use Rattle.js_cursor.specs.Parsers.{Parser}
-use Rattle.js_parsing_laws.specs.Answers.{Answers}
-use Rattle.js_parsing_laws.specs.Heads.{widened}
-use Rattle.js_parsing_laws.specs.Lexemes.{Lex, is_read_kind}
-use Rattle.js_parsing_laws.specs.States.{At, Standing, flags_of}
-use Rattle.js_parsing_laws.proofs.Here.{kind_here}
-use Rattle.js_parsing_laws.proofs.Moving.{standing, standing_for}
-use Rattle.js_parsing_laws.proofs.ReadKinds.{reads_so}
-use Rattle.js_targets.specs.Targets.{is_assignment, is_literal, literal_kind}
-use Rattle.js_targets.proofs.Targets.{Literal, of_array, of_object, by_braces, by_brackets, by_primary, is_literal_kind, literal_shape, may_literal, of_assignment}
-use Rattle.js_covers.specs.Covered.{AnyLabel, IsAssignment, IsLiteral, ReadBefore, an_expression}
-use Rattle.js_covers.proofs.WasRead.{read_before}
+use Rattle.parse_shared.specs.laws_shared.Answers.{Answers}
+use Rattle.parse_shared.specs.laws_shared.Heads.{widened}
+use Rattle.parse_shared.specs.laws_shared.Lexemes.{Lex, is_read_kind}
+use Rattle.parse_shared.specs.laws_shared.States.{At, Standing, flags_of}
+use Rattle.parse_shared.proofs.laws_shared.Here.{kind_here}
+use Rattle.parse_shared.proofs.laws_shared.Moving.{standing, standing_for}
+use Rattle.parse_shared.proofs.laws_shared.ReadKinds.{reads_so}
+use Rattle.parse_targets.specs.Targets.{is_assignment, is_literal, literal_kind}
+use Rattle.parse_targets.proofs.Targets.{Literal, of_array, of_object, by_braces, by_brackets, by_primary, is_literal_kind, literal_shape, may_literal, of_assignment}
+use Rattle.parse_targets.specs.Covered.{AnyLabel, IsAssignment, IsLiteral, ReadBefore, an_expression}
+use Rattle.parse_targets.proofs.WasRead.{read_before}
 
 -- the end of the text binds nothing
 binds_nothing : (b : Bool) (r : Row) (w e : Bool) → looser 2 b r Eof w e ≡ true

@@ -3,13 +3,13 @@
 ghost use Rattle.std.specs.Prelude.{◌≡◌, ◌≤◌, Bool, true, length};
 ghost use Rattle.js_base.specs.Contexts.{has_flag, in_flag};
 ghost use Rattle.js_cursor.specs.Starts.{Starts};
-ghost use Rattle.js_parsing_laws.specs.States.{Standing};
+ghost use Rattle.parse_shared.specs.laws_shared.States.{Standing};
 
 use crate::answer::Answer;
 use crate::covered::cover_text;
 use js_base::{Kind, MAX_LEN, ParseOptions, Precedence, SourceType, StatementContext};
 use js_core::{
-    Parser, parse_assignment_expression_or_higher, parse_binary_expression_or_higher,
+    RuntimeParser, parse_assignment_expression_or_higher, parse_binary_expression_or_higher,
     parse_binding_pattern, parse_expr, parse_formal_parameters, parse_function_body,
     parse_lhs_expression_or_higher, parse_property_name, parse_statement_list_item,
     try_parse_parenthesized_arrow_function_expression,
@@ -32,7 +32,7 @@ pub(crate) fn put_called(alloc: Global, out: &mut Answer, asked: &str, text: &st
 }
 
 /// Puts what a call answers at the beginning of a text, and the name of the diagnostic that was kept last, if one was.
-fn put_call(p: &mut Parser<'_>, out: &mut Answer, asked: &str)
+fn put_call(p: &mut RuntimeParser<'_>, out: &mut Answer, asked: &str)
     requires { (b : Bool) × Starts p.old.text p.old.source_type p.old.options b p.old }
 {
     let (name, word) = match asked.split_once(' ') {
@@ -48,7 +48,7 @@ fn put_call(p: &mut Parser<'_>, out: &mut Answer, asked: &str)
 
 /// The node that the call of a name answers, with the word that it takes; none where the call answers none, or can't be made.
 fn call(
-    p: &mut Parser<'_>,
+    p: &mut RuntimeParser<'_>,
     out: &mut Answer,
     name: &str,
     word: &str,
@@ -73,7 +73,11 @@ fn call(
 }
 
 /// What the call of a name answers, if it is one that always answers a node.
-fn call_for_a_node(p: &mut Parser<'_>, name: &str, word: &str) -> Option<Result<NodeId, Stop>>
+fn call_for_a_node(
+    p: &mut RuntimeParser<'_>,
+    name: &str,
+    word: &str,
+) -> Option<Result<NodeId, Stop>>
     requires at { Standing p.old }
     requires allows_in { has_flag in_flag p.old.ctx ≡ true }
 {
@@ -122,7 +126,7 @@ fn context_of(word: &str) -> StatementContext {
 }
 
 /// Puts what a call answered, and the name of the diagnostic that was kept last, if one was.
-fn put_found(out: &mut Answer, p: &Parser<'_>, found: Result<Option<NodeId>, Stop>) {
+fn put_found(out: &mut Answer, p: &RuntimeParser<'_>, found: Result<Option<NodeId>, Stop>) {
     match found {
         Ok(Some(id)) => put_tree(out, &p.ast, id),
         Ok(None) => out.put("none"),

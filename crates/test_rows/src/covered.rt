@@ -2,25 +2,23 @@
 
 ghost use Rattle.std.specs.Prelude.{◌≡◌, true};
 ghost use Rattle.js_base.specs.Contexts.{has_flag, in_flag};
-ghost use Rattle.js_covers.specs.Covered.{AnyLabel, ReadBefore, an_expression};
-ghost use Rattle.js_parsing_laws.specs.States.{Standing};
+ghost use Rattle.parse_targets.specs.Covered.{AnyLabel, ReadBefore, an_expression};
+ghost use Rattle.parse_shared.specs.laws_shared.States.{Standing};
 
 use js_base::Kind;
-use js_core::{Parser, parse_assignment_expression_or_higher};
-use js_covers::grammar::CoverGrammar;
-use js_covers::ids::{
+use js_core::{
     ArrayAssignmentTargetId, ArrayExpressionId, AssignmentExpressionId, AssignmentTargetId,
     AssignmentTargetMaybeDefaultId, AssignmentTargetPropertyId, AssignmentTargetWithDefaultId,
-    ExpressionId, ObjectAssignmentTargetId, ObjectExpressionId, ObjectPropertyId,
-    SimpleAssignmentTargetId,
+    CoverGrammar, ExpressionId, ObjectAssignmentTargetId, ObjectExpressionId, ObjectPropertyId,
+    RuntimeParser, SimpleAssignmentTargetId, parse_assignment_expression_or_higher,
 };
 use js_cursor::Stop;
-use js_parsing::diagnostics::kept_so_far;
-use js_targets::cover::{child_at, is_object};
 use js_tree::{NodeId, NodeKind};
+use parse_shared::diagnostics::kept_so_far;
+use parse_targets::cover::{child_at, is_object};
 
 /// What the text covers, where it is an AssignmentExpression of which nothing is told.
-pub(crate) fn cover_text(p: &mut Parser<'_>, word: &str) -> Result<Option<NodeId>, Stop>
+pub(crate) fn cover_text(p: &mut RuntimeParser<'_>, word: &str) -> Result<Option<NodeId>, Stop>
     requires at { Standing p.old }
     requires allows_in { has_flag in_flag p.old.ctx ≡ true }
 {
@@ -36,7 +34,7 @@ pub(crate) fn cover_text(p: &mut Parser<'_>, word: &str) -> Result<Option<NodeId
 }
 
 /// What an expression covers, as the type of a name.
-fn cover_as(p: &mut Parser<'_>, id: NodeId, word: &str) -> Result<Option<NodeId>, Stop>
+fn cover_as(p: &mut RuntimeParser<'_>, id: NodeId, word: &str) -> Result<Option<NodeId>, Stop>
     requires at { Standing p.old }
     requires read { ReadBefore an_expression AnyLabel p.old id }
 {
@@ -60,7 +58,7 @@ fn cover_as(p: &mut Parser<'_>, id: NodeId, word: &str) -> Result<Option<NodeId>
 }
 
 /// What an array literal, an object literal or an assignment covers, as the type for it.
-fn cover_by_kind(p: &mut Parser<'_>, id: NodeId) -> Result<Option<NodeId>, Stop>
+fn cover_by_kind(p: &mut RuntimeParser<'_>, id: NodeId) -> Result<Option<NodeId>, Stop>
     requires at { Standing p.old }
     requires read { ReadBefore an_expression AnyLabel p.old id }
 {
@@ -85,7 +83,7 @@ fn cover_by_kind(p: &mut Parser<'_>, id: NodeId) -> Result<Option<NodeId>, Stop>
 }
 
 /// What the first property of an object literal covers.
-fn cover_first_property(p: &mut Parser<'_>, id: NodeId) -> Result<Option<NodeId>, Stop>
+fn cover_first_property(p: &mut RuntimeParser<'_>, id: NodeId) -> Result<Option<NodeId>, Stop>
     requires at { Standing p.old }
     requires read { ReadBefore an_expression AnyLabel p.old id }
 {

@@ -6,13 +6,11 @@ ghost use Rattle.js_base.specs.declared.kind.Kind.TheVariants as kinds;
 ghost use Rattle.js_lex.specs.Reading.{WasGiven};
 
 use crate::answer::{Answer, put_blanks, put_comments, put_faults, put_tokens};
-use js_base::{Diagnostic, Kind, MAX_LEN, SourceType, Token};
+use js_base::{Diagnostic, JsStr, Kind, MAX_LEN, NoMemory, SourceType, Token};
 use js_lex::{
     Lexer, LexerConfig, LexerOutput, NoTokensLexerConfig, NoTokensParserConfig, ParserConfig,
     RuntimeLexerConfig, RuntimeParserConfig, TokensLexerConfig, TokensParserConfig,
 };
-use js_memory::NoMemory;
-use js_text::JsStr;
 use std::alloc::Global;
 
 /// What is asked of a lexer.

@@ -8,9 +8,8 @@ ghost use Rattle.js_lex.specs.Reading.{WasGiven};
 
 use crate::answer::Answer;
 use crate::lexed::read_again;
-use js_base::{Kind, MAX_LEN, SourceType, Token};
+use js_base::{Kind, MAX_LEN, NoMemory, SourceType, Token};
 use js_lex::{Lexer, NoTokensLexerConfig};
-use js_memory::NoMemory;
 use std::alloc::Global;
 
 /// Puts how many lexemes, faults and comments are in a text.

@@ -1,7 +1,7 @@
 use Rattle.std.proofs.Common.{ap, arith}
 use Rattle.std.proofs.lemmas.Result.{err_from_is_err_and}
-use Rattle.js_cursor.specs.Parsers.{Parser}
-use Rattle.js_parsing_laws.proofs.Deeper.{ready_at, ready_deeper, stops_deeper, read_deeper, left_deeper}
+use Rattle.parse_shared.specs.js_cursor.Parsers.{Parser}
+use Rattle.parse_shared.proofs.laws_shared.Deeper.{ready_at, ready_deeper, stops_deeper, read_deeper, left_deeper}
 use Rattle.js_core.proofs.parse.+parse.Goals as goal
 
 pub enter-requires : goal.enter-requires

@@ -1,4 +1,4 @@
-use Rattle.js_parsing_laws.specs.Nesting.{room}
+use Rattle.parse_shared.specs.laws_shared.Nesting.{room}
 use Rattle.js_core.proofs.parse.+parse.Given as goal
 
 abbrev pub decreases-parse : goal.decreases-parse

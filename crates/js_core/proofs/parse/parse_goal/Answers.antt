@@ -1,7 +1,7 @@
 use Rattle.std.proofs.Common.{subst, inl, inr}
-use Rattle.js_parsing_laws.specs.declared.nested.Goal.{Goal}
-use Rattle.js_parsing_laws.specs.Nesting.{Ready}
-use Rattle.js_parsing_laws.proofs.Deeper.{ready_at}
+use Rattle.parse_shared.specs.laws_shared.declared.nested.Goal.{Goal}
+use Rattle.parse_shared.specs.laws_shared.Nesting.{Ready}
+use Rattle.parse_shared.proofs.laws_shared.Deeper.{ready_at}
 use Rattle.js_core.proofs.parse.parse_goal.Goals as goal
 
 pub returns-in-Assignment : goal.returns-in-Assignment

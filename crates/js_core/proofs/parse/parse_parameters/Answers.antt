@@ -1,4 +1,4 @@
-use Rattle.js_parsing_laws.proofs.Giving.{gives_up_here}
+use Rattle.parse_shared.proofs.laws_shared.Giving.{gives_up_here}
 use Rattle.std.proofs.Common.{sym, ◌∙◌}
 use Rattle.std.proofs.lemmas.Bool.{false≢true}
 use Rattle.js_core.proofs.NoParameters.{no_parameters_here}

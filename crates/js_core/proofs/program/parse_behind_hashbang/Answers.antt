@@ -1,7 +1,7 @@
 use Rattle.std.proofs.Common.{ap, ◌∙◌}
 use Rattle.std.proofs.lemmas.Result.{err_from_is_err_and}
 use Rattle.js_base.specs.declared.token.Token.{Token}
-use Rattle.js_parsing_laws.proofs.Beginning.{hashbang_passed}
+use Rattle.parse_shared.proofs.laws_shared.Beginning.{hashbang_passed}
 use Rattle.js_core.proofs.Readings.{hashbang_stands, hashbang_refused, hashbang_taken}
 use Rattle.js_core.proofs.program.parse_behind_hashbang.Goals as goal
 

@@ -1,6 +1,6 @@
 use Rattle.std.proofs.Common.{sym, ◌∙◌}
 use Rattle.std.proofs.lemmas.Bool.{false≢true}
-use Rattle.js_parsing_laws.proofs.Beginning.{begins}
+use Rattle.parse_shared.proofs.laws_shared.Beginning.{begins}
 use Rattle.js_core.proofs.Readings.{program_answers}
 use Rattle.js_core.proofs.program.parse_program.Goals as goal
 

@@ -2,4 +2,4 @@ use Rattle.js_grammar.proofs.CoreProductions.{whole_at}
 use Rattle.js_grammar.proofs.grammar_laws.law_of_core_lines.Goals as goal
 
 pub returns : goal.returns
-returns c = λ n f. whole_at n f
+returns c = λ n f h. whole_at n f h

@@ -2,7 +2,7 @@ use Rattle.std.proofs.Common.{◌≡◌, take}
 use Rattle.std.specs.Prelude.{nat_eq}
 use Rattle.std.specs.List.{flat_map}
 use Rattle.indexmap.specs.IndexSet.{insert_all}
-use Rattle.js_visits.specs.Options.{places_of}
+use Rattle.js_record.specs.part_visits.Options.{places_of}
 use Rattle.js_graph.specs.Modules.{target_by}
 use Rattle.js_graph.proofs.names.reach_stars.Given as goal
 

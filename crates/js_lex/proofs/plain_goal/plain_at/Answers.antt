@@ -1,7 +1,7 @@
 use Rattle.std.proofs.Common.{sym, ◌∙◌, ap}
-use Rattle.js_grammar.specs.LexicalFaults.{behind}
+use Rattle.part_words.specs.js_grammar.LexicalFaults.{behind}
 use Rattle.js_lex.specs.Openings.{opening_told}
-use Rattle.js_words.proofs.KindsOfLexemes.{comment_free}
+use Rattle.part_words.proofs.KindsOfLexemes.{comment_free}
 use Rattle.js_lex.proofs.Openings.{backquote_there, name_there, quote_there}
 use Rattle.js_lex.proofs.plain_goal.plain_at.Goals as goal
 

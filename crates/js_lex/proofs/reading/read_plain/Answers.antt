@@ -1,7 +1,7 @@
 use Rattle.std.proofs.Common.{Ok}
 use Rattle.js_lex.proofs.Giving.{trivia_ends, module_same, fits_shown, ok_next, ok_boundary, err_next}
 use Rattle.std.specs.Prelude.{◌==◌}
-use Rattle.js_grammar.specs.LexicalFaults.{behind}
+use Rattle.part_words.specs.js_grammar.LexicalFaults.{behind}
 use Rattle.js_lex.specs.States.{goal_of}
 use Rattle.js_lex.proofs.reading.read_plain.Goals as goal
 

@@ -1,7 +1,7 @@
 use Rattle.std.proofs.Common.{sym, ◌∙◌, subst, ◌≡◌, List, ℕ, true}
-use Rattle.js_grammar.specs.Longest.{none_begins}
-use Rattle.js_grammar.specs.Trivia.{is_trivia_piece}
-use Rattle.js_grammar.proofs.LongestLemmas.{not-true}
+use Rattle.part_words.specs.js_grammar.Longest.{none_begins}
+use Rattle.part_words.specs.js_grammar.Trivia.{is_trivia_piece}
+use Rattle.part_words.proofs.js_grammar.LongestLemmas.{not-true}
 use Rattle.js_lex.proofs.TriviaLemmas.{no_trivia, none_at_end}
 use Rattle.js_lex.proofs.trivia.begins_no_trivia.Goals as goal
 

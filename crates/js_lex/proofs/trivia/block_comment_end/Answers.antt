@@ -1,5 +1,5 @@
 use Rattle.std.proofs.Common.{◌++◌, sym, ◌∙◌, ap, append-nil}
-use Rattle.js_words.proofs.Places.{then}
+use Rattle.part_words.proofs.Places.{then}
 use Rattle.js_lex.proofs.TriviaLemmas.{block_on, block_more, block_closed, newline_more, newline_same, never_closed}
 use Rattle.js_lex.proofs.trivia.block_comment_end.Goals as goal
 

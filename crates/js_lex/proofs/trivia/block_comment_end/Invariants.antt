@@ -1,7 +1,7 @@
 use Rattle.std.proofs.Common.{length, ◌-◌, List, ℕ, ◌≡◌, ◌++◌, false}
-use Rattle.js_grammar.specs.Trivia.{closes_comment}
-use Rattle.js_grammar.specs.Characters.{has_line_terminator}
-use Rattle.js_words.specs.Places.{Word}
+use Rattle.part_words.specs.js_grammar.Trivia.{closes_comment}
+use Rattle.part_words.specs.js_grammar.Characters.{has_line_terminator}
+use Rattle.part_words.specs.Places.{Word}
 use Rattle.js_lex.proofs.trivia.block_comment_end.Given as goal
 
 -- what closes the comment is known by the last character alone

@@ -1,5 +1,5 @@
 use Rattle.std.proofs.Common.{sym, ◌∙◌}
-use Rattle.js_words.proofs.Places.{then}
+use Rattle.part_words.proofs.Places.{then}
 use Rattle.js_lex.proofs.TriviaLemmas.{line_more, line_on}
 use Rattle.js_lex.proofs.trivia.line_end.Goals as goal
 

@@ -1,7 +1,7 @@
 use Rattle.std.proofs.Common.{length, ◌-◌, List, ℕ}
 use Rattle.std.specs.Prelude.{IsTrue}
-use Rattle.js_grammar.specs.Trivia.{within_line}
-use Rattle.js_words.specs.Places.{Word}
+use Rattle.part_words.specs.js_grammar.Trivia.{within_line}
+use Rattle.part_words.specs.Places.{Word}
 use Rattle.js_lex.proofs.trivia.line_end.Given as goal
 
 abbrev pub invariant-line : goal.invariant-line

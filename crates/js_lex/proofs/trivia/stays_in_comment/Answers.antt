@@ -1,5 +1,5 @@
 use Rattle.std.proofs.Common.{sym, ◌∙◌}
-use Rattle.js_grammar.proofs.LongestLemmas.{not-true}
+use Rattle.part_words.proofs.js_grammar.LongestLemmas.{not-true}
 use Rattle.js_lex.proofs.TriviaLemmas.{in_comment}
 use Rattle.js_lex.proofs.trivia.stays_in_comment.Goals as goal
 

@@ -1,5 +1,5 @@
 use Rattle.std.proofs.Common.{sym, ◌∙◌}
-use Rattle.js_grammar.proofs.LongestLemmas.{not-true}
+use Rattle.part_words.proofs.js_grammar.LongestLemmas.{not-true}
 use Rattle.js_lex.proofs.TriviaLemmas.{on_line}
 use Rattle.js_lex.proofs.trivia.stays_on_line.Goals as goal
 

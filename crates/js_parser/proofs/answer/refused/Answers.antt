@@ -1,7 +1,7 @@
 use Rattle.std.proofs.Common.{sym, length, ap, subst, ◌++◌, ◌∙◌}
 use Rattle.js_cursor.specs.Parsers.{Parser}
-use Rattle.js_lex.specs.Kept.{LieIn}
-use Rattle.js_lex.specs.States.{State}
+use Rattle.js_cursor.specs.js_lex.Kept.{LieIn}
+use Rattle.js_cursor.specs.js_lex.States.{State}
 use Rattle.js_parser.specs.FaultsTold.{without_last}
 use Rattle.js_parser.proofs.Answering.{refused_answer, found_kept}
 use Rattle.js_core.proofs.Lists.{second_empty}

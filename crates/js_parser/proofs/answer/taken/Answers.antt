@@ -1,8 +1,8 @@
 use Rattle.std.proofs.Common.{ℕ, ◌≡◌, List, length, ap, sym, subst, ◌++◌, ◌∙◌}
 use Rattle.js_base.specs.declared.token.Token.{Token}
 use Rattle.js_grammar.specs.Trees.{Slots, Tree}
-use Rattle.js_lex.specs.Kept.{LieIn}
-use Rattle.js_lex.specs.States.{State}
+use Rattle.js_cursor.specs.js_lex.Kept.{LieIn}
+use Rattle.js_cursor.specs.js_lex.States.{State}
 use Rattle.js_tree.specs.Nodes.{Node, program_node}
 use Rattle.js_tree.specs.Holding.{HoldsAll, IsTree, program_tree, with_program}
 use Rattle.js_base.specs.declared.diagnostic.Diagnostic.{Diagnostic}

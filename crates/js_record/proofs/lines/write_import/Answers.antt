@@ -1,8 +1,8 @@
 use Rattle.std.proofs.Common.{◌++◌, ap, ◌∙◌}
 use Rattle.js_grammar.specs.ModuleRecords.{ImportEntry}
 use Rattle.js_grammar.specs.RecordLines.{import_line}
-use Rattle.js_visits.specs.declared.entry.ImportEntry.TheInside.{Inside}
-use Rattle.js_visits.specs.Names.{import_name_of}
+use Rattle.part_visits.specs.declared.entry.ImportEntry.TheInside.{Inside}
+use Rattle.part_visits.specs.Names.{import_name_of}
 use Rattle.js_record.proofs.LineLemmas.{behind}
 use Rattle.js_record.proofs.ResultLemmas.{on_ok}
 use Rattle.js_record.proofs.lines.write_import.Goals as goal

@@ -3,7 +3,7 @@ use Rattle.js_grammar.specs.ModuleRecords.{imported, namespace_object, imported_
 use Rattle.js_grammar.specs.Modules.{import_names}
 use Rattle.js_tree.specs.Labels.{kind_of}
 use Rattle.js_tree.specs.Nodes.{node_at}
-use Rattle.js_visits.specs.Names.{import_name_of}
+use Rattle.part_visits.specs.Names.{import_name_of}
 use Rattle.js_record.specs.Shown.{label_at, ids_of, first_shown, second_shown}
 use Rattle.js_record.proofs.KindLemmas.{default_import, namespace_import, name_import}
 use Rattle.js_record.proofs.visiting.import_entry.Goals as goal

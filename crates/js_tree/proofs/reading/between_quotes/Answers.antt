@@ -1,6 +1,6 @@
 use Rattle.std.proofs.Common.{arith, subst, sym, List, ℕ}
 use Rattle.std.specs.Prelude.{IsSome}
-use Rattle.js_text.specs.Decoding.{string_points}
+use Rattle.js_base.specs.part_text.Decoding.{string_points}
 use Rattle.js_tree.proofs.Quotations.{literal}
 use Rattle.js_tree.proofs.reading.between_quotes.Goals as goal
 

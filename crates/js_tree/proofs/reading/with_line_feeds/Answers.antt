@@ -3,7 +3,7 @@ use Rattle.std.proofs.lemmas.Iterator.{YieldsList-from_chars}
 use Rattle.std.proofs.lemmas.Iterator.Consumers.{YieldsList-turn, YieldsList-end}
 use Rattle.std.specs.Prelude.{string_bytes, encode_utf8_all}
 use Rattle.std.specs.Str.{chars}
-use Rattle.js_text.specs.Decoding.{raw_text}
+use Rattle.js_base.specs.part_text.Decoding.{raw_text}
 use Rattle.js_tree.proofs.LineLemmas.{line-turn, line-end}
 use Rattle.js_tree.proofs.reading.with_line_feeds.Goals as goal
 

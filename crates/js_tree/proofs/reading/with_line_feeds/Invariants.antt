@@ -1,7 +1,7 @@
 use Rattle.std.proofs.Common.{◌≡◌, ◌++◌, drop, length}
 use Rattle.std.specs.Prelude.{chars, encode_utf8_all, string_bytes}
-use Rattle.js_text.specs.Escapes.{line_feeds_after}
-use Rattle.js_text.specs.Decoding.{raw_text}
+use Rattle.js_base.specs.part_text.Escapes.{line_feeds_after}
+use Rattle.js_base.specs.part_text.Decoding.{raw_text}
 use Rattle.js_tree.proofs.reading.with_line_feeds.Given as goal
 
 -- what is written and the rest make up the whole

@@ -1,6 +1,6 @@
 use Rattle.std.proofs.Common.{sym, ◌∙◌}
 use Rattle.std.proofs.lemmas.Bool.{false≢true}
-use Rattle.js_parsing_laws.proofs.Beginning.{begins}
+use Rattle.parse_shared.proofs.laws_shared.Beginning.{begins}
 use Rattle.test_rows.proofs.called.put_call.Goals as goal
 
 pub call-found-requires-clause-at : goal.call-found-requires-clause-at

@@ -5,7 +5,7 @@ use Rattle.js_tree.specs.Nodes.{Node, node_at}
 use Rattle.js_tree.specs.declared.kind.NodeKind.{NodeKind}
 use Rattle.js_tree.specs.declared.kind.NodeKind.TheVariants as made
 use Rattle.js_cursor.specs.Parsers.{Parser}
-use Rattle.js_targets.specs.Targets.{is_object}
+use Rattle.parse_targets.specs.Targets.{is_object}
 use Rattle.test_rows.proofs.FirstProperty.{property_read}
 use Rattle.test_rows.proofs.covered.cover_first_property.Goals as goal
 

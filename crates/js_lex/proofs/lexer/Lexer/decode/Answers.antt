@@ -1,6 +1,6 @@
 use Rattle.std.proofs.Common.{◌≡◌, subst, sym, List, ℕ, Some, IfOk, arith}
 use Rattle.std.specs.Prelude.{IsSome}
-use Rattle.js_text.specs.Decoding.{string_points, string_units}
+use Rattle.js_base.specs.part_text.Decoding.{string_points, string_units}
 use Rattle.js_lex.proofs.Decodings.{literal_of}
 use Rattle.js_lex.proofs.lexer.Lexer.decode.Goals as goal
 

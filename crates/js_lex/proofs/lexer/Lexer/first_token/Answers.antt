@@ -1,7 +1,7 @@
 use Rattle.std.proofs.Common.{subst, ap, inl, refl, Some, ◌∙◌}
 use Rattle.std.specs.Prelude.{IsUtf8}
 use Rattle.js_lex.specs.States.{State}
-use Rattle.js_words.proofs.KindsOfLexemes.{hashbang_is}
+use Rattle.part_words.proofs.KindsOfLexemes.{hashbang_is}
 use Rattle.js_lex.proofs.Firsts.{gives_hashbang, ok_first, hashbang_for, none_for}
 use Rattle.js_lex.proofs.lexer.Lexer.first_token.Goals as goal
 

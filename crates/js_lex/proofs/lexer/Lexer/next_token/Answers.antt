@@ -1,7 +1,7 @@
 use Rattle.std.proofs.Common.{ℕ, refl, sym, subst}
 use Rattle.std.specs.Prelude.{IsCharBoundary}
 use Rattle.js_base.specs.declared.token.Token.{Token}
-use Rattle.js_grammar.specs.Lexemes.{division}
+use Rattle.part_words.specs.js_grammar.Lexemes.{division}
 use Rattle.js_lex.specs.States.{State, goal_of}
 use Rattle.js_lex.specs.Reading.{GivesNext}
 use Rattle.js_lex.proofs.Keeping.{on_err}

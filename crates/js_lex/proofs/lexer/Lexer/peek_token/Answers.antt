@@ -2,7 +2,7 @@ use Rattle.std.proofs.Common.{sym, subst, ap, ◌∙◌}
 use Rattle.js_lex.specs.States.{State}
 use Rattle.std.specs.Prelude.{IsCharBoundary, Result, Ok, Err, IfOk}
 use Rattle.js_base.specs.declared.token.Token.{Token}
-use Rattle.js_grammar.specs.Lexemes.{division}
+use Rattle.part_words.specs.js_grammar.Lexemes.{division}
 use Rattle.js_lex.specs.Reading.{GivesNext}
 use Rattle.js_lex.proofs.Giving.{text_stays}
 use Rattle.js_lex.proofs.Settled.{at_once, next_same, ok_only}

@@ -1,15 +1,15 @@
 use Rattle.std.proofs.Common.{◌≡◌, ◌+◌, ℕ, List, [], ◌∷◌, false, subst, ap, sym, Some}
 use Rattle.std.specs.Prelude.{IsUtf8, codes, Ok}
-use Rattle.js_text.specs.Characters.{one_of}
+use Rattle.js_base.specs.part_text.Characters.{one_of}
 use Rattle.js_base.specs.declared.diagnostic.Diagnostic.{Diagnostic}
-use Rattle.js_grammar.specs.Characters.{begins}
-use Rattle.js_grammar.specs.LexicalFaults.{behind}
-use Rattle.js_grammar.specs.Lexemes.{regular_expression}
+use Rattle.part_words.specs.js_grammar.Characters.{begins}
+use Rattle.part_words.specs.js_grammar.LexicalFaults.{behind}
+use Rattle.part_words.specs.js_grammar.Lexemes.{regular_expression}
 use Rattle.js_lex.specs.States.{State}
-use Rattle.js_words.specs.Places.{Word}
+use Rattle.part_words.specs.Places.{Word}
 use Rattle.js_lex.specs.Reading.{GivesAgain, FlagsStand}
 use Rattle.js_lex.specs.Settling.{SettledBehind}
-use Rattle.js_words.specs.declared.scan.Scanned.{Scanned}
+use Rattle.part_words.specs.declared.scan.Scanned.{Scanned}
 use Rattle.js_lex.proofs.Marks.{pattern_boundary}
 use Rattle.js_lex.proofs.Expressions.{slash_for, found_again, stopped_again, found_for, stopped_for}
 use Rattle.js_lex.proofs.lexer.Lexer.re_lex_regex.Goals as goal

@@ -1,7 +1,7 @@
 use Rattle.std.proofs.Common.{subst, ap, ◌≤◌}
 use Rattle.std.specs.Prelude.{IsUtf8, length}
 use Rattle.js_base.specs.declared.TheConstants.{MAX_LEN}
-use Rattle.js_grammar.specs.Lexemes.{division}
+use Rattle.part_words.specs.js_grammar.Lexemes.{division}
 use Rattle.js_lex.specs.States.{State}
 use Rattle.js_lex.specs.Settling.{ScanEnds}
 use Rattle.js_lex.proofs.Again.{ok_angle, ends_again, fits_again, starts_for, no_trivia_for, scans_for}

@@ -1,7 +1,7 @@
 use Rattle.std.proofs.Common.{subst, ap, ◌≤◌}
 use Rattle.std.specs.Prelude.{IsUtf8, length}
 use Rattle.js_base.specs.declared.TheConstants.{MAX_LEN}
-use Rattle.js_grammar.specs.Lexemes.{template_tail}
+use Rattle.part_words.specs.js_grammar.Lexemes.{template_tail}
 use Rattle.js_lex.specs.States.{State}
 use Rattle.js_lex.specs.Settling.{ScanEnds}
 use Rattle.js_lex.proofs.Again.{ok_again, ends_again, fits_again, brace_for, starts_for, scans_for}

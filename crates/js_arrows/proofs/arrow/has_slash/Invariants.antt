@@ -1,6 +1,0 @@
-use Rattle.js_expression_laws.specs.Arrows.{NoSlash}
-use Rattle.js_arrows.proofs.arrow.has_slash.Given as goal
-
--- none was found so far
-abbrev pub invariant-places : goal.invariant-places
-invariant-places l = NoSlash l.text l.start l.place

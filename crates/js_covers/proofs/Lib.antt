@@ -1,5 +1,0 @@
-mod Laws
-mod Answers
-mod TargetLaws
-mod ElementLaws
-pub mod WasRead

@@ -1,4 +1,0 @@
-pub mod DeclaratorLists
-pub mod Declarators
-pub mod HeadDeclarators
-pub mod SpansMarked

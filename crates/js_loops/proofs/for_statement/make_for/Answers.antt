@@ -1,9 +1,0 @@
-use Rattle.js_tree.specs.Labels.{kind_of, op_of}
-use Rattle.js_tree.specs.declared.op.Op.TheVariants as op
-use Rattle.js_operand_laws.proofs.MadeAs.{made_as}
-use Rattle.js_loops.proofs.for_statement.make_for.Goals as goal
-
-pub returns : goal.returns
-returns g c = made_as c.p.view_is c.node.new.self c.args.kind c.args.span op.None c.await_flags-flags.result c.args.children.items _ c.node.result
-    (λ i. record { kind = kind_of c.args.kind; op = op_of op.None; flags = c.await_flags-flags.ensures i; span = record { from = c.args.span.start; to = c.args.span.end } })
-    c.requires c.node.ensures

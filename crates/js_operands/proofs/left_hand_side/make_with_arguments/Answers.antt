@@ -1,9 +1,0 @@
-use Rattle.js_tree.specs.Labels.{kind_of, op_of}
-use Rattle.js_tree.specs.declared.op.Op.TheVariants as op
-use Rattle.js_operand_laws.proofs.MadeAs.{made_as}
-use Rattle.js_operands.proofs.left_hand_side.make_with_arguments.Goals as goal
-
-pub returns : goal.returns
-returns g c = made_as c.p.view_is c.node.new.self c.args.kind c.end_span-span.result op.None c.link_flags-flags.result c.args.children.items _ c.node.result
-    (λ i. record { kind = kind_of c.args.kind; op = op_of op.None; flags = c.link_flags-flags.ensures i; span = record { from = c.end_span-span.ensures.start i; to = c.end_span-span.ensures.end i } })
-    c.requires.kind c.node.ensures

@@ -1,9 +1,0 @@
-use Rattle.js_parsing_laws.specs.Nesting.{room}
-use Rattle.js_operand_laws.proofs.Members.{LinkLoop, CallGoes}
-use Rattle.js_operands.proofs.left_hand_side.parse_call_expression_rest.Given as goal
-
-abbrev pub invariant-links : goal.invariant-links
-invariant-links g l = LinkLoop l.start l.fn.p l.p (CallGoes l.fn.member l.start l.fn.p l.p l.left)
-
-abbrev pub decreases-links : goal.decreases-links
-decreases-links g l = room l.p

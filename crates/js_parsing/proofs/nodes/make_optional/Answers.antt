@@ -1,7 +1,0 @@
-use Rattle.std.proofs.Common.{[], ◌∷◌}
-use Rattle.js_tree.specs.declared.op.Op.TheVariants as op
-use Rattle.js_parsing_laws.proofs.MadeNodes.{made_seen}
-use Rattle.js_parsing.proofs.nodes.make_optional.Goals as goal
-
-pub returns : goal.returns
-returns g c = made_seen c.p.view_is c.node_of_one.new.self c.args.kind c.args.span op.None c.no_flags.result (c.args.child ∷ []) c.node_of_one.result c.no_flags.ensures c.requires c.node_of_one.ensures

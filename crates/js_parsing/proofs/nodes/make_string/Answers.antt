@@ -1,8 +1,0 @@
-use Rattle.std.specs.Prelude.{None}
-use Rattle.js_tree.specs.declared.kind.NodeKind.TheVariants as node
-use Rattle.js_tree.specs.declared.op.Op.TheVariants as op
-use Rattle.js_parsing_laws.proofs.MadeNodes.{texted_seen}
-use Rattle.js_parsing.proofs.nodes.make_string.Goals as goal
-
-pub returns : goal.returns
-returns g c = texted_seen c.p.view_is c.leaf.new.self node.StringLiteral c.args.span op.None c.no_flags.result None c.leaf.result c.no_flags.ensures c.requires c.leaf.ensures

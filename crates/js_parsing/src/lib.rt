@@ -1,9 +1,0 @@
-//! What the parse functions of all productions share: moves over lexemes, parameters, nodes that are made there, what is told, and
-//! the semicolon behind a statement.
-#![tactic(auto)]
-
-pub mod context;
-pub mod diagnostics;
-pub mod lexemes;
-pub mod nodes;
-pub mod semicolon;

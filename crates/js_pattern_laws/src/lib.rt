@@ -1,5 +1,0 @@
-//! Definitions and laws of what is bound, over which the parse functions of `js_patterns` are proved.
-#![tactic(auto)]
-
-pub mod forms;
-pub mod patterns;

@@ -1,5 +1,0 @@
-use Rattle.js_pattern_laws.proofs.Accessors.{peeked_beside}
-use Rattle.js_patterns.proofs.method_parameters.kind_behind.Goals as goal
-
-pub returns : goal.returns
-returns g c = peeked_beside c.kind.ensures c.in_ok-next.ensures.same c.in_ok-next.ensures.answer

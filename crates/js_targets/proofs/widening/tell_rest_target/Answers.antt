@@ -1,8 +1,0 @@
-use Rattle.std.proofs.Common.{sym, subst}
-use Rattle.js_base.specs.declared.diagnostic.Diagnostic.{Diagnostic}
-use Rattle.js_grammar.specs.Marks.{Mark}
-use Rattle.js_cursor.specs.Places.{goal as source}
-use Rattle.js_targets.proofs.widening.tell_rest_target.Goals as goal
-
-pub error-requires-clause-mark : goal.error-requires-clause-mark
-error-requires-clause-mark g c = subst (λ (d : Diagnostic). Mark (source c.args.p.now) c.args.p.now.text d) (sym c.diagnostic_at.ensures) c.requires.mark

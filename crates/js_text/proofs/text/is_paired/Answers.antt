@@ -1,5 +1,0 @@
-use Rattle.js_text.proofs.SurrogateLemmas.{paired-unpaired}
-use Rattle.js_text.proofs.text.is_paired.Goals as goal
-
-pub loop-unit-init : goal.loop-unit-init
-loop-unit-init c = paired-unpaired c.args.units.now

@@ -1,5 +1,0 @@
-use Rattle.std.proofs.Common.{refl}
-use Rattle.js_words.proofs.word.word_in.Goals as goal
-
-pub returns : goal.returns
-returns c = refl

@@ -1,0 +1,68 @@
+-- What the parse functions of `new.target` answer (ECMA-262, 13.3.12).
+use Rattle.std.specs.Prelude.{ℕ, ◌≡◌, ◌≤◌, ◌⊎◌, true, false, List, [], ◌∷◌, IsCharBoundary, IsTrue, Result, Ok, Err}
+use Rattle.js_base.specs.Contexts.{has_flag, new_target_flag}
+use Rattle.js_base.specs.declared.diagnostic.Diagnostic.{Diagnostic}
+use Rattle.js_base.specs.declared.diagnostic.DiagnosticKind.TheVariants as fault
+use Rattle.js_base.specs.declared.kind.Kind.TheVariants.{Dot, New, Target}
+use Rattle.js_base.specs.declared.span.Span.{Span}
+use Rattle.js_grammar.specs.Grammar.{Lexeme, ◌▸◌}
+use Rattle.js_grammar.specs.LexicalFaults.{Reached}
+use Rattle.js_grammar.specs.Lexed.{Lex as StandsBehind, all_faults}
+use Rattle.js_grammar.specs.Marks.{of_kinds}
+use Rattle.js_grammar.specs.Productions.{G, Flags, tok}
+use Rattle.laws_shared.specs.js_tree.declared.id.NodeId.{NodeId}
+use Rattle.laws_shared.specs.js_cursor.Moves.{Keeps}
+use Rattle.laws_shared.specs.js_cursor.Parsers.{Parser}
+use Rattle.laws_shared.specs.js_cursor.declared.stop.Stop.{Stop}
+use Rattle.laws_primary.specs.Members.{MemberSoFar, NoMember, Taken}
+use Rattle.laws_shared.specs.Answers.{Stops}
+use Rattle.laws_shared.specs.Moves.{Moved}
+use Rattle.laws_shared.specs.Stands.{StandsHere}
+use Rattle.laws_shared.specs.States.{At}
+use Rattle.laws_shared.specs.Told.{unrelated_at}
+
+-- its lexemes
+abbrev pub target_slots : G
+target_slots = tok New ▸ tok Dot ▸ tok Target
+
+-- what is told of another word behind `new` and a dot, and of `new.target` in no function
+abbrev pub no_target_at : Span → Diagnostic
+no_target_at s = unrelated_at fault.NewTarget s
+
+abbrev pub outside_at : Span → Diagnostic
+outside_at s = unrelated_at fault.NewTargetOutsideFunction s
+
+-- `new` was passed, which begins at a place
+pub record BehindNew (start : ℕ) (p : Parser) : Type 0 where
+  pub place : ℕ
+  pub reached : Reached p.text place
+  pub word : Lexeme
+  pub stood : StandsBehind all_faults p.text place word
+  pub is_new : IsTrue (of_kinds (New ∷ []) word)
+  pub begins : word.from ≡ start
+  pub ends : word.to ≡ p.prev_token_end
+  pub between : IsCharBoundary p.text start
+  pub before : start ≤ p.prev_token_end
+
+-- and a dot behind it
+pub record BehindDot (start : ℕ) (q : Parser) : Type 0 where
+  pub new : Parser
+  pub behind : BehindNew start new
+  pub text : q.text ≡ new.text
+  pub dot : Lexeme
+  pub stood : StandsBehind all_faults q.text new.prev_token_end dot
+  pub is_dot : IsTrue (of_kinds (Dot ∷ []) dot)
+  pub ends : dot.to ≡ q.prev_token_end
+  pub before : new.prev_token_end ≤ q.prev_token_end
+
+-- That was told, without the parameter NewTarget; or it may stand here.
+abbrev pub ChecksTarget : Span → Parser → Parser → Type 0
+ChecksTarget span old new = ((has_flag new_target_flag old.ctx ≡ false) × Keeps (outside_at span) old new) ⊎ ((has_flag new_target_flag old.ctx ≡ true) × (new ≡ old))
+
+abbrev pub TargetOutcome : List ℕ → Flags → Parser → Parser → Result NodeId Stop → Type 0
+TargetOutcome text f o q (Ok id) = Taken text f o q id (λ l cs pass s'. MemberSoFar text f o.prev_token_end o.token.span.start l cs pass s') (NoMember text f o.prev_token_end)
+TargetOutcome text f o q (Err e) = Stops o q e (NoMember text f o.prev_token_end)
+
+-- From the state o, where `new` stood, up to the old one this word was passed; now what stands behind it is.
+abbrev pub TakesTarget : ℕ → Parser → Parser → Result NodeId Stop → Type 0
+TakesTarget start p q r = (text : List ℕ) (f : Flags) (o : Parser) → At text f o → StandsHere o New true → start ≡ o.token.span.start → Moved text f o p → TargetOutcome text f o q r

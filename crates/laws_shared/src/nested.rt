@@ -1,0 +1,131 @@
+//! What parse functions call where a production nests.
+
+ghost use Rattle.std.specs.Prelude.{◌≡◌};
+ghost use Rattle.js_grammar.specs.Productions.{at, Assignment, Binding, Body, Exponent, Expression, ListItem, Params, Sub, Unary};
+ghost use Rattle.laws_shared.specs.Answers.{Answers};
+ghost use Rattle.laws_shared.specs.Methods.{ReadsWhole, parameters_of};
+ghost use Rattle.laws_shared.specs.Nesting.{levels_of};
+ghost use Rattle.laws_shared.specs.Statements.{TakesStatement};
+
+use js_cursor::{NodeId, ParserConfig, ParserImpl, Stop};
+
+/// Which parameters a method has (ECMA-262, section 15.4).
+#[derive(Clone, Copy)]
+pub enum MethodForm {
+    /// FormalParameters: those of a method that is no getter and no setter.
+    Method,
+    /// Those of a getter, of which there are none.
+    Getter,
+    /// Those of a setter: one FormalParameter.
+    Setter,
+}
+
+/// What is to be read where a production nests.
+#[derive(Clone, Copy)]
+pub enum Goal {
+    /// An Expression.
+    Expression,
+    /// An AssignmentExpression.
+    Assignment,
+    /// An AssignmentExpression between brackets.
+    Element,
+    /// A UnaryExpression.
+    Unary,
+    /// An ExponentiationExpression.
+    Exponentiation,
+    /// A BindingIdentifier or a BindingPattern.
+    Binding,
+    /// A Statement that is the body of another one.
+    Statement,
+    /// A StatementListItem.
+    ListItem,
+    /// A FunctionBody in its braces.
+    Body,
+    /// FormalParameters in their parentheses.
+    Params,
+    /// The parameters of a method in their parentheses.
+    MethodParameters(MethodForm),
+}
+
+impl Goal {
+    /// How many levels of depth it takes: what stands between brackets is read through all levels of operators again, and
+    /// takes four times the stack of the others and more. So does a function's body, which stands in an operand. What stands
+    /// in other braces takes twice as much as they do.
+    pub fn levels(self) -> u32
+        ensures { result ≡ levels_of self }
+    {
+        match self {
+            Goal::Expression | Goal::Element | Goal::Binding | Goal::Body => 4,
+            Goal::ListItem | Goal::MethodParameters(_) => 2,
+            Goal::Assignment
+            | Goal::Unary
+            | Goal::Exponentiation
+            | Goal::Statement
+            | Goal::Params => 1,
+        }
+    }
+}
+
+/// What may be read deeper, once a lexeme was passed. So each parse function is proved alone, and one alone
+/// recurses.
+pub trait Nested<C: ParserConfig> {
+    ghost use Rattle.js_cursor.specs.Parsers.{Parser};
+    ghost use Rattle.laws_shared.specs.declared.nested.Goal.{Goal};
+
+    ghost can: { Self → Parser → Goal → Type 0 };
+
+    /// An Expression (ECMA-262, section 13.16).
+    fn expression(&self, p: &mut ParserImpl<'_, C>) -> Result<NodeId, Stop>
+        requires { can self.now p.old Goal.Expression }
+        ensures { Answers (at Expression) p.old p.new result };
+
+    /// An AssignmentExpression (ECMA-262, section 13.15).
+    fn assignment(&self, p: &mut ParserImpl<'_, C>) -> Result<NodeId, Stop>
+        requires { can self.now p.old Goal.Assignment }
+        ensures { Answers (at Assignment) p.old p.new result };
+
+    /// An AssignmentExpression between brackets: an argument, an element, the consequent of a conditional expression.
+    fn element(&self, p: &mut ParserImpl<'_, C>) -> Result<NodeId, Stop>
+        requires { can self.now p.old Goal.Element }
+        ensures { Answers (at Assignment) p.old p.new result };
+
+    /// A UnaryExpression (ECMA-262, section 13.5).
+    fn unary(&self, p: &mut ParserImpl<'_, C>) -> Result<NodeId, Stop>
+        requires { can self.now p.old Goal.Unary }
+        ensures { Answers (at Unary) p.old p.new result };
+
+    /// An ExponentiationExpression (ECMA-262, section 13.6).
+    fn exponentiation(&self, p: &mut ParserImpl<'_, C>) -> Result<NodeId, Stop>
+        requires { can self.now p.old Goal.Exponentiation }
+        ensures { Answers (at Exponent) p.old p.new result };
+
+    /// A BindingIdentifier or a BindingPattern (ECMA-262, section 14.3.3).
+    fn binding(&self, p: &mut ParserImpl<'_, C>) -> Result<NodeId, Stop>
+        requires { can self.now p.old Goal.Binding }
+        ensures { Answers (at Binding) p.old p.new result };
+
+    /// A Statement that is the body of another one (ECMA-262, chapter 14).
+    fn statement(&self, p: &mut ParserImpl<'_, C>) -> Result<NodeId, Stop>
+        requires { can self.now p.old Goal.Statement }
+        ensures { TakesStatement (at Sub) p.old p.new result };
+
+    /// A StatementListItem (ECMA-262, section 14.2).
+    fn list_item(&self, p: &mut ParserImpl<'_, C>) -> Result<NodeId, Stop>
+        requires { can self.now p.old Goal.ListItem }
+        ensures { TakesStatement (at ListItem) p.old p.new result };
+
+    /// A FunctionBody in its braces (ECMA-262, section 15.2).
+    fn body(&self, p: &mut ParserImpl<'_, C>) -> Result<NodeId, Stop>
+        requires { can self.now p.old Goal.Body }
+        ensures { Answers (at Body) p.old p.new result };
+
+    /// FormalParameters in their parentheses (ECMA-262, section 15.1).
+    fn parameters(&self, p: &mut ParserImpl<'_, C>) -> Result<NodeId, Stop>
+        requires { can self.now p.old Goal.Params }
+        ensures { Answers (at Params) p.old p.new result };
+
+    /// The parameters of a method in their parentheses (ECMA-262, section 15.4).
+    fn method_parameters(&self, p: &mut ParserImpl<'_, C>, form: MethodForm) -> Result<NodeId, Stop>
+        requires { can self.now p.old (Goal.MethodParameters form) }
+        ensures { ReadsWhole (parameters_of form) p.old p.new result };
+}

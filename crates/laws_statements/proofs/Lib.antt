@@ -1,0 +1,21 @@
+pub mod BindingsFreeOfIn
+pub mod Blocks
+pub mod CompoundStatements
+pub mod DeclarationStatements
+pub mod ForContexts
+pub mod ForDeclarations
+pub mod ForHeads
+pub mod ForParts
+pub mod ForStatements
+pub mod FunctionStatements
+pub mod Labels
+pub mod LetStatements
+pub mod Returns
+pub mod StatementLists
+pub mod Statements
+pub mod Strings
+pub mod SwitchStatements
+pub mod TryStatements
+pub mod WordStatements
+pub mod WordLookaheads
+pub use Rattle.laws_operators.proofs as laws_operators

@@ -1,0 +1,1 @@
+pub use Rattle.laws_statements.proofs as laws_statements

@@ -1,0 +1,9 @@
+use Rattle.parse_shared.specs.laws_shared.Nesting.{room}
+use Rattle.parse_primary.proofs.laws_primary.Members.{LinkLoop, MemberGoes}
+use Rattle.parse_members.proofs.left_hand_side.parse_member_expression_rest.Given as goal
+
+abbrev pub invariant-links : goal.invariant-links
+invariant-links g l = LinkLoop l.start l.fn.p l.p (MemberGoes l.fn.member l.start l.fn.p l.p l.left)
+
+abbrev pub decreases-links : goal.decreases-links
+decreases-links g l = room l.p

@@ -1,0 +1,1 @@
+pub use Rattle.laws_primary.proofs as laws_primary

@@ -1,0 +1,2 @@
+pub mod Prelude
+pub use Rattle.laws_primary.specs as laws_primary

@@ -1,0 +1,6 @@
+use Rattle.std.proofs.Common.{Some, [], ◌∷◌}
+use Rattle.laws_shared.proofs.MadeNodes.{made_seen}
+use Rattle.parse_shared.proofs.nodes.make_three.Goals as goal
+
+pub returns : goal.returns
+returns g c = made_seen c.p.view_is c.node_of_three.new.self c.args.kind c.args.span c.args.op c.no_flags.result (Some c.args.first ∷ Some c.args.second ∷ Some c.args.third ∷ []) c.node_of_three.result c.no_flags.ensures c.requires c.node_of_three.ensures

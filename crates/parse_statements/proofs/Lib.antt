@@ -1,0 +1,1 @@
+pub use Rattle.parse_control.proofs.laws_statements as laws_statements

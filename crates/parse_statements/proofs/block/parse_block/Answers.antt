@@ -1,0 +1,16 @@
+use Rattle.std.proofs.Common.{◌∙◌, arith}
+use Rattle.std.proofs.lemmas.Result.{err_from_is_err_and}
+use Rattle.parse_shared.proofs.laws_shared.Moving.{stops_so}
+use Rattle.parse_control.proofs.laws_statements.Blocks.{part_answers, part_none}
+use Rattle.parse_statements.proofs.block.parse_block.Goals as goal
+
+pub returns-in_err-statements : goal.returns-in_err-statements
+returns-in_err-statements t c = λ text f a.
+    let p = err_from_is_err_and c.from_residual.result c.from_residual.ensures.1 in
+    rw (p.1, p.2) (stops_so _ _ _ (λ n. part_none n) (c.in_err-statements.ensures text f a))
+
+pub end_span-span-requires : goal.end_span-span-requires
+end_span-span-requires t c = let x = (c.in_ok-statements.ensures _ _ c.requires.at).further in let s = c.cur_start-start.ensures in omega arith
+
+pub returns : goal.returns
+returns t c = λ text f a. part_answers a (c.in_ok-statements.ensures text f a) _ (c.end_span-span.ensures.start ∙ c.cur_start-start.ensures) c.end_span-span.ensures.end c.in_ok-node.ensures

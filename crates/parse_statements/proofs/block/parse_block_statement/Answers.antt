@@ -1,0 +1,16 @@
+use Rattle.std.proofs.Common.{◌∙◌, arith}
+use Rattle.std.proofs.lemmas.Result.{err_from_is_err_and}
+use Rattle.parse_shared.proofs.laws_shared.Moving.{stops_so}
+use Rattle.parse_control.proofs.laws_statements.Blocks.{block_answers, block_none}
+use Rattle.parse_statements.proofs.block.parse_block_statement.Goals as goal
+
+pub returns-in_err-items : goal.returns-in_err-items
+returns-in_err-items t c = λ b text f a.
+    let p = err_from_is_err_and c.from_residual.result c.from_residual.ensures.1 in
+    rw (p.1, p.2) (stops_so _ _ _ (λ n. block_none a c.requires.brace b n) (c.in_err-items.ensures text f a))
+
+pub end_span-span-requires : goal.end_span-span-requires
+end_span-span-requires t c = let x = (c.in_ok-items.ensures _ _ c.requires.at).further in let s = c.cur_start-start.ensures in omega arith
+
+pub returns : goal.returns
+returns t c = λ b text f a. block_answers a c.requires.brace (c.in_ok-items.ensures text f a) b _ (c.end_span-span.ensures.start ∙ c.cur_start-start.ensures) c.end_span-span.ensures.end c.in_ok-node.ensures

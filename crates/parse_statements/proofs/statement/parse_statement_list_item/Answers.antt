@@ -1,0 +1,50 @@
+use Rattle.std.proofs.Common.{true, false, ap, arith, subst, sym, ◌∙◌}
+use Rattle.js_base.specs.Contexts.{has_flag, in_flag}
+use Rattle.js_base.specs.declared.kind.Kind.TheVariants.{Const}
+use Rattle.parse_shared.specs.js_cursor.Parsers.{Parser}
+use Rattle.js_grammar.specs.Productions.{at, ListItem}
+use Rattle.parse_shared.specs.laws_shared.Nesting.{room}
+use Rattle.parse_shared.specs.laws_shared.Stands.{StandsHere}
+use Rattle.parse_shared.specs.laws_shared.States.{Standing}
+use Rattle.parse_shared.proofs.laws_shared.Nesting.{nests_later}
+use Rattle.parse_primary.specs.laws_primary.Functions.{NoFunctionHere}
+use Rattle.parse_primary.proofs.laws_primary.AsyncWords.{begun_at, found_so}
+use Rattle.parse_control.specs.laws_statements.LetStatements.{NoLet}
+use Rattle.parse_control.proofs.laws_statements.LetStatements.{found_lexical, none_found, taken_from}
+use Rattle.parse_statements.proofs.statement.parse_statement_list_item.Goals as goal
+
+pub returns-in-Some : goal.returns-in-Some
+returns-in-Some g c = taken_from (at ListItem) c.args.p.now c.lexical_kind.new.p _ _ (found_lexical true c.args.p.now c.lexical_kind.new.p _ _ c.in-Some.is c.in_ok-kind.ensures).0 c.parse_lexical_declaration.ensures
+
+pub function_stands-requires : goal.function_stands-requires
+function_stands-requires g c = let z = none_found true c.args.p.now c.lexical_kind.new.p _ c.in_default.is c.in_ok-kind.ensures in subst (λ (v : Parser). Standing v) (sym z.0) c.requires.at
+
+pub parse_function_declaration-requires-clause-at : goal.parse_function_declaration-requires-clause-at
+parse_function_declaration-requires-clause-at g c = let z = none_found true c.args.p.now c.lexical_kind.new.p _ c.in_default.is c.in_ok-kind.ensures in let s = found_so c.lexical_kind.new.p c.function_stands.new.p c.if-branch.true c.in_ok-function_stands.ensures in subst (λ (v : Parser). Standing v) (sym (s.0 ∙ z.0)) c.requires.at
+
+pub parse_function_declaration-requires-clause-nests : goal.parse_function_declaration-requires-clause-nests
+parse_function_declaration-requires-clause-nests g c = let z = none_found true c.args.p.now c.lexical_kind.new.p _ c.in_default.is c.in_ok-kind.ensures in let s = found_so c.lexical_kind.new.p c.function_stands.new.p c.if-branch.true c.in_ok-function_stands.ensures in nests_later c.requires.nests (let e = ap room (s.0 ∙ z.0) in omega arith)
+
+pub parse_function_declaration-requires-clause-word : goal.parse_function_declaration-requires-clause-word
+parse_function_declaration-requires-clause-word g c = begun_at (found_so c.lexical_kind.new.p c.function_stands.new.p c.if-branch.true c.in_ok-function_stands.ensures)
+
+pub returns-then-branch : goal.returns-then-branch
+returns-then-branch g c = let z = none_found true c.args.p.now c.lexical_kind.new.p _ c.in_default.is c.in_ok-kind.ensures in let s = found_so c.lexical_kind.new.p c.function_stands.new.p c.if-branch.true c.in_ok-function_stands.ensures in taken_from (at ListItem) c.args.p.now c.function_stands.new.p _ _ (s.0 ∙ z.0) c.parse_function_declaration.ensures
+
+pub parse_any_statement-requires-clause-at : goal.parse_any_statement-requires-clause-at
+parse_any_statement-requires-clause-at g c = let z = none_found true c.args.p.now c.lexical_kind.new.p _ c.in_default.is c.in_ok-kind.ensures in let s = found_so c.lexical_kind.new.p c.function_stands.new.p c.if-branch.false c.in_ok-function_stands.ensures in subst (λ (v : Parser). Standing v) (sym (s.0 ∙ z.0)) c.requires.at
+
+pub parse_any_statement-requires-clause-nests : goal.parse_any_statement-requires-clause-nests
+parse_any_statement-requires-clause-nests g c = let z = none_found true c.args.p.now c.lexical_kind.new.p _ c.in_default.is c.in_ok-kind.ensures in let s = found_so c.lexical_kind.new.p c.function_stands.new.p c.if-branch.false c.in_ok-function_stands.ensures in nests_later c.requires.nests (let e = ap room (s.0 ∙ z.0) in omega arith)
+
+pub parse_any_statement-requires-clause-allows_in : goal.parse_any_statement-requires-clause-allows_in
+parse_any_statement-requires-clause-allows_in g c = let z = none_found true c.args.p.now c.lexical_kind.new.p _ c.in_default.is c.in_ok-kind.ensures in let s = found_so c.lexical_kind.new.p c.function_stands.new.p c.if-branch.false c.in_ok-function_stands.ensures in ap (λ (v : Parser). has_flag in_flag v.ctx) (s.0 ∙ z.0) ∙ c.requires.allows_in
+
+pub parse_any_statement-requires-clause-other : goal.parse_any_statement-requires-clause-other
+parse_any_statement-requires-clause-other g c = let z = none_found true c.args.p.now c.lexical_kind.new.p _ c.in_default.is c.in_ok-kind.ensures in let s = found_so c.lexical_kind.new.p c.function_stands.new.p c.if-branch.false c.in_ok-function_stands.ensures in subst (λ (v : Parser). StandsHere v Const false) (sym (s.0 ∙ z.0)) z.1
+
+pub parse_any_statement-requires-clause-no_function : goal.parse_any_statement-requires-clause-no_function
+parse_any_statement-requires-clause-no_function g c = let s = found_so c.lexical_kind.new.p c.function_stands.new.p c.if-branch.false c.in_ok-function_stands.ensures in subst (λ (v : Parser). NoFunctionHere v) (sym s.0) s.1
+
+pub returns : goal.returns
+returns g c = let z = none_found true c.args.p.now c.lexical_kind.new.p _ c.in_default.is c.in_ok-kind.ensures in let s = found_so c.lexical_kind.new.p c.function_stands.new.p c.if-branch.false c.in_ok-function_stands.ensures in taken_from (at ListItem) c.args.p.now c.function_stands.new.p _ _ (s.0 ∙ z.0) (c.parse_any_statement.ensures true (subst (λ (v : Parser). NoLet true v) (sym (s.0 ∙ z.0)) z.2))

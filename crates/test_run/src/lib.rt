@@ -1,0 +1,6 @@
+//! Tests of `run` over ends in memory, and the example of README.md.
+#![tactic(auto)]
+
+pub mod example;
+#[cfg(test)]
+mod runs;
