@@ -17,6 +17,7 @@ use Rattle.js_tree.specs.Nodes.{Node, empty_program}
 use Rattle.js_tree.specs.Holding.{IsTree, program_tree}
 use Rattle.js_parser.specs.Broken.{told_in}
 pub use Rattle.js_core.specs.Readings.{options_of}
+use Rattle.js_parser.specs.declared.answer.ParserReturn.{ParserReturn}
 use Rattle.js_parser.specs.declared.early.Position.TheVariants.{Anywhere}
 use Rattle.js_parser.specs.Leftover.{leftover}
 use Rattle.js_parser.specs.NodeSpans.{NodeLies, SlotsLie}
@@ -28,6 +29,10 @@ use Rattle.js_core.specs.laws_shared.States.{NodesLie}
 -- where none are asked for: parentheses have nodes, and nothing else is on
 abbrev pub default_options : ParseOptions
 default_options = record { allow_return_outside_function = false; preserve_parens = true; allow_v8_intrinsics = false }
+
+-- what was kept beside the tree, as the lexer hands it out
+abbrev pub output_of : ParserReturn → LexerOutput
+output_of r = record { comments = r.program.comments; irregular_whitespaces = r.irregular_whitespaces; tokens = r.tokens; errors = r.diagnostics }
 
 -- Where the cover grammar derives a tree of the text, in which a shorthand may have an initialiser, nothing else is wrong with it: the tree is told, and it is told, in the tree's order, of each node that breaks an early rule, and then of each shorthand with an initialiser that no target took (CoverInitializedName, 13.2.5.1); and of nothing else.
 abbrev pub TellsLeftover : List ℕ → Goal → Options → Tree → List Diagnostic → Bool → Type 0

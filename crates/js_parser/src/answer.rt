@@ -10,7 +10,7 @@ ghost use Rattle.js_core.specs.laws_shared.States.{NodesLie};
 ghost use Rattle.js_parser.specs.FaultsTold.{ends_in_fault, is_stopped_by_fault, told_at_stop, without_last};
 ghost use Rattle.js_core.specs.Kept.{KeepsRight};
 ghost use Rattle.js_parser.specs.Leftover.{told_at, with_leftover};
-ghost use Rattle.js_parser.specs.Parsed.{options_of, IsAnswer, IsOverlong};
+ghost use Rattle.js_parser.specs.Parsed.{options_of, IsAnswer, IsOverlong, output_of};
 ghost use Rattle.js_core.specs.Taken.{ProgramTaken, ProgramRefused};
 
 use crate::early::early_errors;
@@ -61,8 +61,8 @@ pub fn taken(
 ) -> Result<ParserReturn, NoMemory>
     requires at { IsAt p }
     requires lie { NodesLie p.text p.nodes }
-    ensures answer { IfOk result (λ r. (text : List ℕ) (s : SourceType) (o : ParseOptions) (asks : Bool) → ProgramTaken text s o asks p.entry items.items → IsAnswer text (goal_of s) (options_of o) r.program.tree (record { comments = r.program.comments; irregular_whitespaces = r.irregular_whitespaces; tokens = r.tokens; errors = r.diagnostics }) r.fatal_error) }
-    ensures kept { IfOk result (λ r. (text : List ℕ) (s : SourceType) (o : ParseOptions) (asks : Bool) → ProgramTaken text s o asks p.entry items.items → KeepsRight text (goal_of s) (options_of o) asks (record { comments = r.program.comments; irregular_whitespaces = r.irregular_whitespaces; tokens = r.tokens; errors = r.diagnostics })) }
+    ensures answer { IfOk result (λ r. (text : List ℕ) (s : SourceType) (o : ParseOptions) (asks : Bool) → ProgramTaken text s o asks p.entry items.items → IsAnswer text (goal_of s) (options_of o) r.program.tree (output_of r) r.fatal_error) }
+    ensures kept { IfOk result (λ r. (text : List ℕ) (s : SourceType) (o : ParseOptions) (asks : Bool) → ProgramTaken text s o asks p.entry items.items → KeepsRight text (goal_of s) (options_of o) asks (output_of r)) }
     ensures no_flow { IfOk result (λ r. r.is_flow_language ≡ false) }
     ensures source_type { IfOk result (λ r. r.program.source_type ≡ source_type) }
 {
@@ -95,8 +95,8 @@ pub fn taken(
 /// The answer for a text whose parse a fatal diagnostic ended: a program without children.
 pub fn refused(source_type: SourceType, p: RuntimeParser<'_>) -> Result<ParserReturn, NoMemory>
     requires { IsAt p }
-    ensures answer { IfOk result (λ r. (text : List ℕ) (s : SourceType) (o : ParseOptions) → ProgramRefused text s o p.entry → IsAnswer text (goal_of s) (options_of o) r.program.tree (record { comments = r.program.comments; irregular_whitespaces = r.irregular_whitespaces; tokens = r.tokens; errors = r.diagnostics }) r.fatal_error) }
-    ensures kept { IfOk result (λ r. (text : List ℕ) (s : SourceType) (o : ParseOptions) (asks : Bool) → ProgramRefused text s o p.entry → KeepsRight text (goal_of s) (options_of o) asks (record { comments = r.program.comments; irregular_whitespaces = r.irregular_whitespaces; tokens = r.tokens; errors = r.diagnostics })) }
+    ensures answer { IfOk result (λ r. (text : List ℕ) (s : SourceType) (o : ParseOptions) → ProgramRefused text s o p.entry → IsAnswer text (goal_of s) (options_of o) r.program.tree (output_of r) r.fatal_error) }
+    ensures kept { IfOk result (λ r. (text : List ℕ) (s : SourceType) (o : ParseOptions) (asks : Bool) → ProgramRefused text s o p.entry → KeepsRight text (goal_of s) (options_of o) asks (output_of r)) }
     ensures told { IfOk result (λ r. r.diagnostics ≡ told_at_stop p.entry) }
     ensures no_flow { IfOk result (λ r. r.is_flow_language ≡ false) }
     ensures source_type { IfOk result (λ r. r.program.source_type ≡ source_type) }
@@ -127,7 +127,7 @@ pub fn refused(source_type: SourceType, p: RuntimeParser<'_>) -> Result<ParserRe
 
 /// The answer for a text that is too long.
 pub fn overlong(alloc: Global, source_type: SourceType) -> Result<ParserReturn, NoMemory>
-    ensures answer { IfOk result (λ r. IsOverlong r.program.tree (record { comments = r.program.comments; irregular_whitespaces = r.irregular_whitespaces; tokens = r.tokens; errors = r.diagnostics }) r.fatal_error) }
+    ensures answer { IfOk result (λ r. IsOverlong r.program.tree (output_of r) r.fatal_error) }
     ensures no_record { IfOk result (λ r. r.module_record ≡ record_of_parts []) }
     ensures no_flow { IfOk result (λ r. r.is_flow_language ≡ false) }
     ensures source_type { IfOk result (λ r. r.program.source_type ≡ source_type) }

@@ -10,7 +10,7 @@ ghost use Rattle.js_cursor.specs.js_lex.States.{goal_of};
 ghost use Rattle.js_parser.specs.CoreAnswers.{IsCoreAnswer};
 ghost use Rattle.js_core.specs.Kept.{KeepsRight};
 ghost use Rattle.js_core.specs.Readings.{read_at};
-ghost use Rattle.js_parser.specs.Parsed.{default_options, options_of, Answers, IsAnswer};
+ghost use Rattle.js_parser.specs.Parsed.{default_options, options_of, Answers, IsAnswer, output_of};
 
 use crate::answer::{ParserReturn, overlong, refused, taken};
 use js_base::{MAX_LEN, NoMemory, ParseOptions, SourceType};
@@ -84,8 +84,8 @@ impl<'a, C: ParserConfig> Parser<'a, C> {
         ensures core_headline { IfOk result (λ r. IsUtf8 self.entry.source_text.now → CoreSource self.entry.source_text.now → self.entry.options.preserve_parens ≡ true → IsCoreAnswer self.entry.source_text.now self.entry.source_type r.program.source_type self.entry.options.allow_v8_intrinsics r.program.tree r.diagnostics) }
         // Without diagnostics, comments and white space are those of the lexemes of the reading, and so are the tokens,
         // where the config asks for them; where it doesn't, there are none.
-        ensures kept { IfOk result (λ r. KeepsRight self.entry.source_text.now (read_at (goal_of self.entry.source_type)) (options_of self.entry.options) (C.asks_for_tokens self.entry.config) (record { comments = r.program.comments; irregular_whitespaces = r.irregular_whitespaces; tokens = r.tokens; errors = r.diagnostics })) }
-        ensures answers { IfOk result (λ r. Answers self.entry.source_text.now self.entry.source_type r.program.source_type self.entry.options r.program.tree (record { comments = r.program.comments; irregular_whitespaces = r.irregular_whitespaces; tokens = r.tokens; errors = r.diagnostics }) r.fatal_error) }
+        ensures kept { IfOk result (λ r. KeepsRight self.entry.source_text.now (read_at (goal_of self.entry.source_type)) (options_of self.entry.options) (C.asks_for_tokens self.entry.config) (output_of r)) }
+        ensures answers { IfOk result (λ r. Answers self.entry.source_text.now self.entry.source_type r.program.source_type self.entry.options r.program.tree (output_of r) r.fatal_error) }
         // Of a text that is too long no declaration of a module is read.
         ensures overlong_record { IfOk result (λ r. MAX_LEN < length self.entry.source_text.now → r.module_record ≡ record_of_parts []) }
         ensures no_flow { IfOk result (λ r. r.is_flow_language ≡ false) }
@@ -127,8 +127,8 @@ fn parse_as(
 ) -> Result<ParserReturn, NoMemory>
     requires short { length source_text.now ≤ MAX_LEN }
     requires named { is_goal source_type ≢ Unambiguous }
-    ensures answer { IfOk result (λ r. IsAnswer source_text.now (goal_of source_type) (options_of options) r.program.tree (record { comments = r.program.comments; irregular_whitespaces = r.irregular_whitespaces; tokens = r.tokens; errors = r.diagnostics }) r.fatal_error) }
-    ensures kept { IfOk result (λ r. KeepsRight source_text.now (goal_of source_type) (options_of options) tokens (record { comments = r.program.comments; irregular_whitespaces = r.irregular_whitespaces; tokens = r.tokens; errors = r.diagnostics })) }
+    ensures answer { IfOk result (λ r. IsAnswer source_text.now (goal_of source_type) (options_of options) r.program.tree (output_of r) r.fatal_error) }
+    ensures kept { IfOk result (λ r. KeepsRight source_text.now (goal_of source_type) (options_of options) tokens (output_of r)) }
     ensures no_flow { IfOk result (λ r. r.is_flow_language ≡ false) }
     ensures source_type { IfOk result (λ r. r.program.source_type ≡ source_type) }
 {
