@@ -22,6 +22,27 @@ use parse_statements::forms::StatementList;
 use parse_statements::sequences::Sequences;
 use parse_statements::{block, statement, statement_list};
 
+// How tight the operators of each level bind, as `parse_operators` counts it (ECMA-262, sections 13.7 to 13.13).
+const OR: u8 = 5;
+
+const AND: u8 = 6;
+
+const BIT_OR: u8 = 7;
+
+const BIT_XOR: u8 = 8;
+
+const BIT_AND: u8 = 9;
+
+const EQUALITY: u8 = 10;
+
+const RELATIONAL: u8 = 11;
+
+const SHIFT: u8 = 12;
+
+const ADDITIVE: u8 = 13;
+
+const MULTIPLICATIVE: u8 = 14;
+
 /// A parser that is told when the program runs whether it keeps the tokens.
 pub type RuntimeParser<'a> = ParserImpl<'a, RuntimeParserConfig>;
 
@@ -192,16 +213,16 @@ pub fn parse_binary_expression_or_higher(
 {
     match least {
         Precedence::Comma => operators::parse_binary_expression_or_higher(p, &By(parse)),
-        Precedence::NullishCoalescing => parse_operators(p, &By(parse), 5),
-        Precedence::LogicalOr => parse_operators(p, &By(parse), 6),
-        Precedence::LogicalAnd => parse_operators(p, &By(parse), 7),
-        Precedence::BitwiseOr => parse_operators(p, &By(parse), 8),
-        Precedence::BitwiseXor => parse_operators(p, &By(parse), 9),
-        Precedence::BitwiseAnd => parse_operators(p, &By(parse), 10),
-        Precedence::Equals => parse_operators(p, &By(parse), 11),
-        Precedence::Compare => parse_operators(p, &By(parse), 12),
-        Precedence::Shift => parse_operators(p, &By(parse), 13),
-        Precedence::Add => parse_operators(p, &By(parse), 14),
+        Precedence::NullishCoalescing => parse_operators(p, &By(parse), OR),
+        Precedence::LogicalOr => parse_operators(p, &By(parse), AND),
+        Precedence::LogicalAnd => parse_operators(p, &By(parse), BIT_OR),
+        Precedence::BitwiseOr => parse_operators(p, &By(parse), BIT_XOR),
+        Precedence::BitwiseXor => parse_operators(p, &By(parse), BIT_AND),
+        Precedence::BitwiseAnd => parse_operators(p, &By(parse), EQUALITY),
+        Precedence::Equals => parse_operators(p, &By(parse), RELATIONAL),
+        Precedence::Compare => parse_operators(p, &By(parse), SHIFT),
+        Precedence::Shift => parse_operators(p, &By(parse), ADDITIVE),
+        Precedence::Add => parse_operators(p, &By(parse), MULTIPLICATIVE),
         Precedence::Multiply | Precedence::Exponentiation => {
             parse_exponentiation_expression(p, &By(parse))
         }
