@@ -15,7 +15,8 @@ use Rattle.js_grammar.specs.Grammar.{Lexeme, Look, nothing, such}
 use Rattle.js_grammar.specs.FirstSets.{first}
 use Rattle.js_grammar.specs.LexicalFaults.{Reached}
 use Rattle.js_grammar.specs.Lexed.{Lex as StandsBehind, all_faults}
-use Rattle.js_grammar.specs.Marks.{Mark, a_lexeme, of_kinds, the_end, the_start}
+use Rattle.js_grammar.specs.Insertion.{is_word}
+use Rattle.js_grammar.specs.Marks.{Mark, a_lexeme, another_word, of_kinds, the_end, the_start}
 use Rattle.js_grammar.specs.Parsing.{Test, always, plain, full, Fails}
 use Rattle.js_grammar.specs.Productions.{G, Flags, at}
 use Rattle.js_grammar.specs.Productions.{New as new_symbol}
@@ -125,6 +126,13 @@ words_whole : covers words whole_words ≡ true
 unfolding covers
 words_whole = refl
 
+abbrev word_look : Look
+word_look k w e = is_word k
+
+are_words : covers words word_look ≡ true
+unfolding covers
+are_words = refl
+
 module _ {text : List ℕ} {f : Flags} {q : Parser} {start : ℕ} (b : BehindDot start q) (a : At text f q) (n : StandsHere q Target false) (w : one_of_kinds identifier_name_kinds q.token.kind ≡ true) where
   whole : (not (is_last q.token.kind) ≡ true) × (not (same_kind RAngle q.token.kind) ≡ true)
   whole = and_parts (not (is_last q.token.kind)) (not (same_kind RAngle q.token.kind)) (covered words whole_words words_whole q.token.kind false false w)
@@ -132,8 +140,8 @@ module _ {text : List ℕ} {f : Flags} {q : Parser} {start : ℕ} (b : BehindDot
   another : (y : Lexeme) × StandsBehind all_faults text q.prev_token_end y × Tells y q.token
   another = found a (uncut a (not-true (same_kind RAngle q.token.kind) whole.1)) (not-true (is_last q.token.kind) whole.0)
 
-  is_another : IsTrue (not (of_kinds (Target ∷ []) another.0))
-  is_another = by (same_kind Target another.0.kind) another.0.escaped refl refl
+  is_another : IsTrue (another_word another.0)
+  is_another = and_from (is_word another.0.kind) (not (of_kinds (Target ∷ []) another.0)) (subst (λ (v : Kind). is_word v ≡ true) another.2.kind (covered words word_look are_words q.token.kind false false w)) (by (same_kind Target another.0.kind) another.0.escaped refl refl)
     where
       by : (k e : Bool) → same_kind Target another.0.kind ≡ k → another.0.escaped ≡ e → not ((k || false) && not e) ≡ true
       by true true i j = refl

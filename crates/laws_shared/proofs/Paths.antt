@@ -23,6 +23,7 @@ use Rattle.js_grammar.proofs.FirstRules.{by_first, fails_here, picks, pick}
 use Rattle.js_grammar.proofs.FollowLaws.{surely}
 use Rattle.js_cursor.specs.js_lex.Reading.{is_right_angle}
 use Rattle.js_cursor.specs.Parsers.{Parser}
+pub use Rattle.laws_shared.specs.Paths.{Path}
 use Rattle.laws_shared.specs.Lexemes.{Lex, Walked, Spot, spot, nowhere, one_more, read_again, more_faults, is_read, other_goals, signs, signs_of, is_read_kind}
 use Rattle.laws_shared.specs.States.{At}
 use Rattle.laws_shared.specs.Moves.{Moved}
@@ -165,14 +166,6 @@ module _ {text : List ℕ} {f : Flags} {p : Parser} (a : At text f p) where
 
   pub skips : {X : Test} {b : G} {q : Parser} (k : Kind) → p.token.kind ≡ k → p.token.escaped ≡ false → is_read_kind k ≡ true → (s : Moved text f p q) → Goes rule (Lex text) X end (seq (tok k) b) p.prev_token_end b q.prev_token_end (λ us. us) (passing s.lexeme)
   skips k e n r s = then_by {X' = plain full} (passes k e n r s) (record { admits = λ ts us vs j k ls mid rest d d' h. (refl, refl) })
-
--- A path of a parse function, clean or not.
-pub record Path (text : List ℕ) (f : Flags) (X : Test) (g : G) (p : Parser) (g' : G) (q : Parser) (h : Slots → Slots) : Type 0 where
-  pub at : At text f q
-  pub further : p.token.span.start < q.prev_token_end
-  pub pass : Lexemes → Lexemes
-  pub walked : Walked text (spot p) (spot q) pass
-  pub verdict : Verdict (f.wide ≡ true) p.errors q.errors (Stretch text X g p.prev_token_end g' q.prev_token_end h pass) (Fails rule (Lex text) X end g p.prev_token_end)
 
 module _ {text : List ℕ} {X : Test} where
   -- one stretch and another

@@ -10,6 +10,7 @@ pub mod Moves
 pub mod Nesting
 pub mod NodeTexts
 pub mod Operators
+pub mod Paths
 pub mod Stands
 pub mod Statements
 pub mod States

@@ -19,7 +19,7 @@ use Rattle.laws_shared.specs.Answers.{Grown, Verdict, Stretch, Stops}
 use Rattle.laws_shared.specs.Lexemes.{Lex, Walked, spot}
 use Rattle.laws_shared.specs.Stands.{StandsHere}
 use Rattle.laws_shared.specs.States.{At, Same}
-use Rattle.laws_shared.proofs.Paths.{Path}
+use Rattle.laws_shared.specs.Paths.{Path}
 use Rattle.laws_statements.specs.declared.forms.Ending.{Ending}
 use Rattle.laws_statements.specs.declared.forms.Ending.TheVariants as ending
 

@@ -23,7 +23,7 @@ use Rattle.laws_shared.specs.Answers.{Numbered, Stops}
 use Rattle.laws_shared.specs.Classes.{IsEarly}
 use Rattle.laws_shared.specs.Stands.{StandsHere}
 use Rattle.laws_shared.specs.States.{At, Same}
-use Rattle.laws_shared.proofs.Paths.{Path}
+use Rattle.laws_shared.specs.Paths.{Path}
 use Rattle.laws_operators.specs.parse_targets.Taken.{goes_through}
 use Rattle.laws_operators.specs.HeadOperands.{HeadOperand, NoTargetPart}
 use Rattle.parse_declarations.specs.HeadDeclarators.{ThroughHere}
