@@ -4,7 +4,7 @@ ghost use Rattle.std.specs.Prelude.{◌≡◌, Some, map, string_bytes};
 ghost use Rattle.js_run.specs.Runs.{HasCause, FitsWords};
 
 use crate::ends::Sink;
-use crate::run::run;
+use crate::program::run;
 use crate::status::Status;
 use crate::steady::SteadySource;
 use std::alloc::Global;

@@ -1,7 +1,7 @@
 use Rattle.std.proofs.Common.{refl, map, string_bytes, Global}
 use Rattle.js_run.specs.Runs.{told}
 use Rattle.js_run.proofs.Runs.{answer_if_told, core_answer_if_told, long_if_told, no_text_if_told}
-use Rattle.js_run.proofs.run.run.Goals as goal
+use Rattle.js_run.proofs.program.run.Goals as goal
 
 pub returns-clause-headline : goal.returns-clause-headline
 returns-clause-headline g c =

@@ -1,7 +1,7 @@
 use Rattle.std.proofs.Common.{map, string_bytes, Global}
 use Rattle.js_run.specs.Runs.{told}
 use Rattle.js_run.proofs.Runs.{put_has_cause, put_fits_words, put_leaves_sink, put_leaves_source, stop_has_cause, stop_fits_words, stop_leaves_sink, stop_leaves_source}
-use Rattle.js_run.proofs.run.steps.Goals as goal
+use Rattle.js_run.proofs.program.steps.Goals as goal
 
 pub returns-in-Ok-make-clause-cause : goal.returns-in-Ok-make-clause-cause
 returns-in-Ok-make-clause-cause g c =

@@ -1,6 +1,6 @@
 use Rattle.std.proofs.Common.{arith, ◌≡◌, ◌≤◌, length, vec_len}
 use Rattle.js_run.proofs.Runs.{reads_within, cause_later}
-use Rattle.js_run.proofs.run.read_all.Goals as goal
+use Rattle.js_run.proofs.program.read_all.Goals as goal
 
 pub returns-in-Err-clause-reads : goal.returns-in-Err-clause-reads
 returns-in-Err-clause-reads g c =

@@ -1,7 +1,7 @@
 use Rattle.std.proofs.Common.{arith}
 use Rattle.std.proofs.lemmas.Grind.{common_steps}
 use Rattle.js_run.proofs.Runs.{takes_on, took_front}
-use Rattle.js_run.proofs.run.write_all.Goals as goal
+use Rattle.js_run.proofs.program.write_all.Goals as goal
 
 pub loop-done-preserved : goal.loop-done-preserved
 loop-done-preserved g c = record {
