@@ -1,6 +1,7 @@
 //! Tests of `run` over ends in memory, and the example of README.md.
 #![tactic(auto)]
 
-pub mod example;
+#[cfg(test)]
+mod example;
 #[cfg(test)]
 mod runs;
