@@ -73,16 +73,16 @@ differ : (b : Bool) → not b ≡ true → b ≡ true → ⊥
 differ true h e = false≢true h
 differ false h e = false≢true e
 
-head_same : (a b : Data) (as' bs : List Data) → a ∷ as' ≡ b ∷ bs → a ≡ b
+pub head_same : (a b : Data) (as' bs : List Data) → a ∷ as' ≡ b ∷ bs → a ≡ b
 head_same a b as' bs e = cc
 
-tail_same : (a b : Data) (as' bs : List Data) → a ∷ as' ≡ b ∷ bs → as' ≡ bs
+pub tail_same : (a b : Data) (as' bs : List Data) → a ∷ as' ≡ b ∷ bs → as' ≡ bs
 tail_same a b as' bs e = cc
 
 no_list : (a : Data) (as' : List Data) → a ∷ as' ≡ [] → ⊥
 no_list a as' e = cc
 
-text_same : (v w : List ℕ) → string v ≡ string w → v ≡ w
+pub text_same : (v w : List ℕ) → string v ≡ string w → v ≡ w
 text_same v w e = cc
 
 -- a word that is none of these isn't the first of those that are set

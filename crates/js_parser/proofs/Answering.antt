@@ -49,9 +49,7 @@ use Rattle.js_cursor.specs.declared.stop.Stop.TheVariants.{Fatal}
 use Rattle.js_core.specs.laws_shared.Classes.{IsEarly}
 use Rattle.js_core.proofs.laws_shared.Classes.{lexical_by}
 use Rattle.js_core.specs.laws_shared.States.{NodesLie}
-
-none_of_two : {K : Type 0} (a b : List K) → a ≡ [] → b ≡ [] → a ++ b ≡ []
-none_of_two a b e f = λ i. e i ++ f i
+use Rattle.js_core.proofs.laws_shared.Kept.{none_of_two}
 
 span_is : (sp : Span) {a b : ℕ} → sp.start ≡ a → sp.end ≡ b → sp ≡ record { start = a; end = b }
 span_is sp x y = λ i. record { start = x i; end = y i }

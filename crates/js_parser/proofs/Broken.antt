@@ -20,6 +20,7 @@ use Rattle.js_parser.specs.Broken.{past, within, broken_rule, told_rule, told_in
 use Rattle.js_parser.specs.declared.early.Pending.{Pending}
 use Rattle.js_parser.specs.declared.early.Position.{Position}
 use Rattle.js_parser.specs.declared.early.Position.TheVariants.{Anywhere, Tag, Tagged, InTemplate}
+use Rattle.js_tree.proofs.CountLemmas.{first_is}
 
 -- ---- the stack
 
@@ -95,10 +96,6 @@ pub record Telling (text : List ℕ) (ns : List Node) (ps : List Pending) (told 
   pub rest : List Diagnostic
   pub stacked : Stacked (Means text ns) ps rest
   pub parts : whole ≡ told ++ rest
-
-first_is : (ns : List Node) (p : Node) → slice_get ns 0 ≡ Some p → get_or ns 0 empty_program ≡ p
-first_is [] p e = absurd (let k = e in cc)
-first_is (n ∷ ns) p e = let q : n ≡ p = cc in q
 
 pub telling_start : (text : List ℕ) (ns : List Node) (t : Tree) → IsTree ns t → Telling text ns (pending Anywhere (length ns) (node_at ns (record { 0 = 0 })).children) [] (told_in text Anywhere t.slots)
 telling_start text ns t h =

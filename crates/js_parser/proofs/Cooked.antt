@@ -7,14 +7,7 @@ use Rattle.std.proofs.lemmas.List.{drop_more, length_push, drop_all}
 use Rattle.js_base.specs.part_text.Decoding.{cooked}
 use Rattle.js_base.specs.part_text.Escapes.{in_template, Step, outside, backslash, go, read_from, before_all, line_feeds, line_feeds_after, code_units}
 use Rattle.js_grammar.specs.Names.{has_backslash}
-
-or-left : (a b : Bool) → (a || b) ≡ false → a ≡ false
-or-left false b h = refl
-or-left true b h = h
-
-or-right : (a b : Bool) → (a || b) ≡ false → b ≡ false
-or-right false b h = h
-or-right true b h = absurd (false≢true (sym h))
+use Rattle.js_grammar.proofs.Finding.{neither-left, neither-right}
 
 -- line feeds in place of carriage returns bring none in
 one_line : (r j : Bool) (c : ℕ) (t f : List ℕ) → (c == 92) ≡ false → has_backslash t ≡ false → has_backslash f ≡ false → has_backslash (elim r [ true ↦ 10 ∷ t | false ↦ elim j [ true ↦ f | false ↦ c ∷ f ] ]) ≡ false
@@ -25,8 +18,8 @@ one_line false false c t f n a b = ap (λ (v : Bool). v || has_backslash f) n �
 feeds : (carriage : Bool) (cs : List ℕ) → has_backslash cs ≡ false → has_backslash (line_feeds_after carriage cs) ≡ false
 feeds carriage [] h = refl
 feeds carriage (c ∷ cs) h =
-    let r = or-right (c == 92) (has_backslash cs) h in
-    one_line (c == 13) (carriage && (c == 10)) c (line_feeds_after true cs) (line_feeds_after false cs) (or-left (c == 92) (has_backslash cs) h) (feeds true cs r) (feeds false cs r)
+    let r = neither-right (c == 92) (has_backslash cs) h in
+    one_line (c == 13) (carriage && (c == 10)) c (line_feeds_after true cs) (line_feeds_after false cs) (neither-left (c == 92) (has_backslash cs) h) (feeds true cs r) (feeds false cs r)
 
 before_some : (out : List ℕ) (r : Option (List ℕ)) → is_some r ≡ true → is_some (before_all out r) ≡ true
 before_some out (Some cs) h = refl
@@ -47,7 +40,7 @@ one_read true c cs e h = absurd (false≢true (sym e))
 
 all_read : (cs : List ℕ) → has_backslash cs ≡ false → is_some (read_from in_template outside cs) ≡ true
 all_read [] h = refl
-all_read (c ∷ cs) h = one_read (c == 92) c cs (or-left (c == 92) (has_backslash cs) h) (all_read cs (or-right (c == 92) (has_backslash cs) h))
+all_read (c ∷ cs) h = one_read (c == 92) c cs (neither-left (c == 92) (has_backslash cs) h) (all_read cs (neither-right (c == 92) (has_backslash cs) h))
 
 some_mapped : (f : List ℕ → List ℕ) (o : Option (List ℕ)) → is_some o ≡ true → is_some (option_map f o) ≡ true
 some_mapped f (Some cs) h = refl

@@ -37,6 +37,7 @@ use Rattle.js_grammar.proofs.Finding.{all-append, all-mono, either, found-all, m
 use Rattle.js_grammar.proofs.LongestLemmas.{append-nil, both, both-left, both-right, none_longer-at, not-true}
 use Rattle.js_grammar.proofs.Places.{At, at-behind, at-chars, at-start}
 use Rattle.js_grammar.proofs.Standing.{none_stands}
+use Rattle.js_core.proofs.laws_shared.Paths.{unless}
 
 -- what passes in all passes in those further on
 all_back : {A : Type 0} (t : A → Bool) (xs ys : List A) → list_all t (xs ++ ys) ≡ true → list_all t ys ≡ true
@@ -318,10 +319,6 @@ record Numbered (w rest : List ℕ) : Type 0 where
   pub long : longest is_number_word w rest ≡ true
   pub stops : stops_number rest ≡ true
 
-stops_by : (a b : Bool) → a ≡ true → (not a || b) ≡ true → b ≡ true
-stops_by true b h k = k
-stops_by false b h k = cc
-
 numbered : (c : ℕ) (cs rest : List ℕ) → IsPlain (c ∷ cs) rest → ((x : List ℕ) → opening c (begins is_decimal (cs ++ x)) ≡ a_number) → Numbered (c ∷ cs) rest
 numbered c cs rest j o =
     let first : opening c (begins is_decimal cs) ≡ a_number = subst (λ (v : List ℕ). opening c (begins is_decimal v) ≡ a_number) (append-nil cs) (o []) in
@@ -330,7 +327,7 @@ numbered c cs rest j o =
       long = both (is_number_word (c ∷ cs) rest) (none_longer is_number_word (c ∷ cs) rest) (ap is_some k) (none_longer-from is_number_word (c ∷ cs) rest (λ d x more e.
           let n : lexemes_in division (c ∷ cs ++ d ∷ x) more ≡ false = none_longer-at (lexemes_in division) (c ∷ cs) d x more (subst (λ (v : List ℕ). none_longer (lexemes_in division) (c ∷ cs) v ≡ true) e (both-right (lexemes_in division (c ∷ cs) rest) (none_longer (lexemes_in division) (c ∷ cs) rest) j.longest)) in
           sym (ap is_some (plain_of a_number c (cs ++ d ∷ x) more (o (d ∷ x)))) ∙ n));
-      stops = stops_by (is_number j.kind) (stops_number rest) (kind_is (c ∷ cs) j.kind k) j.apart;
+      stops = unless (is_number j.kind) (stops_number rest) (kind_is (c ∷ cs) j.kind k) j.apart;
     }
 
 -- a dot and a digit are a number
