@@ -5,6 +5,13 @@ ghost use Rattle.js_base.specs.Keywords.{begins_with, first_with_text, keyword_o
 ghost use Rattle.js_base.specs.Texts.{words};
 
 use crate::kind::Kind;
+use crate::kind::Kind::{
+    Accessor, As, Assert, Async, Await, Break, Case, Catch, Class, Const, Constructor, Continue,
+    Debugger, Default, Defer, Delete, Do, Else, Enum, Export, Extends, False, Finally, For, From,
+    Function, Get, If, Implements, Import, In, Instanceof, Interface, Let, Meta, New, Null, Of,
+    Package, Private, Protected, Public, Return, Satisfies, Set, Source, Static, Super, Switch,
+    Target, This, Throw, True, Try, TypeWord, Typeof, Using, Var, Void, While, With, Yield,
+};
 
 impl Kind {
     /// The kind of a word of the keyword table (ECMA-262, section 12.7.2), else `Ident`. The text is the decoded one: in
@@ -32,73 +39,26 @@ fn words_beginning_with(first: u8) -> &'static [Kind]
     ensures { result.now ≡ filter (begins_with first) words }
 {
     match first {
-        b'a' => &[
-            Kind::Await,
-            Kind::Async,
-            Kind::As,
-            Kind::Assert,
-            Kind::Accessor,
-        ],
-        b'b' => &[Kind::Break],
-        b'c' => &[
-            Kind::Case,
-            Kind::Catch,
-            Kind::Class,
-            Kind::Const,
-            Kind::Continue,
-            Kind::Constructor,
-        ],
-        b'd' => &[
-            Kind::Debugger,
-            Kind::Default,
-            Kind::Delete,
-            Kind::Do,
-            Kind::Defer,
-        ],
-        b'e' => &[Kind::Else, Kind::Enum, Kind::Export, Kind::Extends],
-        b'f' => &[
-            Kind::False,
-            Kind::Finally,
-            Kind::For,
-            Kind::Function,
-            Kind::From,
-        ],
-        b'g' => &[Kind::Get],
-        b'i' => &[
-            Kind::If,
-            Kind::Import,
-            Kind::In,
-            Kind::Instanceof,
-            Kind::Implements,
-            Kind::Interface,
-        ],
-        b'l' => &[Kind::Let],
-        b'm' => &[Kind::Meta],
-        b'n' => &[Kind::New, Kind::Null],
-        b'o' => &[Kind::Of],
-        b'p' => &[Kind::Package, Kind::Private, Kind::Protected, Kind::Public],
-        b'r' => &[Kind::Return],
-        b's' => &[
-            Kind::Super,
-            Kind::Switch,
-            Kind::Static,
-            Kind::Set,
-            Kind::Source,
-            Kind::Satisfies,
-        ],
-        b't' => &[
-            Kind::This,
-            Kind::Throw,
-            Kind::True,
-            Kind::Try,
-            Kind::Typeof,
-            Kind::Target,
-            Kind::TypeWord,
-        ],
-        b'u' => &[Kind::Using],
-        b'v' => &[Kind::Var, Kind::Void],
-        b'w' => &[Kind::While, Kind::With],
-        b'y' => &[Kind::Yield],
+        b'a' => &[Await, Async, As, Assert, Accessor],
+        b'b' => &[Break],
+        b'c' => &[Case, Catch, Class, Const, Continue, Constructor],
+        b'd' => &[Debugger, Default, Delete, Do, Defer],
+        b'e' => &[Else, Enum, Export, Extends],
+        b'f' => &[False, Finally, For, Function, From],
+        b'g' => &[Get],
+        b'i' => &[If, Import, In, Instanceof, Implements, Interface],
+        b'l' => &[Let],
+        b'm' => &[Meta],
+        b'n' => &[New, Null],
+        b'o' => &[Of],
+        b'p' => &[Package, Private, Protected, Public],
+        b'r' => &[Return],
+        b's' => &[Super, Switch, Static, Set, Source, Satisfies],
+        b't' => &[This, Throw, True, Try, Typeof, Target, TypeWord],
+        b'u' => &[Using],
+        b'v' => &[Var, Void],
+        b'w' => &[While, With],
+        b'y' => &[Yield],
         _ => &[],
     }
 }

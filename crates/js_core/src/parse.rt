@@ -16,32 +16,14 @@ use parse_patterns::method_parameters::parse_method_parameters;
 use parse_patterns::{binding, parameters};
 use parse_primary::forms::PropertyName;
 use parse_primary::property_name;
+use parse_shared::lexemes::{
+    ADDITIVE, AND, BIT_AND, BIT_OR, BIT_XOR, EQUALITY, MULTIPLICATIVE, OR, RELATIONAL, SHIFT,
+};
 use parse_shared::nested::{Goal, MethodForm, Nested};
 use parse_shared::{NodeId, ParserConfig, ParserImpl, RuntimeParserConfig, Stop};
 use parse_statements::forms::StatementList;
 use parse_statements::sequences::Sequences;
 use parse_statements::{block, statement, statement_list};
-
-// How tight the operators of each level bind, as `parse_operators` counts it (ECMA-262, sections 13.7 to 13.13).
-const OR: u8 = 5;
-
-const AND: u8 = 6;
-
-const BIT_OR: u8 = 7;
-
-const BIT_XOR: u8 = 8;
-
-const BIT_AND: u8 = 9;
-
-const EQUALITY: u8 = 10;
-
-const RELATIONAL: u8 = 11;
-
-const SHIFT: u8 = 12;
-
-const ADDITIVE: u8 = 13;
-
-const MULTIPLICATIVE: u8 = 14;
 
 /// A parser that is told when the program runs whether it keeps the tokens.
 pub type RuntimeParser<'a> = ParserImpl<'a, RuntimeParserConfig>;

@@ -5,7 +5,8 @@ use Rattle.js_base.specs.declared.kind.Kind.TheVariants.{Amp, Amp2, Amp2Eq, AmpE
 use Rattle.js_grammar.specs.Words.{'delete', 'false', 'in', 'instanceof', 'new', 'null', 'this', 'true', 'typeof', 'void'}
 use Rattle.js_grammar.specs.Trees.{array_expression, array_pattern, arrow_function_expression, assignment_expression, assignment_pattern, binary_expression, binding_identifier, boolean_literal, call_expression, chain_expression, computed_member_expression, conditional_expression, directive, elision, empty_statement, expression_statement, formal_parameter, formal_parameter_rest, formal_parameters, identifier_name, identifier_reference, label_identifier, labeled_statement, logical_expression, new_expression, no_op, null_literal, numeric_literal, of, program, sequence_expression, spread_element, static_member_expression, this_expression, unary_expression, update_expression, v8_intrinsic_expression, array_assignment_target, assignment_target_rest, assignment_target_with_default}
 use Rattle.js_grammar.specs.Grammar.{commas, empty_slot, ended, lexeme, many, node, nothing, when, whole_text, ◌▸◌, ◌◇◌, never}
-use Rattle.js_grammar.specs.Insertion.{by_edge, is_word}
+use Rattle.js_grammar.specs.Insertion.{by_edge}
+use Rattle.js_grammar.specs.Lexemes.{is_word}
 use Rattle.js_grammar.specs.Productions.{Additive, And, Argument, ArrayTarget, Arrow', Assignment, Attrs, BElement, Binding, BindingIdentifier, BindingRest, BitAnd, BitOr, BitXor, Block, Body, Break, Call, Case, Catch, Chain, Class, ClassBody, ClassExpr, Coalesce, Conditional, Continue, Debugger, Decorator, Directive, Do, Empty, Equality, Exponent, ExportDecl, ExprStmt, Expression, Flags, For, ForIn, ForOf, FuncExpr, Function, G, IdentifierName, IdentifierReference, If, ImportDecl, Init, Item, LabelIdentifier, Labeled, LeftHandSide, Lexical, Links, ListItem, Member, Multiply, Name, New, Object, ObjectTarget, Or, Param, Params, Pattern, Primary, PrivateName, Program, Relational, Rest, Return, Shift, Short, SimpleTarget, Statement, Sub, Super, Switch, Symbol, Target, Template, Throw, Try, Unary, Update, Var, While, With, Yield, any_of, branches, make, mk, no_newline, op, opt, optional_flag, parens, plus_in, prefix_flag, slot, sym, tok, TargetElement, ForInit, Element, DecoratorMember, Property, TargetProperty, PatternProperty, Spec, ExportName, Attr, LooseHead, items}
 use Rattle.js_grammar.specs.Table.{args, bound_rest, directives_then, identifier, level, paren_expression, rest_of, string}
 

@@ -4,7 +4,9 @@ use Rattle.js_base.specs.declared.kind.Kind.{Kind}
 use Rattle.js_base.specs.declared.kind.Kind.TheVariants.{LParen, LCurly, LBrack, Semicolon, Dot3, At, Tilde, Bang, Plus, Plus2, Minus, Minus2, Star, Percent, Eq, PrivateIdentifier, Str, RegExp, NoSubstitutionTemplate, TemplateHead}
 use Rattle.js_base.specs.Kinds.{same_kind, one_of_kinds}
 use Rattle.js_grammar.specs.Words.{'break', 'case', 'catch', 'class', 'const', 'continue', 'debugger', 'delete', 'do', 'export', 'false', 'for', 'function', 'if', 'import', 'new', 'null', 'return', 'super', 'switch', 'this', 'throw', 'true', 'try', 'typeof', 'var', 'void', 'while', 'with', 'let', 'yield', 'async', 'assert'}
-use Rattle.js_grammar.specs.Insertion.{is_word, may_bind, begins_name, is_number}
+use Rattle.js_grammar.specs.Insertion.{may_bind, begins_name}
+use Rattle.js_grammar.specs.Numbers.{is_number}
+use Rattle.js_grammar.specs.Lexemes.{is_word}
 use Rattle.js_grammar.specs.Grammar.{Look}
 use Rattle.js_grammar.specs.Productions.{Name, Symbol, Program, Directive, Item, ListItem, Statement, Sub, Block, Empty, ExprStmt, Var, Lexical, Init, If, Do, While, With, For, ForInit, ForIn, ForOf, Continue, Break, Return, Throw, Switch, Case, Try, Catch, Debugger, Labeled, Function, FuncExpr, Params, Param, Rest, Body, Arrow', Class, ClassExpr, ClassBody, Element, Decorator, DecoratorMember, Object, Property, Yield, Shift, Additive, Multiply, Exponent, Unary, Update, LeftHandSide, New, Member, Call, Chain, Links, Super, Argument, Primary, Template, IdentifierReference, BindingIdentifier, LabelIdentifier, IdentifierName, PrivateName, SimpleTarget, Target, ArrayTarget, ObjectTarget, TargetElement, TargetProperty, Binding, BElement, Pattern, PatternProperty, BindingRest, ImportDecl, Spec, ExportName, Attrs, Attr, ExportDecl, LooseHead}
 

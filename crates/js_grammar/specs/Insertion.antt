@@ -1,11 +1,13 @@
 -- Where a semicolon may be left out: what goes on with a statement, by its right edge.
 use Rattle.std.specs.Prelude.{ℕ, Bool, true, false, not, cond, ◌&&◌, ◌||◌, List, [], ◌∷◌, nat_eq, nat_lt}
 use Rattle.js_base.specs.declared.kind.Kind.{Kind}
-use Rattle.js_base.specs.declared.kind.Kind.TheVariants.{LParen, LCurly, LBrack, Comma, Dot, Arrow, Question, QuestionDot, Question2, Question2Eq, Plus, PlusEq, Minus, MinusEq, Star, Star2, StarEq, Star2Eq, Slash, SlashEq, Percent, PercentEq, Eq, Eq2, Eq3, Neq, Neq2, LAngle, LtEq, RAngle, GtEq, ShiftLeft, ShiftLeftEq, ShiftRight, ShiftRightEq, ShiftRight3, ShiftRight3Eq, Amp, Amp2, AmpEq, Amp2Eq, Pipe, Pipe2, PipeEq, Pipe2Eq, Caret, CaretEq, Ident, PrivateIdentifier, Str, Decimal, HexBigInt, RegExp, NoSubstitutionTemplate, TemplateHead}
+use Rattle.js_base.specs.declared.kind.Kind.TheVariants.{LParen, LCurly, LBrack, Comma, Dot, Arrow, Question, QuestionDot, Question2, Question2Eq, Plus, PlusEq, Minus, MinusEq, Star, Star2, StarEq, Star2Eq, Slash, SlashEq, Percent, PercentEq, Eq, Eq2, Eq3, Neq, Neq2, LAngle, LtEq, RAngle, GtEq, ShiftLeft, ShiftLeftEq, ShiftRight, ShiftRightEq, ShiftRight3, ShiftRight3Eq, Amp, Amp2, AmpEq, Amp2Eq, Pipe, Pipe2, PipeEq, Pipe2Eq, Caret, CaretEq, Ident, PrivateIdentifier, Str, RegExp, NoSubstitutionTemplate, TemplateHead}
 use Rattle.js_base.specs.Kinds.{code, same_kind, one_of_kinds}
 use Rattle.js_grammar.specs.Words.{'in', 'instanceof', 'get', 'set', 'static'}
 use Rattle.js_grammar.specs.Trees.{NodeKind, Slots, end, hole, tree, sequence_expression, assignment_expression, conditional_expression, logical_expression, binary_expression, private_in_expression, unary_expression, await_expression, yield_expression, arrow_function_expression, variable_declarator, update_expression, function_body, label_identifier, with_clause}
 use Rattle.js_grammar.specs.Grammar.{Lexeme, Look}
+use Rattle.js_grammar.specs.Lexemes.{is_word}
+use Rattle.js_grammar.specs.Numbers.{is_number}
 
 -- the assignment operators but `=`
 abbrev pub other_operators : List Kind
@@ -17,15 +19,9 @@ assign_operators = Eq ∷ PlusEq ∷ MinusEq ∷ StarEq ∷ SlashEq ∷ PercentE
 abbrev pub binary_operators : List Kind
 binary_operators = Question2 ∷ Pipe2 ∷ Amp2 ∷ Pipe ∷ Caret ∷ Amp ∷ Eq2 ∷ Neq ∷ Eq3 ∷ Neq2 ∷ LAngle ∷ LtEq ∷ RAngle ∷ GtEq ∷ 'instanceof' ∷ 'in' ∷ ShiftLeft ∷ ShiftRight ∷ ShiftRight3 ∷ Plus ∷ Minus ∷ Star ∷ Slash ∷ Percent ∷ Star2 ∷ []
 
--- The first 36 kinds are the reserved words, and the next 26 the other words of the keyword table.
-abbrev pub is_word : Kind → Bool
-is_word k = same_kind Ident k || nat_lt (code k) 62
-
+-- a name, or a word that may be one
 abbrev pub may_bind : Kind → Bool
-may_bind k = same_kind Ident k || (not (nat_lt (code k) 36) && nat_lt (code k) 62)
-
-abbrev pub is_number : Kind → Bool
-is_number k = not (nat_lt (code k) (code Decimal)) && not (nat_lt (code HexBigInt) (code k))
+may_bind k = is_word k && not (nat_lt (code k) 36)
 
 -- what a name of an object or a class begins with
 abbrev pub begins_name : Look

@@ -1,10 +1,10 @@
 -- Which characters are a lexeme, and of which kind (ECMA-262, 12: the input elements of each lexical goal; 12.8 for the punctuators).
-use Rattle.std.specs.Prelude.{ℕ, Bool, true, false, not, ◌&&◌, ◌||◌, List, [], ◌∷◌, ◌==◌, codes, bytes_eq, Option, Some, None, is_some, option_map, unwrap_or, drop}
+use Rattle.std.specs.Prelude.{ℕ, Bool, true, false, not, ◌&&◌, ◌||◌, List, [], ◌∷◌, ◌==◌, nat_lt, codes, bytes_eq, Option, Some, None, is_some, option_map, unwrap_or, drop}
 use Rattle.std.specs.List.{find}
 use Rattle.std.specs.Str.{byte}
 use Rattle.js_base.specs.declared.kind.Kind.{Kind}
 use Rattle.js_base.specs.declared.kind.Kind.TheVariants.{Ident, PrivateIdentifier, Str, QuestionDot, Slash, HashbangComment, Eof}
-use Rattle.js_base.specs.Kinds.{same_kind, one_of_kinds}
+use Rattle.js_base.specs.Kinds.{code, same_kind, one_of_kinds}
 use Rattle.js_base.specs.Texts.{text_of, words, punctuators}
 use Rattle.js_base.specs.part_text.Characters.{one_of, is_decimal}
 use Rattle.js_grammar.specs.Characters.{is_identifier_start, begins}
@@ -86,9 +86,9 @@ abbrev pub may_begin : LexicalGoal → ℕ → Bool
 may_begin hashbang i = i == 0
 may_begin _ i = true
 
--- a name, or a word of the keyword table
+-- A name, or a word of the keyword table: the first 36 kinds are the reserved words, and the next 26 the other words (`law_of_words`).
 abbrev pub is_word : Kind → Bool
-is_word k = same_kind Ident k || one_of_kinds words k
+is_word k = same_kind Ident k || nat_lt (code k) 62
 
 -- the mark "escaped", of names and private names
 abbrev pub is_escaped : Kind → List ℕ → Bool

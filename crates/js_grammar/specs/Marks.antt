@@ -11,14 +11,14 @@ use Rattle.js_base.specs.Kinds.{same_kind, one_of_kinds}
 use Rattle.js_grammar.specs.Words.{'new', 'default', 'as', 'satisfies', 'private', 'protected', 'public', 'target', 'with', 'assert'}
 use Rattle.js_grammar.specs.Trees.{NodeKind, logical_expression, unary_expression, await_expression, array_expression, object_expression, Op, of, Tree}
 use Rattle.js_grammar.specs.Grammar.{Lexeme, Lexemes, last, next, here, Derives}
-use Rattle.js_grammar.specs.Insertion.{assign_operators, is_word, begins_name}
+use Rattle.js_grammar.specs.Insertion.{assign_operators, begins_name}
 use Rattle.js_grammar.specs.Productions.{Flags, Name, Property, Expression, Short, Unary, Primary, SimpleTarget, Target, at}
 use Rattle.js_grammar.specs.Table.{rule, whole}
 use Rattle.js_grammar.specs.Settings.{Goal}
 use Rattle.js_grammar.specs.Characters.{width}
 use Rattle.js_grammar.specs.Longest.{joined}
 use Rattle.js_grammar.specs.Trivia.{is_single_line_comment, is_multi_line_comment, is_html_comment}
-use Rattle.js_grammar.specs.Lexemes.{division}
+use Rattle.js_grammar.specs.Lexemes.{division, is_word}
 use Rattle.js_grammar.specs.Lexed.{Lex, Lexes, Stands, all_faults, end_of}
 use Rattle.js_grammar.specs.CoreTexts.{max_len, occurs}
 use Rattle.js_grammar.specs.LexicalFaults.{Reached, Faulty}

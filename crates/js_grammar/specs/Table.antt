@@ -6,7 +6,8 @@ use Rattle.js_base.specs.Kinds.{same_kind, one_of_kinds}
 use Rattle.js_grammar.specs.Words.{'break', 'case', 'catch', 'class', 'const', 'continue', 'debugger', 'default', 'delete', 'do', 'else', 'export', 'extends', 'false', 'finally', 'for', 'function', 'if', 'import', 'in', 'instanceof', 'new', 'null', 'return', 'super', 'switch', 'this', 'throw', 'true', 'try', 'typeof', 'var', 'void', 'while', 'with', 'let', 'static', 'implements', 'interface', 'package', 'private', 'protected', 'public', 'yield', 'await', 'async', 'of', 'get', 'set', 'as', 'from', 'assert', 'accessor', 'meta', 'target'}
 use Rattle.js_grammar.specs.Trees.{NodeKind, program, hashbang, directive, block_statement, empty_statement, expression_statement, variable_declaration, variable_declarator, if_statement, do_while_statement, while_statement, with_statement, for_statement, for_in_statement, for_of_statement, continue_statement, break_statement, return_statement, throw_statement, switch_statement, switch_case, try_statement, catch_clause, catch_parameter, debugger_statement, labeled_statement, function_declaration, function_expression, formal_parameters, formal_parameter, formal_parameter_rest, binding_rest_element, function_body, arrow_function_expression, class_declaration, class_expression, class_body, method_definition, property_definition, accessor_property, static_block, decorator, object_expression, object_property, spread_element, sequence_expression, assignment_expression, yield_expression, conditional_expression, logical_expression, binary_expression, private_in_expression, unary_expression, await_expression, update_expression, new_expression, static_member_expression, computed_member_expression, private_field_expression, tagged_template_expression, new_target_expression, import_meta, call_expression, import_expression, chain_expression, super_expression, this_expression, null_literal, boolean_literal, numeric_literal, big_int_literal, string_literal, reg_exp_literal, array_expression, elision, parenthesized_expression, v8_intrinsic_expression, template_literal, template_element, identifier_reference, binding_identifier, label_identifier, identifier_name, private_identifier, array_assignment_target, object_assignment_target, assignment_target_rest, assignment_target_with_default, assignment_target_property_identifier, assignment_target_property_property, array_pattern, object_pattern, binding_property, assignment_pattern, import_declaration, import_default_specifier, import_namespace_specifier, import_specifier, with_clause, import_attribute, export_all_declaration, export_from_declaration, export_named_declaration, export_declaration, export_default_declaration, export_specifier, Op, no_op, init, method_op, constructor_op, exponential, of}
 use Rattle.js_grammar.specs.Grammar.{inside, whole_text, nothing, never, lexeme, text, ahead, empty_slot, ◌▸◌, ◌◇◌, when, many, commas, such, marked, node, ended, keep, kept, is}
-use Rattle.js_grammar.specs.Insertion.{assign_operators, other_operators, is_word, may_bind, by_edge, only_by, by_field}
+use Rattle.js_grammar.specs.Insertion.{assign_operators, other_operators, may_bind, by_edge, only_by, by_field}
+use Rattle.js_grammar.specs.Lexemes.{is_word}
 use Rattle.js_grammar.specs.Productions.{G, at, sym, tok, any_of, opt, slot, only, each, branches, make, mk, op, parens, braces, items, other, if_next, not_then, no_newline, function_on_line, is_one_of, word_or, prefix_flag, optional_flag, computed_flag, shorthand_flag, method_flag, async_flag, generator_flag, delegate_flag, static_flag, await_flag, tail_flag, bare_flag, flag, with_pife, plus_in, minus_in, params_of, body_of, field_of, static_of, Flags, Name, Symbol, Program, Directive, Item, ListItem, Statement, Sub, Block, Empty, ExprStmt, Var, Lexical, Init, If, Do, While, With, For, ForInit, ForIn, ForOf, Continue, Break, Return, Throw, Switch, Case, Try, Catch, Debugger, Labeled, Function, FuncExpr, Params, Param, Rest, Body, Arrow', Class, ClassExpr, ClassBody, Element, Decorator, DecoratorMember, Object, Property, Expression, Assignment, Yield, Conditional, Short, Coalesce, Or, And, BitOr, BitXor, BitAnd, Equality, Relational, Shift, Additive, Multiply, Exponent, Unary, Update, LeftHandSide, New, Member, Call, Chain, Links, Super, Argument, Primary, Template, IdentifierReference, BindingIdentifier, LabelIdentifier, IdentifierName, PrivateName, SimpleTarget, Target, ArrayTarget, ObjectTarget, TargetElement, TargetProperty, Binding, BElement, Pattern, PatternProperty, BindingRest, ImportDecl, Spec, ExportName, Attrs, Attr, ExportDecl, LooseHead}
 use Rattle.js_grammar.specs.Conditions.{not_string, has_else, well_formed}
 

@@ -8,7 +8,7 @@ use Rattle.js_base.specs.declared.diagnostic.DiagnosticKind.TheVariants.{ExpectT
 use Rattle.js_base.specs.declared.span.Span.{Span}
 use Rattle.js_base.specs.Kinds.{one_of_kinds}
 use Rattle.js_base.specs.KindSets.{binding_identifier_kinds}
-use Rattle.js_grammar.specs.Insertion.{is_word as names_any}
+use Rattle.js_grammar.specs.Lexemes.{is_word}
 use Rattle.js_grammar.specs.Trees.{Slots, end, tree, Label, no_op, assignment_pattern, binding_identifier, binding_property, identifier_name}
 use Rattle.js_grammar.specs.Grammar.{Lexeme, Lexemes, Look, last, next, here, ahead, alt, exact, label_of, nothing, Takes, is_seq, is_ahead, is_such, is_node, is_lexeme, ◌▸◌}
 use Rattle.js_grammar.specs.Lexed.{Lexes}
@@ -72,12 +72,12 @@ behind_ahead {text} {X} {X'} {a} {b} {s} c n = record { no = λ ts vs k ls rest 
     go ts vs k ls rest l (is_seq {us = us} (is_ahead d) d') e = n.no us vs k ls rest l d' (c ts us (here rest) e)
 
 -- each name is a word
-name_words : covers a_name (λ k w e. names_any k) ≡ true
+name_words : covers a_name (λ k w e. is_word k) ≡ true
 unfolding covers
 name_words = refl
 
-name_word : (k : Kind) → one_of_kinds binding_identifier_kinds k ≡ true → names_any k ≡ true
-name_word k h = covered a_name (λ k w e. names_any k) name_words k false false h
+name_word : (k : Kind) → one_of_kinds binding_identifier_kinds k ≡ true → is_word k ≡ true
+name_word k h = covered a_name (λ k w e. is_word k) name_words k false false h
 
 no_end_name : (k : Kind) → one_of_kinds binding_identifier_kinds k ≡ true → one_of_kinds (Eof ∷ []) k ≡ false
 unfolding apart

@@ -13,7 +13,7 @@ use Rattle.js_base.specs.KindSets.{identifier_name_kinds, binding_identifier_kin
 use Rattle.js_base.proofs.KindLemmas.{kind_of_same}
 use Rattle.js_grammar.specs.Trees.{Slots, end, tree, Label, no_op, identifier_name, new_expression, chain_expression}
 use Rattle.js_grammar.specs.Grammar.{Lexeme, Lexemes, Look, next, seen, exact, seq, such, nothing, ◌▸◌}
-use Rattle.js_grammar.specs.Insertion.{after_expression, is_word}
+use Rattle.js_grammar.specs.Insertion.{after_expression}
 use Rattle.js_grammar.specs.Parsing.{plain, full, always, Fails}
 use Rattle.js_grammar.specs.Productions.{G, Flags, Symbol, at, tok, plus_in, IdentifierName, Expression, Primary, Member, LeftHandSide, Template}
 use Rattle.js_grammar.specs.Productions.{New as new_symbol, sym as symbol}
@@ -79,7 +79,7 @@ use Rattle.laws_shared.proofs.Signs.{plain_sign, other_kind}
 use Rattle.laws_primary.specs.declared.forms.LinkBase.{LinkBase}
 use Rattle.laws_primary.specs.declared.forms.LinkBase.TheVariants as base
 use Rattle.js_base.specs.Texts.{words}
-use Rattle.js_grammar.specs.Lexemes.{is_word as is_name_word}
+use Rattle.js_grammar.specs.Lexemes.{is_word}
 use Rattle.laws_shared.proofs.Classes.{here_ends}
 use Rattle.js_base.specs.declared.diagnostic.DiagnosticKind.TheVariants.{ExpectClosing}
 use Rattle.laws_shared.proofs.Tight.{plain_is_read, plain_lex}
@@ -880,11 +880,11 @@ part_name {text} {f} {mid} {v} {left} {name} x = record {
 }
 
 -- an expression in brackets
-bracket_plain : (is_name_word LBrack || same_kind PrivateIdentifier LBrack) ≡ false
+bracket_plain : (is_word LBrack || same_kind PrivateIdentifier LBrack) ≡ false
 unfolding words
 bracket_plain = refl
 
-closing_plain : (is_name_word RBrack || same_kind PrivateIdentifier RBrack) ≡ false
+closing_plain : (is_word RBrack || same_kind PrivateIdentifier RBrack) ≡ false
 unfolding words
 closing_plain = refl
 

@@ -15,7 +15,7 @@ use Rattle.js_grammar.specs.Grammar.{Lexeme, Look, nothing, such}
 use Rattle.js_grammar.specs.FirstSets.{first}
 use Rattle.js_grammar.specs.LexicalFaults.{Reached}
 use Rattle.js_grammar.specs.Lexed.{Lex as StandsBehind, all_faults}
-use Rattle.js_grammar.specs.Insertion.{is_word}
+use Rattle.js_grammar.specs.Lexemes.{is_word}
 use Rattle.js_grammar.specs.Marks.{Mark, a_lexeme, another_word, of_kinds, the_end, the_start}
 use Rattle.js_grammar.specs.Parsing.{Test, always, plain, full, Fails}
 use Rattle.js_grammar.specs.Productions.{G, Flags, at}

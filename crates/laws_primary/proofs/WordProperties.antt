@@ -9,8 +9,7 @@ use Rattle.js_base.specs.declared.kind.Kind.{Kind}
 use Rattle.js_base.specs.declared.kind.Kind.TheVariants.{Async, Colon, Comma, Dot3, Eof, Eq, Get, LBrack, LParen, PrivateIdentifier, RBrack, RCurly, RParen, Set, Star}
 use Rattle.js_base.specs.declared.span.Span.{Span}
 use Rattle.js_base.proofs.KindLemmas.{kind_of_same}
-use Rattle.js_grammar.specs.Insertion.{is_word}
-use Rattle.js_grammar.specs.Lexemes.{is_word as is_worded}
+use Rattle.js_grammar.specs.Lexemes.{is_word}
 use Rattle.js_grammar.specs.Trees.{Label, Slots, end, tree, no_op, init, identifier_name, identifier_reference, object_property}
 use Rattle.js_grammar.specs.Grammar.{Lexeme, Lexemes, last, next, here, Look, ahead, never, nothing, Takes, is_nothing, ◌▸◌, ◌◇◌}
 use Rattle.js_grammar.specs.Lexed.{Lexes}
@@ -122,7 +121,7 @@ no_word_ends : is_word Eof ≡ false
 unfolding words
 no_word_ends = refl
 
-eq_plain : (is_worded Eq || same_kind PrivateIdentifier Eq) ≡ false
+eq_plain : (is_word Eq || same_kind PrivateIdentifier Eq) ≡ false
 unfolding words
 eq_plain = refl
 

@@ -93,7 +93,7 @@ fn parse_assignment_without_arrow<C: ParserConfig, N: Nested<C>>(
     let start = p.cur_start();
     let kept = kept_so_far(p);
     let left = parse_binary_expression_or_higher(p, nested)?;
-    let _power = operator_here(p)?;
+    operator_here(p)?;
     if !p.cur_kind().is_assignment_operator() {
         return parse_conditional_expression_rest(p, nested, start, left);
     }

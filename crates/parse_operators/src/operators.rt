@@ -10,7 +10,7 @@ use js_base::{
     map_binary_operator, map_logical_operator,
 };
 use parse_shared::diagnostics::kept_so_far;
-use parse_shared::lexemes::{advance, operator_here, reads_here};
+use parse_shared::lexemes::{OR, advance, operator_here, reads_here};
 use parse_shared::nested::Nested;
 use parse_shared::nodes::make_two;
 use parse_shared::{NodeId, NodeKind, Op, ParserAstBuilder, ParserConfig, ParserImpl, Stop};
@@ -28,10 +28,10 @@ pub fn parse_binary_expression_or_higher<C: ParserConfig, N: Nested<C>>(
 {
     let start = p.cur_start();
     let found = kept_so_far(p);
-    let mut left = parse_operators(p, nested, 5)?;
+    let mut left = parse_operators(p, nested, OR)?;
     'operands: while p.at(Kind::Question2) {
         advance(p)?;
-        let right = parse_operators(p, nested, 5)?;
+        let right = parse_operators(p, nested, OR)?;
         let mixed = has_or_and(p, left, right);
         check_mixed(p, start, mixed, found)?;
         left = make_coalesce(p, start, left, right)?;

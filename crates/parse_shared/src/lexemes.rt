@@ -163,23 +163,55 @@ pub fn reads_here<C: ParserConfig>(p: &ParserImpl<'_, C>) -> bool
     is_read_kind(p.cur_kind())
 }
 
+// How tight the operators of each level bind (ECMA-262, sections 13.7 to 13.13).
+
+/// `||`.
+pub const OR: u8 = 5;
+
+/// `&&`.
+pub const AND: u8 = 6;
+
+/// `|`.
+pub const BIT_OR: u8 = 7;
+
+/// `^`.
+pub const BIT_XOR: u8 = 8;
+
+/// `&`.
+pub const BIT_AND: u8 = 9;
+
+/// `==`, `!=`, `===`, `!==`.
+pub const EQUALITY: u8 = 10;
+
+/// `<`, `>`, `<=`, `>=`, `instanceof`, `in`.
+pub const RELATIONAL: u8 = 11;
+
+/// `<<`, `>>`, `>>>`.
+pub const SHIFT: u8 = 12;
+
+/// `+`, `-`.
+pub const ADDITIVE: u8 = 13;
+
+/// `*`, `/`, `%`.
+pub const MULTIPLICATIVE: u8 = 14;
+
 /// How tight a lexeme binds as an operator between two operands that groups to the left (ECMA-262, sections 13.6 to
-/// 13.13), from 5 for `||` to 14 for `*`; 0 for what is none. `in` is one where it is allowed.
+/// 13.13), from `OR` to `MULTIPLICATIVE`; 0 for what is none. `in` is one where it is allowed.
 pub fn binding_power(kind: Kind, allows_in: bool) -> u8
     ensures { result ≡ power_of allows_in kind }
 {
     match kind {
-        Kind::Pipe2 => 5,
-        Kind::Amp2 => 6,
-        Kind::Pipe => 7,
-        Kind::Caret => 8,
-        Kind::Amp => 9,
-        Kind::Eq2 | Kind::Neq | Kind::Eq3 | Kind::Neq2 => 10,
-        Kind::LAngle | Kind::RAngle | Kind::LtEq | Kind::GtEq | Kind::Instanceof => 11,
-        Kind::In => { if allows_in { 11 } else { 0 } }
-        Kind::ShiftLeft | Kind::ShiftRight | Kind::ShiftRight3 => 12,
-        Kind::Plus | Kind::Minus => 13,
-        Kind::Star | Kind::Slash | Kind::Percent => 14,
+        Kind::Pipe2 => OR,
+        Kind::Amp2 => AND,
+        Kind::Pipe => BIT_OR,
+        Kind::Caret => BIT_XOR,
+        Kind::Amp => BIT_AND,
+        Kind::Eq2 | Kind::Neq | Kind::Eq3 | Kind::Neq2 => EQUALITY,
+        Kind::LAngle | Kind::RAngle | Kind::LtEq | Kind::GtEq | Kind::Instanceof => RELATIONAL,
+        Kind::In => { if allows_in { RELATIONAL } else { 0 } }
+        Kind::ShiftLeft | Kind::ShiftRight | Kind::ShiftRight3 => SHIFT,
+        Kind::Plus | Kind::Minus => ADDITIVE,
+        Kind::Star | Kind::Slash | Kind::Percent => MULTIPLICATIVE,
         _ => 0,
     }
 }

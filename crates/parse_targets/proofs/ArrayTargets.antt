@@ -11,7 +11,8 @@ use Rattle.js_grammar.specs.Productions.{G, Flags, Symbol, at, tok, mk, op, opt,
 use Rattle.js_grammar.specs.Productions.{sym as symbol}
 use Rattle.js_grammar.specs.Table.{rule, rule_of, rest_of, name}
 use Rattle.js_base.specs.Texts.{words}
-use Rattle.js_grammar.specs.Insertion.{is_word, may_bind, other_operators}
+use Rattle.js_grammar.specs.Insertion.{may_bind, other_operators}
+use Rattle.js_grammar.specs.Lexemes.{is_word}
 use Rattle.js_grammar.proofs.Frame.{framed}
 use Rattle.js_grammar.proofs.Looks.{covers, covered}
 use Rattle.js_grammar.proofs.CoverInitialisers.{deep}

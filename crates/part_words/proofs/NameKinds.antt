@@ -15,6 +15,7 @@ use Rattle.js_grammar.specs.Names.{has_backslash}
 use Rattle.js_grammar.specs.Lexemes.{is_word, is_escaped, is_separated}
 use Rattle.js_grammar.proofs.LongestLemmas.{both-left, both-right}
 use Rattle.js_grammar.proofs.CoreNames.{is_number_code}
+use Rattle.js_grammar.proofs.WordKinds.{law_of_words}
 
 -- A word that lacks what each text of the kinds has is none of them.
 pub unlike : (t : List ℕ → Bool) (ks : List Kind) (w : List ℕ) → list_all (λ k. t (text_of k)) ks ≡ true → t w ≡ false → first_with_text ks w ≡ Ident
@@ -102,7 +103,7 @@ among (k ∷ ks) w = go (among ks w) (bytes_eq (text_of k) w) refl
 
 pub word-is-word : (w : List ℕ) → is_word (keyword_of w) ≡ true
 unfolding keyword_of
-word-is-word w = among words w
+word-is-word w = law_of_words (keyword_of w) ∙ among words w
 
 pub word-escaped : (ps w : List ℕ) → is_escaped (keyword_of ps) w ≡ has_backslash w
 word-escaped ps w = let e = word-is-word ps in rw e refl
