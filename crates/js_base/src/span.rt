@@ -1,8 +1,11 @@
 //! Spans of a text.
 
-ghost use Rattle.std.specs.Prelude.{◌≡◌, ◌+◌, ◌^◌, ◌<◌, ◌≤◌, min, max};
+ghost use Rattle.std.specs.Prelude.{◌≡◌, ◌++◌, ◌+◌, ◌^◌, ◌<◌, ◌≤◌, min, max, OnOk};
+ghost use Rattle.std.specs.Fmt.{decimal};
+ghost use Rattle.js_base.specs.Spans.{span_text};
 
-use part_memory::List;
+use itoa::Buffer;
+use part_memory::{List, NoMemory};
 
 /// Byte places in a text: from `start` up to but not including `end`, with `start` at most `end`.
 #[derive(Debug, Clone, Copy, PartialEq, Eq)]
@@ -56,4 +59,22 @@ impl Span {
             end: self.end.max(other.end),
         }
     }
+
+    /// Writes its two places in decimal, with `..` between them.
+    pub fn write(self, out: &mut Vec<u8>) -> Result<(), NoMemory>
+        ensures { OnOk result (out.new.items ≡ out.old.items ++ span_text self) }
+    {
+        write_decimal(out, self.start)?;
+        out.extend_from_slice(b"..")?;
+        write_decimal(out, self.end)
+    }
+}
+
+/// Writes a number in decimal.
+fn write_decimal(out: &mut Vec<u8>, n: u32) -> Result<(), NoMemory>
+    ensures { OnOk result (out.new.items ≡ out.old.items ++ decimal n) }
+{
+    let mut buffer = Buffer::new();
+    out.extend_from_slice(buffer.format(n).as_bytes())?;
+    Ok(())
 }

@@ -1,11 +1,11 @@
 -- What the program prints: the lines of a tree and of diagnostics. Every line ends with LF.
 use Rattle.std.specs.Prelude.{ℕ, suc, ◌*◌, ◌/◌, ◌%◌, List, [], ◌∷◌, ◌++◌, cond, codes, nat_eq, Option, Some, None, replicate}
-use Rattle.std.specs.Fmt.{decimal}
 use Rattle.js_base.specs.Texts.{text_of}
 use Rattle.js_base.specs.Diagnostics.{name_of}
 use Rattle.js_base.specs.declared.diagnostic.Diagnostic.{Diagnostic}
 use Rattle.js_base.specs.declared.span.Span.{Span}
 use Rattle.js_grammar.specs.Trees.{NodeKind, program, hashbang, directive, block_statement, empty_statement, expression_statement, variable_declaration, variable_declarator, if_statement, do_while_statement, while_statement, with_statement, for_statement, for_in_statement, for_of_statement, continue_statement, break_statement, return_statement, throw_statement, switch_statement, switch_case, try_statement, catch_clause, catch_parameter, debugger_statement, labeled_statement, function_declaration, function_expression, formal_parameters, formal_parameter, formal_parameter_rest, binding_rest_element, function_body, arrow_function_expression, class_declaration, class_expression, class_body, method_definition, property_definition, accessor_property, static_block, decorator, object_expression, object_property, spread_element, sequence_expression, assignment_expression, yield_expression, conditional_expression, logical_expression, binary_expression, private_in_expression, unary_expression, await_expression, update_expression, new_expression, static_member_expression, computed_member_expression, private_field_expression, tagged_template_expression, new_target_expression, import_meta, call_expression, import_expression, chain_expression, super_expression, this_expression, null_literal, boolean_literal, numeric_literal, big_int_literal, string_literal, reg_exp_literal, array_expression, elision, parenthesized_expression, v8_intrinsic_expression, template_literal, template_element, identifier_reference, binding_identifier, label_identifier, identifier_name, private_identifier, array_assignment_target, object_assignment_target, assignment_target_rest, assignment_target_with_default, assignment_target_property_identifier, assignment_target_property_property, array_pattern, object_pattern, binding_property, assignment_pattern, import_declaration, import_default_specifier, import_namespace_specifier, import_specifier, with_clause, import_attribute, export_all_declaration, export_from_declaration, export_named_declaration, export_declaration, export_default_declaration, export_specifier, Op, no_op, init, method_op, constructor_op, exponential, of, Label, Slots, end, hole, tree, Tree}
+pub use Rattle.js_base.specs.Spans.{places_text, span_text}
 
 -- the name of a node's kind
 abbrev pub kind_text : NodeKind → List ℕ
@@ -133,9 +133,6 @@ abbrev pub words_of : List (List ℕ) → ℕ → List ℕ
 words_of [] n = []
 words_of (w ∷ ws) n = cond (nat_eq (n % 2) 1) (32 ∷ w) [] ++ words_of ws (n / 2)
 
-abbrev pub places_text : ℕ → ℕ → List ℕ
-places_text a b = decimal a ++ (codes ".." ++ decimal b)
-
 -- a node's line: its kind, its span, its op, its flags
 abbrev pub label_text : Label → List ℕ
 label_text l = kind_text l.kind ++ (32 ∷ (places_text l.span.from l.span.to ++ (op_text l.op ++ words_of flag_words l.flags)))
@@ -152,9 +149,6 @@ slots_text d (tree l cs us) = indent d ++ (label_text l ++ (10 ∷ (slots_text (
 
 abbrev pub tree_text : Tree → List ℕ
 tree_text t = slots_text 0 (tree t.label t.slots end)
-
-abbrev pub span_text : Span → List ℕ
-span_text s = places_text s.start s.end
 
 abbrev pub related_text : Option Span → List ℕ
 related_text None = []

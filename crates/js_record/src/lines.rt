@@ -2,7 +2,6 @@
 
 ghost use Rattle.std.specs.Prelude.{◌≡◌, ◌++◌, IfOk, OnOk, codes};
 ghost use Rattle.std.specs.List.{flat_map};
-ghost use Rattle.std.specs.Fmt.{decimal};
 ghost use Rattle.js_grammar.specs.Lines.{span_text};
 ghost use Rattle.js_grammar.specs.RecordLines.{name_text, default_text, import_name_text, taken_name_text, export_name_text, local_name_text, request_text, syntax_line, request_line, binding_line, import_line, export_names, export_line, dynamic_line, meta_line, record_text};
 ghost use Rattle.part_visits.specs.Names.{import_name_of, taken_name_of, export_name_of, local_name_of};
@@ -25,32 +24,12 @@ fn write_text(out: &mut Vec<u8>, text: &str) -> Result<(), NoMemory>
     Ok(())
 }
 
-/// Writes a number in decimal.
-fn write_decimal(out: &mut Vec<u8>, n: u32) -> Result<(), NoMemory>
-    ensures { OnOk result (out.new.items ≡ out.old.items ++ decimal n) }
-{
-    if n >= 10 {
-        write_decimal(out, n / 10)?;
-    }
-    out.push(b'0' + (n % 10) as u8)?;
-    Ok(())
-}
-
-/// Writes the two places of a span.
-fn write_span(out: &mut Vec<u8>, span: Span) -> Result<(), NoMemory>
-    ensures { OnOk result (out.new.items ≡ out.old.items ++ span_text span) }
-{
-    write_decimal(out, span.start)?;
-    write_text(out, "..")?;
-    write_decimal(out, span.end)
-}
-
 /// Writes `name` and its place.
 fn write_name(out: &mut Vec<u8>, name: &NameSpan) -> Result<(), NoMemory>
     ensures { OnOk result (out.new.items ≡ out.old.items ++ name_text name.now) }
 {
     write_text(out, "name ")?;
-    write_span(out, name.span)
+    name.span.write(out)
 }
 
 /// Writes `default` and its place.
@@ -58,7 +37,7 @@ fn write_default(out: &mut Vec<u8>, span: Span) -> Result<(), NoMemory>
     ensures { OnOk result (out.new.items ≡ out.old.items ++ default_text span) }
 {
     write_text(out, "default ")?;
-    write_span(out, span)
+    span.write(out)
 }
 
 /// Writes what an import takes.
@@ -112,7 +91,7 @@ fn write_specifier(out: &mut Vec<u8>, request: &Option<NameSpan>) -> Result<(), 
 {
     match request {
         None => write_text(out, "null"),
-        Some(name) => write_span(out, name.span),
+        Some(name) => name.span.write(out),
     }
 }
 
@@ -130,9 +109,9 @@ fn write_requested(out: &mut Vec<u8>, requested: RequestedModule) -> Result<(), 
     ensures { OnOk result (out.new.items ≡ out.old.items ++ request_line requested) }
 {
     write_text(out, "request ")?;
-    write_span(out, requested.span)?;
+    requested.span.write(out)?;
     write_text(out, " ")?;
-    write_span(out, requested.statement_span)?;
+    requested.statement_span.write(out)?;
     write_text(out, " ")?;
     write_text(
         out,
@@ -150,7 +129,7 @@ fn write_labelled(out: &mut Vec<u8>, word: &str, span: Span) -> Result<(), NoMem
     ensures { OnOk result (out.new.items ≡ out.old.items ++ (word.now ++ span_text span)) }
 {
     write_text(out, word)?;
-    write_span(out, span)
+    span.write(out)
 }
 
 /// Writes an import entry.
@@ -195,9 +174,9 @@ fn write_dynamic(out: &mut Vec<u8>, import: DynamicImport) -> Result<(), NoMemor
     ensures { OnOk result (out.new.items ≡ out.old.items ++ dynamic_line import) }
 {
     write_text(out, "dynamic ")?;
-    write_span(out, import.span)?;
+    import.span.write(out)?;
     write_text(out, " request ")?;
-    write_span(out, import.module_request)?;
+    import.module_request.write(out)?;
     write_text(out, "\n")
 }
 
@@ -206,7 +185,7 @@ fn write_place(out: &mut Vec<u8>, word: &str, span: Span) -> Result<(), NoMemory
     ensures { OnOk result (out.new.items ≡ out.old.items ++ (word.now ++ (span_text span ++ codes "\n"))) }
 {
     write_text(out, word)?;
-    write_span(out, span)?;
+    span.write(out)?;
     write_text(out, "\n")
 }
 

@@ -1,7 +1,6 @@
 //! The lines of a tree.
 
 ghost use Rattle.std.specs.Prelude.{◌≡◌, ◌++◌, ◌∷◌, ◌<◌, ◌≤◌, ◌^◌, ◌+◌, [], length, IfOk, OnOk, Some, cond, get_or, drop};
-ghost use Rattle.std.specs.Fmt.{decimal};
 ghost use Rattle.std.specs.Option.{option_copied};
 ghost use Rattle.js_grammar.specs.Lines.{op_text, flag_words, words_of, kind_text, label_text, places_text, indent, tree_text};
 ghost use Rattle.js_grammar.specs.Trees.{Tree as SeenTree};
@@ -18,8 +17,7 @@ use crate::id::NodeId;
 use crate::op::{
     BigintBase, ClauseWord, DeclarationKind, MethodKind, NumberBase, Op, PropertyKind,
 };
-use itoa::Buffer;
-use js_base::{NoMemory, Span};
+use js_base::NoMemory;
 use std::alloc::Global;
 
 /// The greatest length of the lines of a tree, in bytes. Indents grow with depth, so a small text may have lines without
@@ -141,24 +139,6 @@ fn write_flags(out: &mut Vec<u8>, bits: u16) -> Result<(), NoMemory>
     Ok(())
 }
 
-/// Writes a number in decimal.
-fn write_decimal(out: &mut Vec<u8>, n: u32) -> Result<(), NoMemory>
-    ensures { OnOk result (out.new.items ≡ out.old.items ++ decimal n) }
-{
-    let mut buffer = Buffer::new();
-    out.extend_from_slice(buffer.format(n).as_bytes())?;
-    Ok(())
-}
-
-/// Writes the two places of a span.
-fn write_span(out: &mut Vec<u8>, span: Span) -> Result<(), NoMemory>
-    ensures { OnOk result (out.new.items ≡ out.old.items ++ places_text span.start span.end) }
-{
-    write_decimal(out, span.start)?;
-    out.extend_from_slice(b"..")?;
-    write_decimal(out, span.end)
-}
-
 /// Writes a blank and the op, where there is one.
 fn write_op(out: &mut Vec<u8>, op: Op) -> Result<(), NoMemory>
     ensures { OnOk result (out.new.items ≡ out.old.items ++ op_text (op_of op)) }
@@ -222,7 +202,7 @@ impl Columns {
     {
         out.extend_from_slice(self.kind(id).name().as_bytes())?;
         out.push(b' ')?;
-        write_span(out, self.span(id))
+        self.span(id).write(out)
     }
 
     /// Writes what a node is: its kind, its span, its op and its flags.

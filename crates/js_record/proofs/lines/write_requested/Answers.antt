@@ -16,10 +16,10 @@ returns c =
     ] in
     on_ok c.write_text-5.result
     (λ e. behind out _ c.write_text.new.out.items _ end c.in_ok-write_text.ensures
-    (behind c.write_text.new.out.items _ c.write_span.new.out.items _ end c.in_ok-write_span.ensures
-    (behind c.write_span.new.out.items _ c.write_text-2.new.out.items _ end c.in_ok-write_text-2.ensures
-    (behind c.write_text-2.new.out.items _ c.write_span-2.new.out.items _ end c.in_ok-write_span-2.ensures
-    (behind c.write_span-2.new.out.items _ c.write_text-3.new.out.items _ end c.in_ok-write_text-3.ensures
+    (behind c.write_text.new.out.items _ c.write.new.out.items _ end c.in_ok-write.ensures
+    (behind c.write.new.out.items _ c.write_text-2.new.out.items _ end c.in_ok-write_text-2.ensures
+    (behind c.write_text-2.new.out.items _ c.write-2.new.out.items _ end c.in_ok-write-2.ensures
+    (behind c.write-2.new.out.items _ c.write_text-3.new.out.items _ end c.in_ok-write_text-3.ensures
     (behind c.write_text-3.new.out.items _ c.write_text-4.new.out.items _ end (c.in_ok-write_text-4.ensures ∙ ap (λ v. c.write_text-3.new.out.items ++ v) word) e)))))
     ∙ ap (λ v. out ++ request_line v) c.requested.view_is)
     c.write_text-5.ensures
