@@ -1,6 +1,7 @@
 -- The trivia of a core text, and the lexeme behind it.
 use Rattle.std.proofs.Common.{◌≡◌, ◌<◌, ℕ, ◌+◌, ◌==◌, Bool, true, false, List, [], ◌∷◌, ◌++◌, refl, sym, ap, subst, ◌∙◌, not, ◌&&◌, ◌||◌, length, arith, nat_lt}
 use Rattle.std.proofs.lemmas.Bool.{and_right, and_left}
+use Rattle.std.proofs.Math.Bool.{or-false}
 use Rattle.std.specs.Prelude.{codes, bytes_eq}
 use Rattle.std.specs.List.{list_all}
 use Rattle.js_base.specs.Kinds.{one_of_kinds}
@@ -198,10 +199,6 @@ any_of true b d = refl
 any_of false true d = refl
 any_of false false d = refl
 
-any_none : (a : Bool) → (a || false) ≡ a
-any_none true = refl
-any_none false = refl
-
 behind : (s c : ℕ) (qs : List (List ℕ)) → s + width (c ∷ []) + width (joined qs) ≡ s + width (joined ((c ∷ []) ∷ qs))
 behind s c qs = omega arith
 
@@ -232,14 +229,14 @@ word_listed first c cs ps l f p k t = (
   t,
   λ s nl. ap (λ (b : Bool). elim b [ true ↦ lexemes_from (s + width (c ∷ cs)) (nl || has_line_terminator (c ∷ cs)) ps | false ↦ next (piece_lexeme s nl (c ∷ cs) (joined ps)) (lexemes_from (s + width (c ∷ cs)) false ps) ]) (no_blank c cs f)
       ∙ ap (λ (i : ℕ). next (piece_lexeme i nl (c ∷ cs) (joined ps)) (lexemes_from (i + width (c ∷ cs)) false ps)) (at_once s)
-      ∙ ap (λ (n : Bool). next (piece_lexeme (s + 0) n (c ∷ cs) (joined ps)) (lexemes_from (s + 0 + width (c ∷ cs)) false ps)) (sym (any_none nl)),
+      ∙ ap (λ (n : Bool). next (piece_lexeme (s + 0) n (c ∷ cs) (joined ps)) (lexemes_from (s + 0 + width (c ∷ cs)) false ps)) (sym (or-false nl)),
 )
   where
     at_once : (s : ℕ) → s ≡ s + 0
     at_once s = omega arith
 
 end_listed : (first : Bool) (s : ℕ) (nl : Bool) → lexemes_from s nl [] ≡ last (end_lexeme (s + 0) (nl || false))
-end_listed first s nl = ap (λ (i : ℕ). last (end_lexeme i nl)) at_once ∙ ap (λ (n : Bool). last (end_lexeme (s + 0) n)) (sym (any_none nl))
+end_listed first s nl = ap (λ (i : ℕ). last (end_lexeme i nl)) at_once ∙ ap (λ (n : Bool). last (end_lexeme (s + 0) n)) (sym (or-false nl))
   where
     at_once : s ≡ s + 0
     at_once = omega arith

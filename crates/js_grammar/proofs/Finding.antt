@@ -2,16 +2,12 @@
 use Rattle.std.proofs.Common.{◌≡◌, ℕ, ◌==◌, Bool, true, false, List, [], ◌∷◌, ◌++◌, refl, subst, ◌||◌, Option, Some, None, ◌⊎◌, inl, inr}
 use Rattle.std.specs.Prelude.{is_some, cond}
 use Rattle.std.specs.List.{list_all, find}
-use Rattle.std.proofs.lemmas.Bool.{eqb-true}
+use Rattle.std.proofs.lemmas.Bool.{eqb-true, or_cases}
 use Rattle.js_base.specs.declared.kind.Kind.{Kind}
 use Rattle.js_base.specs.Kinds.{code, same_kind, one_of_kinds}
 use Rattle.js_base.proofs.KindLemmas.{kind_of_same}
 use Rattle.js_base.specs.part_text.Characters.{one_of}
 use Rattle.js_grammar.proofs.LongestLemmas.{both-left, both-right, both}
-
-pub either : (a b : Bool) → (a || b) ≡ true → (a ≡ true) ⊎ (b ≡ true)
-either true b h = inl refl
-either false b h = inr h
 
 pub neither-left : (a b : Bool) → (a || b) ≡ false → a ≡ false
 neither-left true b h = h
@@ -27,7 +23,7 @@ neither a b h k = rw (h, k) refl
 -- a member of a list passes what all its members pass
 pub member : (t : ℕ → Bool) (ds : List ℕ) (c : ℕ) → one_of ds c ≡ true → list_all t ds ≡ true → t c ≡ true
 member t [] c h a = cc
-member t (d ∷ ds) c h a = elim (either (d == c) (one_of ds c) h) [
+member t (d ∷ ds) c h a = elim (or_cases (d == c) (one_of ds c) h) [
   | inl e ↦ subst (λ (x : ℕ). t x ≡ true) (eqb-true d c e) (both-left (t d) (list_all t ds) a)
   | inr m ↦ member t ds c m (both-right (t d) (list_all t ds) a)
 ]
@@ -35,7 +31,7 @@ member t (d ∷ ds) c h a = elim (either (d == c) (one_of ds c) h) [
 -- of a kind
 pub kind_passes : (t : Kind → Bool) (ks : List Kind) (k : Kind) → one_of_kinds ks k ≡ true → list_all t ks ≡ true → t k ≡ true
 kind_passes t [] k h a = cc
-kind_passes t (d ∷ ks) k h a = elim (either (same_kind d k) (one_of_kinds ks k) h) [
+kind_passes t (d ∷ ks) k h a = elim (or_cases (same_kind d k) (one_of_kinds ks k) h) [
   | inl e ↦ subst (λ (x : Kind). t x ≡ true) (kind_of_same d k e) (both-left (t d) (list_all t ks) a)
   | inr m ↦ kind_passes t ks k m (both-right (t d) (list_all t ks) a)
 ]
@@ -43,7 +39,7 @@ kind_passes t (d ∷ ks) k h a = elim (either (same_kind d k) (one_of_kinds ks k
 -- of a kind, by its number
 pub kind_member : (t : ℕ → Bool) (ks : List Kind) (k : Kind) → one_of_kinds ks k ≡ true → list_all (λ a. t (code a)) ks ≡ true → t (code k) ≡ true
 kind_member t [] k h a = cc
-kind_member t (d ∷ ks) k h a = elim (either (same_kind d k) (one_of_kinds ks k) h) [
+kind_member t (d ∷ ks) k h a = elim (or_cases (same_kind d k) (one_of_kinds ks k) h) [
   | inl e ↦ subst (λ (x : ℕ). t x ≡ true) (eqb-true (code d) (code k) e) (both-left (t (code d)) (list_all (λ a. t (code a)) ks) a)
   | inr m ↦ kind_member t ks k m (both-right (t (code d)) (list_all (λ a. t (code a)) ks) a)
 ]

@@ -2,7 +2,8 @@
 use Rattle.std.proofs.Common.{◌≡◌, ℕ, ◌+◌, ◌==◌, Bool, true, false, List, [], ◌∷◌, ◌++◌, refl, sym, ap, subst, ◌∙◌, not, ◌&&◌, ◌||◌, Option, Some, None, inl, inr, nat_le}
 use Rattle.std.specs.Prelude.{chars, codes, IsUtf8, is_some, bytes_eq}
 use Rattle.std.specs.List.{list_all}
-use Rattle.std.proofs.lemmas.Bool.{eqb-true}
+use Rattle.std.proofs.lemmas.Bool.{eqb-true, or_cases}
+use Rattle.std.proofs.lemmas.List.{append-nil}
 use Rattle.js_base.specs.declared.diagnostic.DiagnosticKind.{DiagnosticKind}
 use Rattle.js_base.specs.declared.diagnostic.DiagnosticKind.TheVariants as fault
 use Rattle.js_base.specs.declared.kind.Kind.{Kind}
@@ -33,10 +34,11 @@ use Rattle.js_grammar.proofs.CoreNumbers.{nothing-nil, number-opens}
 use Rattle.js_grammar.proofs.CorePlain.{no_backslash}
 use Rattle.js_grammar.proofs.CoreStrings.{body_of, plain_in}
 use Rattle.js_grammar.proofs.CoreTrivia.{ahead, Ahead, blanks, ends, word, lacks-behind, Lacks, piece_of, split}
-use Rattle.js_grammar.proofs.Finding.{all-append, all-mono, either, found-all, member, neither-left, neither-right}
-use Rattle.js_grammar.proofs.LongestLemmas.{append-nil, both, both-left, both-right, none_longer-at, not-true}
+use Rattle.js_grammar.proofs.Finding.{all-append, all-mono, found-all, member, neither-left, neither-right}
+use Rattle.js_grammar.proofs.LongestLemmas.{both, both-left, both-right, none_longer-at, not-true}
 use Rattle.js_grammar.proofs.Places.{At, at-behind, at-chars, at-start}
 use Rattle.js_grammar.proofs.Standing.{none_stands}
+use Rattle.js_grammar.proofs.Quotations.{quote_opens}
 use Rattle.js_core.proofs.laws_shared.Paths.{unless}
 
 -- what passes in all passes in those further on
@@ -210,11 +212,6 @@ no_comment {text} {i} m x = go x.word x.rest x.here (both-left (is_open_comment 
         let s : c ≡ d = (let q = sym e ∙ h in cc) in
         no_first c 47 (s ∙ sym (eqb-true 47 d (both-left (47 == d) _ o))) f refl
 
--- a string is closed
-quote_opens : (q : ℕ) (digit : Bool) → one_of (34 ∷ 39 ∷ []) q ≡ true → opening q digit ≡ a_string
-quote_opens q true h = opens-same _ _ (member (λ c. opens (opening c true) a_string) (34 ∷ 39 ∷ []) q h refl)
-quote_opens q false h = opens-same _ _ (member (λ c. opens (opening c false) a_string) (34 ∷ 39 ∷ []) q h refl)
-
 closed : (q : ℕ) (cs : List ℕ) (k : Kind) → string_kind (q ∷ cs) ≡ Some k → (one_of (34 ∷ 39 ∷ []) q && closes_string q false (line_feeds cs)) ≡ true
 closed q cs k e = go (one_of (34 ∷ 39 ∷ []) q) (closes_string q false (line_feeds cs)) (is_some (string_points (string_inside (q ∷ cs)))) e
   where
@@ -336,7 +333,7 @@ dotted d rest h = ap is_some (plain_of a_number 46 (d ∷ []) rest (ap (λ (b : 
 
 no_number : {text : List ℕ} {i : ℕ} → Met (behind text i) → InvalidNumber text i → ⊥
 no_number (nothing e) x = let h = x.here in cc
-no_number {text} {i} (something c w rest e f j) x = elim (either (is_decimal x.first) ((x.first == 46) && begins is_decimal x.others) x.begun) [
+no_number {text} {i} (something c w rest e f j) x = elim (or_cases (is_decimal x.first) ((x.first == 46) && begins is_decimal x.others) x.begun) [
   | inl d ↦ by_none (numbered c w rest j (λ v. number-opens c (begins is_decimal (w ++ v)) (subst (λ (a : ℕ). is_decimal a ≡ true) (sym first) d)))
   | inr d ↦ by_dot (first ∙ eqb-true x.first 46 (both-left (x.first == 46) (begins is_decimal x.others) d)) (subst (λ (v : List ℕ). begins is_decimal v ≡ true) (sym others) (both-right (x.first == 46) (begins is_decimal x.others) d)) w j refl
 ]

@@ -52,7 +52,6 @@ use Rattle.laws_shared.specs.js_tree.declared.op.Op.TheVariants as op_made
 use Rattle.laws_shared.specs.js_tree.Nodes.{Node}
 use Rattle.laws_shared.specs.js_tree.Holding.{Holds, Keeps}
 use Rattle.laws_shared.proofs.js_tree.HoldingLemmas.{Holds-wider, HoldsAll-one, HoldsAll-hole, Keeps-longer, Keeps-refl, Keeps-trans, Keeps-made}
-use Rattle.laws_shared.proofs.js_tree.Coverings.{or_false}
 use Rattle.laws_shared.specs.js_cursor.Checkpoints.{Remembers, GoesBack}
 use Rattle.laws_shared.specs.js_cursor.declared.checkpoint.ParserCheckpoint.{ParserCheckpoint}
 use Rattle.laws_shared.specs.js_cursor.declared.stop.Stop.{Stop}
@@ -104,6 +103,7 @@ use Rattle.laws_shared.specs.Classes.{IsEarly}
 use Rattle.laws_shared.proofs.Classes.{kept_early}
 use Rattle.laws_shared.proofs.PlainSigns.{arrow_plain}
 use Rattle.std.proofs.lemmas.List.Elements.{All-same}
+use Rattle.std.proofs.Math.Bool.{or-false}
 
 -- ---- what begins like a head, with `=>` behind it, is no operand
 
@@ -214,7 +214,7 @@ both_lines f = refl
 
 -- without `async` the parameters are those around
 pub plain_head_flags : (f : Flags) → arrow_head false f ≡ f
-plain_head_flags f = ap (λ (b : Bool). record f { await_ = b }) (or_false f.await_)
+plain_head_flags f = ap (λ (b : Bool). record f { await_ = b }) (or-false f.await_)
 
 -- a head with `=>` behind it on its line
 abbrev on_line : Flags → G

@@ -1,6 +1,6 @@
 -- An operand that begins with a parenthesis has parentheses in front that are derived as arguments (CoverParenthesizedExpressionAndArrowParameterList, ECMA-262, 13.2); behind these it ends, or goes on with something else than `=>`.
 use Rattle.std.proofs.Common.{ℕ, ◌≡◌, ◌⊎◌, inl, inr, Bool, true, false, not, ◌&&◌, ◌||◌, List, [], ◌∷◌, IsTrue, Some, refl, sym, ap, subst, ◌∙◌, rules}
-use Rattle.std.proofs.lemmas.Bool.{false≢true, and_parts, and_from, or_right}
+use Rattle.std.proofs.lemmas.Bool.{false≢true, and_parts, and_from, or_right, or_cases}
 use Rattle.js_base.specs.declared.kind.Kind.TheVariants.{LParen, RParen, Arrow}
 use Rattle.js_base.specs.Kinds.{same_kind}
 use Rattle.js_base.proofs.KindLemmas.{kind_of_same}
@@ -155,10 +155,6 @@ lines_flagged IdentifierReference f h = search rules
 lines_flagged SimpleTarget f h = search rules
 lines_flagged _ f h = absurd (false≢true h)
 
-either : (a b : Bool) → (a || b) ≡ true → (a ≡ true) ⊎ (b ≡ true)
-either true b h = inl refl
-either false b h = inr h
-
 line_fronted : (n : Symbol) → of_operands n.name ≡ true → has_front (rule n) ≡ true
 unfolding rule
 line_fronted n h = go (of_operands n.name) (has_front (rule_of n.name n.flags)) h (lines_fronted n.name n.flags)
@@ -223,7 +219,7 @@ seq_front f {a} {b} {i = i} {ls = ls} d h u q go = by (begins_otherwise (seq a b
     by false false m o h = go h
 
 by_symbol : (f : Flags) (n : Symbol) (i : ℕ) (ls : Lexemes) → (of_operands n.name || apart (first n) a_paren) ≡ true → Under f n.name n.flags → IsTrue (seen (starts first (rule n) full) (here ls)) → same_kind LParen (here ls).kind ≡ true → (has_front (rule n) ≡ true → Flagged n.flags (rule n) → Front n.flags i ls) → Front f i ls
-by_symbol f n i ls h u s q go = by (either (of_operands n.name) _ h)
+by_symbol f n i ls h u s q go = by (or_cases (of_operands n.name) _ h)
   where
     by : (of_operands n.name ≡ true) ⊎ (apart (first n) a_paren ≡ true) → Front f i ls
     by (inl e) = subst (λ (v : Flags). Front v i ls) (under_flags n.name f n.flags e u) (go (line_fronted n e) (line_flagged n e))

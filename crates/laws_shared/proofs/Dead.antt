@@ -73,9 +73,6 @@ stays (is_ended q d e) c = stays e (stays d c)
 stays (is_keep d e) c = stays e (stays d c)
 stays (is_kept q) c = c
 
-both_no : (a b : Bool) → (a && b) ≡ true → (a ≡ true) × (b ≡ true)
-both_no a b h = and_parts a b h
-
 either : (a b : Bool) → (a || b) ≡ true → (a ≡ true → ⊥) → (b ≡ true → ⊥) → ⊥
 either true b h f g = f refl
 either false b h f g = g h
@@ -99,8 +96,8 @@ none (is_text q) h c = false≢true h
 none (is_ahead d) h c = none d h c
 none is_empty_slot h c = false≢true h
 none (is_seq {a = a} {b = b} d e) h c = either (dead a) (dead b) h (λ q. none d q c) (λ q. none e q (stays d c))
-none (is_left {a = a} {b = b} d) h c = none d (both_no (dead a) (dead b) h).0 c
-none (is_right {a = a} {b = b} d) h c = none d (both_no (dead a) (dead b) h).1 c
+none (is_left {a = a} {b = b} d) h c = none d (and_parts (dead a) (dead b) h).0 c
+none (is_right {a = a} {b = b} d) h c = none d (and_parts (dead a) (dead b) h).1 c
 none (is_when q d) h c = none d h c
 none (is_many d) h c = false≢true h
 none (is_commas (is_seq d e)) h c = none d h c

@@ -4,6 +4,7 @@ use Rattle.std.specs.Prelude.{is_some, IsCharBoundary, Result, Ok, Err, MatchRes
 use Rattle.std.proofs.lemmas.Str.{len_utf8_bounds}
 use Rattle.std.specs.List.{list_all}
 use Rattle.std.proofs.lemmas.Bool.{eqb-true}
+use Rattle.std.proofs.Math.Bool.{or_assoc}
 use Rattle.js_base.specs.declared.kind.Kind.{Kind}
 use Rattle.js_base.specs.declared.kind.Kind.TheVariants.{Decimal, Float, PositiveExponential, NegativeExponential, DecimalBigInt}
 use Rattle.js_base.specs.part_text.Characters.{one_of, is_decimal}
@@ -18,7 +19,7 @@ use Rattle.part_words.specs.Places.{Word}
 use Rattle.part_scan.specs.Numbers.{goes_on, Unstopped, IsRest, IsBroken, Reads, AreDigits}
 use Rattle.part_words.specs.Places.{in_radix, Finds}
 use Rattle.part_words.proofs.Places.{none_passed, then}
-use Rattle.part_scan.proofs.Numbers.{any-append, or-assoc, or-false, front-begins, decimal-on}
+use Rattle.part_scan.proofs.Numbers.{any-append, or-false, front-begins, decimal-on}
 
 -- a front that a number doesn't stop before
 pub front_goes_on : (r : Rest) (c : ℕ) (cs : List ℕ) → goes_on c ≡ true → Unstopped (λ v. r (c ∷ v)) cs → Unstopped r (c ∷ cs)
@@ -73,7 +74,7 @@ rest_behind {r = r} {before = before} {text = text} {word = word} {n = n} s f b 
       ∙ f (x.word ++ c ∷ v) others (x.stands.splits ∙ ap (λ (u : List ℕ). x.word ++ u) e ∙ sym (append_assoc x.word (c ∷ v) others))
       ∙ x.never c v others e;
   separated =
-      x.separated ∙ ap (λ (a : Bool). a || has_separator x.word) b ∙ or-assoc before (has_separator word) (has_separator x.word)
+      x.separated ∙ ap (λ (a : Bool). a || has_separator x.word) b ∙ or_assoc before (has_separator word) (has_separator x.word)
       ∙ ap (λ (a : Bool). before || a) (sym (any-append (λ a. a == 95) word x.word));
 }
 

@@ -3,6 +3,7 @@ use Rattle.std.proofs.Common.{◌≡◌, ℕ, ◌+◌, Bool, true, false, List, 
 use Rattle.std.specs.Prelude.{IsCharBoundary, is_some, codes}
 use Rattle.std.specs.List.{list_all}
 use Rattle.std.proofs.lemmas.Bool.{eqb-true}
+use Rattle.std.proofs.lemmas.List.{append-nil}
 use Rattle.js_base.specs.declared.kind.Kind.{Kind}
 use Rattle.js_base.specs.declared.kind.Kind.TheVariants.{RegExp}
 use Rattle.js_base.specs.declared.diagnostic.DiagnosticKind.TheVariants.{UnterminatedRegexp, UnterminatedComment}
@@ -14,7 +15,7 @@ use Rattle.part_words.specs.js_grammar.Longest.{longest, none_longer, none_begin
 use Rattle.part_words.specs.js_grammar.Lexemes.{regular_expression, lexemes_in, is_escaped}
 use Rattle.part_words.specs.js_grammar.LexicalFaults.{behind, Unterminated, is_open_pattern, is_open_regular_expression}
 use Rattle.part_words.specs.js_grammar.RegularExpressions.{behind_pattern, flags, flagged, regular_expression_kind}
-use Rattle.part_words.proofs.js_grammar.LongestLemmas.{both, append-nil}
+use Rattle.part_words.proofs.js_grammar.LongestLemmas.{both}
 use Rattle.part_words.proofs.js_grammar.CoreLemmas.{none_longer-from}
 use Rattle.part_words.specs.Places.{Word}
 use Rattle.part_words.specs.Scans.{IsStopped, NoLexeme}
