@@ -1,10 +1,7 @@
 -- Two lists are empty where they are so together.
 use Rattle.std.proofs.Common.{◌≡◌, List, [], ◌∷◌, ◌++◌, refl}
+use Rattle.parse_shared.proofs.laws_shared.Verdicts.{ending}
 
 pub first_empty : {K : Type 0} (a b : List K) → a ++ b ≡ [] → a ≡ []
 first_empty [] b e = refl
 first_empty (x ∷ a) b e = absurd (cc)
-
-pub second_empty : {K : Type 0} (a b : List K) → a ++ b ≡ [] → b ≡ []
-second_empty [] b e = e
-second_empty (x ∷ a) b e = absurd (cc)

@@ -34,6 +34,7 @@ use Rattle.js_lex.specs.part_words.Scans.{NoLexeme}
 use Rattle.js_lex.specs.States.{State, goal_of}
 use Rattle.js_lex.proofs.part_words.Fronts.{not_all}
 use Rattle.js_lex.proofs.part_words.KindsOfLexemes.{hashbang_is}
+use Rattle.js_lex.proofs.Hashbangs.{comment_is, no_comment, longest_line}
 use Rattle.js_tree.specs.Nodes.{Node, empty_program}
 use Rattle.js_cursor.specs.Histories.{StandBefore}
 use Rattle.js_cursor.specs.Notes.{Notes, HasNone}
@@ -61,17 +62,6 @@ line (c ∷ cs) = one_more c cs (is_line_terminator c) refl (line cs)
 
 abbrev if_line : Bool → Option Kind
 if_line b = elim b [ true ↦ Some HashbangComment | false ↦ None ]
-
-comment_is : (w : List ℕ) → within_line w ≡ true → hashbang_kind (35 ∷ 33 ∷ w) ≡ Some HashbangComment
-comment_is w h = ap if_line h
-
-no_comment : (w : List ℕ) → within_line w ≡ false → hashbang_kind (35 ∷ 33 ∷ w) ≡ None
-no_comment w h = ap if_line h
-
-longest_line : (w rest : List ℕ) → within_line w ≡ true → begins (λ c. not (is_line_terminator c)) rest ≡ false → longest (lexemes_in hashbang) (35 ∷ 33 ∷ w) rest ≡ true
-longest_line w rest h l =
-    both (lexemes_in hashbang (35 ∷ 33 ∷ w) rest) (none_longer (lexemes_in hashbang) (35 ∷ 33 ∷ w) rest) (ap is_some (comment_is w h))
-    (none_longer-from (lexemes_in hashbang) (35 ∷ 33 ∷ w) rest (λ d x more e. ap is_some (no_comment (w ++ d ∷ x) (not_all (λ c. not (is_line_terminator c)) w d x (sym (ap (begins (λ c. not (is_line_terminator c))) e) ∙ l)))))
 
 opens_comment : (text cs : List ℕ) → behind text 0 ≡ 35 ∷ 33 ∷ cs → NoLexeme hashbang text 0 → ⊥
 opens_comment text cs e none =

@@ -103,7 +103,7 @@ shares : (n m : Symbol) → core_class n ≡ core_class m → no_member n m ≡ 
 shares n m e h = (ap (λ (s : Symbol). s.name) e, not-true (is_member n.name) h, λ i. record (m.flags) { in_ = sym (ap (λ (s : Symbol). s.flags.in_) e) i; v8 = sym (ap (λ (s : Symbol). s.flags.v8) e) i; wide = sym (ap (λ (s : Symbol). s.flags.wide) e) i })
 
 -- the lines that test a lexeme by a parameter
-abbrev is_identifier : Name → Bool
+abbrev pub is_identifier : Name → Bool
 is_identifier IdentifierReference = true
 is_identifier BindingIdentifier = true
 is_identifier LabelIdentifier = true

@@ -67,7 +67,7 @@ after-starts [] w more p h = refl
 after-starts (x ∷ a) [] more p h = cc
 after-starts (x ∷ a) (c ∷ w) more p h = both (x == c) (starts a (w ++ more)) (both-left (x == c) (after a p w) h) (after-starts a w more p (both-right (x == c) (after a p w) h))
 
-not_after : (a w more rest : List ℕ) (p : List ℕ → Bool) → rest ≡ w ++ more → starts a rest ≡ false → after a p w ≡ false
+pub not_after : (a w more rest : List ℕ) (p : List ℕ → Bool) → rest ≡ w ++ more → starts a rest ≡ false → after a p w ≡ false
 not_after a w more rest p e n = go (after a p w) refl
   where
     go : (b : Bool) → after a p w ≡ b → after a p w ≡ false

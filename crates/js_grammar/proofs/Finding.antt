@@ -1,8 +1,8 @@
 -- Tests on lists: members, and what `find` gives.
-use Rattle.std.proofs.Common.{◌≡◌, ℕ, ◌==◌, Bool, true, false, List, [], ◌∷◌, ◌++◌, refl, subst, ◌||◌, Option, Some, None, ◌⊎◌, inl, inr}
+use Rattle.std.proofs.Common.{◌≡◌, ℕ, ◌==◌, Bool, true, false, List, [], ◌∷◌, ◌++◌, refl, subst, ◌||◌, Option, Some, None, ◌⊎◌, inl, inr, not, sym, ◌∙◌}
 use Rattle.std.specs.Prelude.{is_some, cond}
 use Rattle.std.specs.List.{list_all, find}
-use Rattle.std.proofs.lemmas.Bool.{eqb-true, or_cases}
+use Rattle.std.proofs.lemmas.Bool.{eqb-true, or_cases, false≢true, eq-eqb}
 use Rattle.js_base.specs.declared.kind.Kind.{Kind}
 use Rattle.js_base.specs.Kinds.{code, same_kind, one_of_kinds}
 use Rattle.js_base.proofs.KindLemmas.{kind_of_same}
@@ -19,6 +19,31 @@ neither-right false b h = h
 
 pub neither : (a b : Bool) → a ≡ false → b ≡ false → (a || b) ≡ false
 neither a b h k = rw (h, k) refl
+
+pub contrary : (b : Bool) → not b ≡ true → b ≡ true → ⊥
+contrary true h e = false≢true h
+contrary false h e = false≢true e
+
+pub either_of : {F : Type 0} (a b : Bool) → (a || b) ≡ true → (a ≡ true → F) → (b ≡ true → F) → F
+either_of true b h f g = f refl
+either_of false b h f g = g h
+
+pub eqb-turn : (a b : ℕ) → (a == b) ≡ (b == a)
+eqb-turn a b = go (a == b) refl (b == a) refl
+  where
+    go : (x : Bool) → (a == b) ≡ x → (y : Bool) → (b == a) ≡ y → x ≡ y
+    go true e y f = sym (eq-eqb b a (sym (eqb-true a b e))) ∙ f
+    go false e true f = absurd (false≢true (sym e ∙ eq-eqb a b (sym (eqb-true b a f))))
+    go false e false f = refl
+
+pub implied : (a b : Bool) → (b || not a) ≡ true → a ≡ true → b ≡ true
+implied a true h e = refl
+implied true false h e = absurd (false≢true h)
+implied false false h e = e
+
+pub holds_if : (a b : Bool) → (not a || b) ≡ true → a ≡ true → b ≡ true
+holds_if true b h e = h
+holds_if false b h e = absurd (false≢true e)
 
 -- a member of a list passes what all its members pass
 pub member : (t : ℕ → Bool) (ds : List ℕ) (c : ℕ) → one_of ds c ≡ true → list_all t ds ≡ true → t c ≡ true

@@ -5,6 +5,7 @@ use Rattle.js_base.specs.declared.kind.Kind.{Kind}
 use Rattle.js_base.specs.Kinds.{code, kinds, same_kind}
 use Rattle.js_base.proofs.KindLemmas.{all_of, at_each}
 use Rattle.js_grammar.specs.Grammar.{Look}
+use Rattle.js_grammar.proofs.Finding.{implied}
 pub use Rattle.js_grammar.specs.Parsing.{full}
 
 abbrev pub none : Look
@@ -31,11 +32,6 @@ covers p q = all_of (λ k. four (λ w e. q k w e || not (p k w e))) kinds
 unfoldable pub apart : Look → Look → Bool
 unfolding kinds
 apart p q = all_of (λ k. four (λ w e. not (q k w e && p k w e))) kinds
-
-implied : (a b : Bool) → (b || not a) ≡ true → a ≡ true → b ≡ true
-implied a true h e = refl
-implied true false h e = absurd (false≢true h)
-implied false false h e = e
 
 refuted : (a b : Bool) → not (a && b) ≡ true → a ≡ true → b ≡ true → ⊥
 refuted true true h e f = false≢true h

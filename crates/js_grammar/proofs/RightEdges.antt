@@ -8,6 +8,7 @@ use Rattle.js_grammar.specs.Productions.{Flags, Name, Symbol, G, Program, Body, 
 use Rattle.js_grammar.specs.Table.{rule, rule_of}
 use Rattle.js_grammar.specs.Follow.{row_of, first_edge}
 use Rattle.js_grammar.proofs.Frame.{puts}
+use Rattle.js_grammar.proofs.Finding.{implied}
 
 -- a check at each row
 abbrev pub each_row : (Row → Bool) → Bool
@@ -142,11 +143,6 @@ ends_at n f = refl
 ends_claim : (s : Symbol) → each_row (λ r. may_end s.name r || not (edges (rule s) r)) ≡ true
 unfolding rule
 ends_claim s = ends_at s.name s.flags
-
-pub implied : (a b : Bool) → (b || not a) ≡ true → a ≡ true → b ≡ true
-implied a true h e = refl
-implied true false h e = absurd (false≢true h)
-implied false false h e = e
 
 -- the row of the first slot
 abbrev pub first_row : Slots → Row

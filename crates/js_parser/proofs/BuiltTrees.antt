@@ -13,6 +13,7 @@ use Rattle.js_grammar.specs.Modules.{adds, found_in, record_errors, in_order_of_
 use Rattle.js_grammar.specs.ModuleRecords.{errors_of_parts}
 use Rattle.js_grammar.proofs.CoverInitialisers.{line_marked}
 use Rattle.js_grammar.proofs.Renamed.{remarked, first_of, second_of, mark_of}
+use Rattle.js_grammar.proofs.CoreTrees.{pife_apart}
 use Rattle.js_grammar.specs.TreeForms.{with_labels, not_pure, without_pure}
 
 -- nonterminals that no production that is built leads to
@@ -316,10 +317,6 @@ node_fine m a h {ks} {cs} {i} {j} {ls} {rest} x s = go (shaped m.kind) refl h
     go : (b : Bool) → shaped m.kind ≡ b → Either b (Shape m a) (plain m.kind m.flags ≡ true) → fine_label (record { kind = m.kind; op = m.op; flags = m.flags; span = s }) cs ≡ true
     go true e h = h ks cs i j ls rest x s
     go false e h = unshaped_fine m.kind m.op m.flags s cs e h
-
--- a mark on functions in parentheses is another one
-pife_apart : (n : ℕ) → has_flag pure_flag (n + 8192) ≡ has_flag pure_flag n
-pife_apart n = ap (λ (m : ℕ). nat_eq m 1) (let k : (n + 8192) / 4096 % 2 ≡ n / 4096 % 2 = omega arith in k)
 
 pife_fine : (k : NodeKind) (o : Op) (n : ℕ) (s : Span) (cs : Slots) → fine_label (record { kind = k; op = o; flags = n; span = s }) cs ≡ true → fine_label (with_pife (record { kind = k; op = o; flags = n; span = s })) cs ≡ true
 pife_fine function_expression o n s cs h = subst (λ (b : Bool). (not b && true) ≡ true) (sym (pife_apart n)) h

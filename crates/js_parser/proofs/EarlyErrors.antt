@@ -11,7 +11,8 @@ use Rattle.js_grammar.specs.EarlyRules.{everywhere, not_u_and_v, cooked_at, Plac
 use Rattle.js_grammar.specs.NodeNames.{characters_at}
 use Rattle.js_grammar.specs.Trees.{NodeKind, reg_exp_literal, tagged_template_expression, template_literal, template_element, Label, Op, Span, Slots, end, hole, tree, Tree}
 use Rattle.js_tree.specs.Covering.{placed}
-use Rattle.js_core.proofs.Lists.{first_empty, second_empty}
+use Rattle.js_core.proofs.Lists.{first_empty}
+use Rattle.js_core.proofs.laws_shared.Verdicts.{ending}
 use Rattle.js_parser.specs.Broken.{past, within, broken_rule, told_rule, told_in}
 use Rattle.js_core.specs.EarlyErrors.{MeetsEarlyRules}
 use Rattle.js_parser.specs.FlagScans.{has_both}
@@ -120,10 +121,10 @@ meets text p (tree l cs us) e =
     let first = own text p l in
     let inner = told_in text (within p l.kind) cs in
     let behind = told_in text (past p) us in
-    let others = second_empty first (inner ++ behind) e in
+    let others = ending first (inner ++ behind) e in
     let none = first_empty first (inner ++ behind) e in
     let x = meets text (within p l.kind) cs (first_empty inner behind others) in
-    let y = meets text (past p) us (second_empty inner behind others) in
+    let y = meets text (past p) us (ending inner behind others) in
     record {
       flags = and_from _ _ (flags_right text p l.kind l.op l.flags l.span cs none) (and_from _ _ x.flags y.flags);
       cooked = at_node text p l.kind l.op l.flags l.span cs us ∙ and_from _ _ x.parts (and_from _ _ x.cooked y.cooked);

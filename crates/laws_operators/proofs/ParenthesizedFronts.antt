@@ -22,6 +22,7 @@ use Rattle.js_grammar.proofs.FollowLaws.{row_claimed}
 use Rattle.js_grammar.proofs.Heads.{One, the_last, and_more, in_one, of_operands, operand_taken}
 use Rattle.js_grammar.proofs.Looks.{apart, covers, covered, not_both}
 use Rattle.js_grammar.proofs.RightEdges.{of_operand, first_row}
+use Rattle.js_grammar.proofs.Finding.{contrary}
 use Rattle.laws_shared.proofs.FreeOfIn.{any_in}
 use Rattle.laws_shared.proofs.Escapes.{read_plain}
 use Rattle.laws_shared.specs.Answers.{Underived}
@@ -288,10 +289,6 @@ arrow_binds b after_body h = absurd (false≢true h)
 arrow_binds b after_yield h = absurd (false≢true h)
 arrow_binds b after_declarator h = absurd (false≢true h)
 arrow_binds b after_word h = absurd (false≢true h)
-
-pub contrary : (b : Bool) → not b ≡ true → b ≡ true → ⊥
-contrary true h e = false≢true h
-contrary false h e = false≢true e
 
 -- nor may it stand behind an operand
 pub no_arrow_admitted : (source : List ℕ) (f : Flags) (ts : Slots) {vs : Slots} {s j : ℕ} {ls rest : Lexemes} → Lexes (Lex source) s ls → Takes rule (such (at Short f) always) end ts s ls vs j rest → Admits (after (at Short f)) ts (here rest) → same_kind Arrow (here rest).kind ≡ true → ⊥

@@ -37,6 +37,7 @@ use Rattle.js_grammar.proofs.RightEdges.{at_row}
 use Rattle.js_grammar.proofs.First.{starts, starting}
 use Rattle.js_grammar.proofs.FirstClaims.{firsts}
 use Rattle.js_grammar.proofs.FirstRules.{fails_here}
+use Rattle.js_grammar.proofs.Finding.{either_of}
 use Rattle.js_grammar.specs.FirstSets.{first}
 use Rattle.laws_shared.specs.js_tree.declared.id.NodeId.{NodeId}
 use Rattle.laws_shared.specs.js_tree.declared.kind.NodeKind.TheVariants as node
@@ -69,7 +70,6 @@ use Rattle.laws_shared.proofs.Giving.{gives_up, gives_up_here, fails_at_word}
 use Rattle.laws_shared.proofs.Classes.{here_ends}
 use Rattle.js_base.specs.declared.diagnostic.DiagnosticKind.TheVariants.{ExpectToken}
 use Rattle.laws_shared.proofs.Slashes.{sign_there}
-use Rattle.laws_shared.proofs.NamedFirsts.{either_of}
 use Rattle.parse_declarations.specs.laws_primary.declared.forms.FunctionForm.TheVariants.{Declaration}
 use Rattle.parse_declarations.specs.laws_primary.Functions.{function_line}
 use Rattle.parse_declarations.proofs.laws_primary.Functions.{none_left}

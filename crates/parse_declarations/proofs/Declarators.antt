@@ -21,7 +21,8 @@ use Rattle.js_grammar.specs.Follow.{after, first_edge, looser, row_of, surest}
 use Rattle.js_grammar.proofs.Looks.{covers, covered, apart, not_both}
 use Rattle.js_grammar.proofs.Calculus.{here_at, ends, passes_both, reaches_less}
 use Rattle.js_grammar.proofs.FollowLaws.{surely, assignment_ended}
-use Rattle.js_grammar.proofs.RightEdges.{of_assignment, at_row, implied}
+use Rattle.js_grammar.proofs.RightEdges.{of_assignment, at_row}
+use Rattle.js_grammar.proofs.Finding.{either_of, implied}
 use Rattle.parse_shared.specs.js_tree.declared.id.NodeId.{NodeId}
 use Rattle.parse_shared.specs.js_tree.declared.kind.NodeKind.TheVariants as node
 use Rattle.parse_shared.specs.js_tree.declared.op.Op.TheVariants as op
@@ -44,7 +45,7 @@ use Rattle.parse_shared.specs.laws_shared.Statements.{link_kinds, no_link}
 use Rattle.parse_shared.specs.laws_shared.Told.{unrelated_at}
 use Rattle.parse_declarations.specs.Declarations.{One, NoOne, Declarator, EndsDeclarator, ChecksInitialiser, behind_row, ends_row, stops_row, missing}
 use Rattle.laws_patterns.proofs.Bindings.{no_binding, no_pattern_name}
-use Rattle.parse_shared.proofs.laws_shared.NamedFirsts.{fails_unnamed, either_of}
+use Rattle.parse_shared.proofs.laws_shared.NamedFirsts.{fails_unnamed}
 use Rattle.parse_shared.proofs.laws_shared.NameKinds.{listed_here, name_at, no_listed_name}
 use Rattle.parse_shared.proofs.laws_shared.Giving.{kept_one}
 use Rattle.parse_shared.proofs.laws_shared.Here.{begins_here, kind_here}

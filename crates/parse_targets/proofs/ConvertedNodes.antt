@@ -1,6 +1,6 @@
 -- What literals are converted to, node by node (ECMA-262, 13.15.5).
 use Rattle.std.proofs.Common.{ℕ, ◌≡◌, ◌<◌, ◌≤◌, inl, inr, zero, suc, ◌+◌, nat_eq, Bool, true, false, cond, ◌||◌, List, [], ◌∷◌, ◌++◌, length, drop, Option, Some, None, refl, sym, ap, subst, arith, ◌∙◌, append-nil, append_assoc}
-use Rattle.std.specs.Prelude.{chars, slice_get, Result, Ok, Err, IfOk}
+use Rattle.std.specs.Prelude.{chars, slice_get}
 use Rattle.std.proofs.Math.Seq.{drop-cons}
 use Rattle.std.proofs.lemmas.Bool.{false≢true, or_left, or_right, eqb-true, eq-eqb}
 use Rattle.std.proofs.lemmas.List.{get_or_append_left}
@@ -792,7 +792,3 @@ no_assignment _ n = refl
 pub no_property : (k : MadeKind) → (k ≡ node.ObjectProperty → ⊥) → is_property (kind_of k) ≡ false
 no_property node.ObjectProperty n = absurd (n refl)
 no_property _ n = refl
-
-pub map_ok : {A E : Type 0} (r : Result A E) {P Q : A → Type 0} → ((x : A) → P x → Q x) → IfOk r P → IfOk r Q
-map_ok (Ok x) f h = f x h
-map_ok (Err e) f h = h

@@ -1,7 +1,6 @@
 -- A simple target is a left-hand side whose tree, with its outer parentheses taken off, is the target's (ECMA-262, 8.6.4).
 use Rattle.std.proofs.Common.{ℕ, ◌≡◌, Bool, true, false, not, cond, ◌&&◌, ◌||◌, IsTrue, Option, Some, None, refl, ap, sym, subst, ◌∙◌}
 use Rattle.std.proofs.lemmas.Bool.{false≢true, and_parts}
-use Rattle.parse_targets.proofs.ArrayElements.{contrary}
 use Rattle.js_grammar.specs.Trees.{NodeKind, Op, Span, Label, Slots, end, hole, tree, Tree, function_expression, arrow_function_expression, array_expression, object_expression}
 use Rattle.js_base.specs.declared.kind.Kind.TheVariants.{LParen, RParen}
 use Rattle.js_grammar.specs.Grammar.{Lexeme, Lexemes, next, seen, is, nothing, never, lexeme, look, text, ahead, empty_slot, seq, alt, when, many, commas, such, marked, node, ended, keep, kept, Takes, is_nothing, is_lexeme, is_look, is_text, is_ahead, is_empty_slot, is_seq, is_left, is_right, is_when, is_many, is_commas, is_such, is_marked, is_node, is_ended, is_keep, is_kept}
@@ -9,6 +8,7 @@ use Rattle.js_grammar.specs.Parsing.{always}
 use Rattle.js_grammar.specs.Productions.{G, Flags, Name, Symbol, at, mk, parens, plus_in, with_pife, Expression, Assignment, Conditional, Short, Coalesce, Or, And, BitOr, BitXor, BitAnd, Equality, Relational, Shift, Additive, Multiply, Exponent, Unary, Update, LeftHandSide, New, Member, Call, Chain, Primary, IdentifierReference, SimpleTarget, Arrow', Yield, Object, FuncExpr, ClassExpr, Template}
 use Rattle.js_grammar.specs.Table.{rule, rule_of, member_access, call_access, paren_expression}
 use Rattle.js_grammar.proofs.Calculus.{slots_are}
+use Rattle.js_grammar.proofs.Finding.{contrary}
 use Rattle.parse_shared.specs.laws_shared.ArrayLiterals.{array_of}
 use Rattle.parse_targets.specs.Targets.{is_member, is_name, is_array, is_object, is_literal, literal_kind, target_in, target_of, is_parens}
 use Rattle.parse_shared.proofs.laws_shared.FreeOfIn.{any_in}
