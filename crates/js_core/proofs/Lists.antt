@@ -1,6 +1,5 @@
 -- Two lists are empty where they are so together.
 use Rattle.std.proofs.Common.{◌≡◌, List, [], ◌∷◌, ◌++◌, refl}
-use Rattle.parse_shared.proofs.laws_shared.Verdicts.{ending}
 
 pub first_empty : {K : Type 0} (a b : List K) → a ++ b ≡ [] → a ≡ []
 first_empty [] b e = refl

@@ -18,7 +18,7 @@ use Rattle.js_grammar.specs.CoreGrammar.{core_kinds}
 use Rattle.js_grammar.specs.CoreTexts.{is_core_piece, is_ascii_name, is_core_number, is_core_blank, is_core_string, is_core_punctuator, core_words}
 use Rattle.js_grammar.proofs.LongestLemmas.{both-left, both-right, both, not-true, none_longer-at}
 use Rattle.js_grammar.proofs.Finding.{neither-left, neither-right, kind_member, kind_passes, all-append, all-both}
-use Rattle.js_grammar.proofs.CoreLemmas.{below, implies, implied, none_longer-from, plain_of, opens, opens-same}
+use Rattle.js_grammar.proofs.CoreLemmas.{below, implies, implied, none_longer-from, plain_of}
 use Rattle.js_grammar.proofs.CoreFirst.{is_core_first, lt-true, lt-is, name_opens}
 use Rattle.js_grammar.proofs.CorePlain.{no_backslash, points-append, points-plain, points-one}
 

@@ -8,18 +8,18 @@ use Rattle.js_base.specs.Kinds.{one_of_kinds}
 use Rattle.js_base.specs.Texts.{text_of}
 use Rattle.js_base.specs.part_text.Characters.{one_of, is_decimal, is_line_terminator}
 use Rattle.js_grammar.specs.Characters.{width, is_identifier_start, is_white_space, has_line_terminator, begins}
-use Rattle.js_grammar.specs.Longest.{longest, none_longer, none_begins, joined}
+use Rattle.js_grammar.specs.Longest.{longest, none_longer, joined}
 use Rattle.js_grammar.specs.Trivia.{after, within_line, closes_comment, is_blank, is_single_line_comment, is_multi_line_comment, is_html_open, is_html_close, is_html_comment, is_trivia_piece, are_trivia, lack_html_comments}
 use Rattle.js_base.specs.Keywords.{keyword_of}
 use Rattle.js_grammar.specs.Names.{is_plain_name}
 use Rattle.js_grammar.specs.Lexemes.{may_precede}
-use Rattle.js_grammar.specs.CoreTexts.{is_core_piece, is_core_blank, is_ascii_name, is_core_number, is_core_string, is_core_punctuator, core_punctuators, core_words, is_core_use, are_core, ends_in_glue, is_glue, starts, occurs}
+use Rattle.js_grammar.specs.CoreTexts.{is_core_piece, is_core_blank, is_ascii_name, is_core_number, core_punctuators, core_words, is_core_use, are_core, ends_in_glue, is_glue, starts, occurs}
 use Rattle.js_grammar.specs.Strings.{nothing_left}
 use Rattle.js_grammar.specs.Grammar.{last, next}
 use Rattle.js_grammar.specs.CorePieces.{piece_lexeme, end_lexeme, lexemes_from}
 use Rattle.js_grammar.proofs.LongestLemmas.{both-left, both-right, both, not-true}
 use Rattle.js_grammar.proofs.Finding.{neither, neither-left, neither-right, member, found-all}
-use Rattle.js_grammar.proofs.CoreLemmas.{none_longer-from, opens}
+use Rattle.js_grammar.proofs.CoreLemmas.{none_longer-from}
 use Rattle.js_grammar.proofs.CoreFirst.{is_core_first, decimal-ascii, is_mark, IsMark, punctuator_mark, first_passes, Sort, blank, name, number, string, punctuator, sort, sort_first}
 use Rattle.js_grammar.proofs.CoreNames.{Before, IsPlain, ascii, core_ascii, plain_name}
 use Rattle.js_grammar.proofs.CoreNumbers.{nothing-nil, plain_number}

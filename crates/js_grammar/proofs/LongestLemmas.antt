@@ -1,6 +1,5 @@
 -- The longest front of a class is one alone.
-use Rattle.std.proofs.Common.{◌≡◌, ℕ, Bool, true, false, List, [], ◌∷◌, ◌++◌, refl, sym, ap, subst, not, ◌&&◌, append_assoc, ◌⊎◌, inl, inr}
-use Rattle.std.proofs.lemmas.List.{append-nil}
+use Rattle.std.proofs.Common.{◌≡◌, ℕ, Bool, true, false, List, [], ◌∷◌, ◌++◌, refl, sym, subst, not, ◌&&◌, append_assoc, ◌⊎◌, inl, inr}
 pub use Rattle.std.proofs.lemmas.Bool.{not-true}
 use Rattle.js_grammar.specs.Longest.{Class, longest, none_longer}
 

@@ -11,7 +11,7 @@ use Rattle.part_words.specs.js_grammar.Longest.{longest, none_longer, none_begin
 use Rattle.part_words.specs.js_grammar.Trivia.{after, within_line, closes_comment, is_blank, is_single_line_comment, is_multi_line_comment, is_html_open, is_html_close, is_html_comment, is_trivia_piece}
 use Rattle.part_words.specs.js_grammar.CoreTexts.{starts}
 use Rattle.part_words.specs.js_grammar.LexicalFaults.{behind}
-use Rattle.part_words.proofs.js_grammar.LongestLemmas.{both-left, both-right, both, not-true, none_longer-at}
+use Rattle.part_words.proofs.js_grammar.LongestLemmas.{both-left, both-right, both, not-true}
 use Rattle.part_words.proofs.js_grammar.Finding.{neither, neither-left, neither-right}
 use Rattle.part_words.proofs.js_grammar.CoreFirst.{lt-true}
 use Rattle.js_base.specs.part_text.Characters.{one_of}
@@ -40,7 +40,7 @@ use Rattle.part_words.specs.ByteClasses.{is_letter_class}
 use Rattle.part_words.specs.declared.byte_class.ByteClass.TheVariants.{Letter}
 use Rattle.part_words.proofs.js_grammar.CoreNames.{ascii}
 use Rattle.part_words.proofs.js_grammar.Alike.{no_empty_piece}
-use Rattle.part_words.proofs.js_grammar.CoreTrivia.{after-starts, not_after}
+use Rattle.part_words.proofs.js_grammar.CoreTrivia.{not_after}
 use Rattle.std.proofs.lemmas.Bool.Decides.{nat_tests}
 
 -- ---- lines

@@ -1,7 +1,5 @@
 -- The text of a node, written part by part.
-use Rattle.std.proofs.Common.{◌≡◌, ℕ, List, [], ◌∷◌, ◌++◌, refl, ap, ◌∙◌, append_assoc, append-nil, Result, Ok, Err}
-use Rattle.std.proofs.lemmas.Result.{on_ok_weaker}
-use Rattle.std.specs.Prelude.{OnOk}
+use Rattle.std.proofs.Common.{◌≡◌, ℕ, List, [], ◌∷◌, ◌++◌, refl, ap, ◌∙◌, append_assoc, append-nil}
 use Rattle.js_grammar.specs.Trees.{Label}
 use Rattle.js_grammar.specs.Lines.{kind_text, places_text, op_text, words_of, flag_words, label_text}
 

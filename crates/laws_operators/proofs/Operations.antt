@@ -9,11 +9,11 @@ use Rattle.js_grammar.proofs.FirstClaims.{firsts}
 use Rattle.js_grammar.proofs.First.{starts}
 use Rattle.js_grammar.specs.Trees.{Label, Slots, end, tree}
 use Rattle.js_grammar.specs.Grammar.{Lexeme, Lexemes, next, seen, seq, such, nothing}
-use Rattle.js_grammar.specs.Insertion.{Row, edge_is_last}
+use Rattle.js_grammar.specs.Insertion.{Row}
 use Rattle.js_grammar.specs.Parsing.{Test, Goes, always, passing, full, Reads, Way}
 use Rattle.js_grammar.specs.Productions.{G, Flags, at, tok, Exponent, Symbol}
 use Rattle.js_grammar.specs.Table.{rule}
-use Rattle.js_grammar.specs.Levels.{level_at, node_at, operators_at, operators_of, top_level, feet_at}
+use Rattle.js_grammar.specs.Levels.{level_at, node_at, operators_at, top_level, feet_at}
 use Rattle.js_grammar.specs.Follow.{row_of, tight, looser, after}
 use Rattle.js_grammar.proofs.Calculus.{◌▹◌, ◌▹✗◌}
 use Rattle.js_grammar.proofs.Towers.{OneOf, head, later, linked_label, Link, of_operations}

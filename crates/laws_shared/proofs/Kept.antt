@@ -1,5 +1,5 @@
 -- The faults that the lexer keeps with a token are those of what stands at its place.
-use Rattle.std.proofs.Common.{ℕ, ◌+◌, ◌≡◌, Bool, true, false, not, ◌||◌, List, [], ◌∷◌, ◌++◌, None, refl, sym, ap, subst}
+use Rattle.std.proofs.Common.{ℕ, ◌+◌, ◌≡◌, Bool, true, false, not, ◌||◌, List, [], ◌∷◌, ◌++◌, None, refl, sym, subst}
 use Rattle.std.proofs.lemmas.Bool.{false≢true, and_parts, and_from}
 use Rattle.js_base.specs.declared.diagnostic.Diagnostic.{Diagnostic}
 use Rattle.js_base.specs.declared.kind.Kind.{Kind}
@@ -9,7 +9,7 @@ use Rattle.js_base.specs.Kinds.{one_of_kinds, same_kind}
 use Rattle.js_grammar.specs.Characters.{width}
 use Rattle.js_grammar.specs.Grammar.{Lexeme}
 use Rattle.js_grammar.specs.Trivia.{is_html_comment, lack_html_comments}
-use Rattle.js_grammar.specs.RegularExpressions.{flags, flags_pass}
+use Rattle.js_grammar.specs.RegularExpressions.{flags}
 use Rattle.js_grammar.specs.Lexemes.{division}
 use Rattle.js_grammar.specs.Lexed.{Lex as StandsBehind, Passing, in_script, in_module, all_faults, passing_of, comments_pass, flags_right}
 use Rattle.js_grammar.specs.Settings.{Goal}

@@ -54,7 +54,7 @@ use Rattle.parse_shared.proofs.laws_shared.Moving.{beside_nodes, same_both, same
 use Rattle.parse_shared.proofs.laws_shared.Paths.{fails_at, label_here, not_here, skips, walked_both, walked_one, walked_to}
 use Rattle.parse_shared.proofs.laws_shared.Phrases.{narrow_assignment, narrow_operand}
 use Rattle.parse_shared.proofs.laws_shared.Signs.{other_kind, plain_sign}
-use Rattle.parse_shared.proofs.laws_shared.Tight.{narrows, plain_is_read, plain_lex}
+use Rattle.parse_shared.proofs.laws_shared.Tight.{narrows, plain_lex}
 use Rattle.parse_shared.proofs.laws_shared.Told.{told_at, told_same}
 use Rattle.parse_shared.proofs.laws_shared.Verdicts.{and_then, behind_none, either_way, grown_then, verdict_of}
 use Rattle.parse_shared.proofs.laws_shared.Verdicts.{after as grown_behind}

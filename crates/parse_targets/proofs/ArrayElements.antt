@@ -10,9 +10,10 @@ use Rattle.js_grammar.specs.Insertion.{assign_operators}
 use Rattle.js_grammar.specs.Productions.{G, Flags, Name, Symbol, at, tok, op, branches, plus_in, Argument, Assignment, Conditional, Short, Coalesce, Or, And, BitOr, BitXor, BitAnd, Equality, Relational, Shift, Additive, Multiply, Exponent, Unary, Update, LeftHandSide, New, Member, Call, Chain, Primary, IdentifierReference, Object, FuncExpr, ClassExpr, Template, Arrow', Yield, SimpleTarget, ArrayTarget, ObjectTarget, Target}
 use Rattle.js_grammar.specs.Productions.{sym as symbol}
 use Rattle.js_grammar.specs.Table.{rule, rule_of}
+use Rattle.js_grammar.specs.CoverInitialisers.{is_property}
 use Rattle.js_grammar.proofs.Finding.{contrary}
 use Rattle.parse_shared.specs.laws_shared.ArrayLiterals.{elements}
-use Rattle.parse_targets.specs.Targets.{is_elision, is_spread, is_assignment, is_equals, is_wide, is_property}
+use Rattle.parse_targets.specs.Targets.{is_elision, is_spread, is_assignment, is_equals, is_wide}
 
 -- ---- no operand is a gap, a spread, a property or an assignment
 

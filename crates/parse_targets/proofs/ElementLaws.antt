@@ -10,13 +10,14 @@ use Rattle.js_grammar.specs.Parsing.{always}
 use Rattle.js_grammar.specs.Productions.{Flags, at, tok, plus_in, has_flag, shorthand_flag, Assignment, Property, SimpleTarget, TargetElement, TargetProperty}
 use Rattle.js_grammar.specs.Table.{rule}
 use Rattle.js_grammar.specs.Trees.{NodeKind, Span as TreeSpan, Label, Slots, end, hole, tree, Tree, object_property, function_expression, assignment_target_with_default}
+use Rattle.js_grammar.specs.CoverInitialisers.{is_property}
 use Rattle.js_grammar.proofs.Behind.{lexed_behind}
 use Rattle.parse_shared.specs.js_tree.declared.id.NodeId.{NodeId}
 use Rattle.parse_shared.specs.js_tree.Nodes.{Node}
 use Rattle.parse_shared.specs.laws_shared.Lexemes.{Lex}
 use Rattle.parse_targets.specs.declared.widening.Widening.{Widening}
 use Rattle.parse_targets.specs.declared.widening.Widening.TheVariants.{Operator}
-use Rattle.parse_targets.specs.Targets.{Each, Fits, Spotted, Spanned, in_property, within, is_assignment, is_elision, is_equals, is_literal, is_property, is_spread, made_span, operator_places, places_in, places_of, relabelled, slot_of, target_by, elements_in, element_slot, rest_slot, property_slot, behind_first, reference_slot, named_slot, before_value, followed}
+use Rattle.parse_targets.specs.Targets.{Each, Fits, Spotted, Spanned, in_property, within, is_assignment, is_elision, is_equals, is_literal, is_spread, made_span, operator_places, places_in, places_of, relabelled, slot_of, target_by, elements_in, element_slot, rest_slot, property_slot, behind_first, reference_slot, named_slot, before_value, followed}
 use Rattle.parse_targets.proofs.ArrayElements.{Operated, operated, no_gap}
 use Rattle.parse_targets.proofs.Edges.{Ends, first_led, taken, one_ends, then_ends, ends_then, spanned}
 use Rattle.parse_targets.proofs.LiteralsAsTargets.{Led, led, all_of, assignment_kind, element_before, element_target, other_operator, property_target}

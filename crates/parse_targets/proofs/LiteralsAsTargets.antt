@@ -14,6 +14,8 @@ use Rattle.js_grammar.specs.Parsing.{always}
 use Rattle.js_grammar.specs.Productions.{G, branches, Flags, at, tok, mk, items, plus_in, flag, has_flag, computed_flag, shorthand_flag, Assignment, LeftHandSide, SimpleTarget, Target, ArrayTarget, ObjectTarget, TargetElement, TargetProperty, Property}
 use Rattle.js_grammar.specs.Productions.{sym as symbol}
 use Rattle.js_grammar.specs.Table.{rule, rule_of, rest_of, name}
+use Rattle.js_grammar.specs.TreeForms.{are_none}
+use Rattle.js_grammar.specs.CoverInitialisers.{is_property}
 use Rattle.js_grammar.proofs.Behind.{lexed_behind}
 use Rattle.parse_shared.proofs.js_cursor.Moving.{reached_next}
 use Rattle.parse_shared.specs.laws_shared.ArrayLiterals.{elements}
@@ -22,7 +24,7 @@ use Rattle.parse_shared.proofs.laws_shared.Characters.{characters}
 use Rattle.js_grammar.proofs.Looks.{apart, not_both}
 use Rattle.std.specs.Prelude.{IsUtf8, IsCharBoundary}
 use Rattle.parse_targets.specs.Taken.{target_name}
-use Rattle.parse_targets.specs.Targets.{literal_kind, Each, IsIn, Closed, Narrow, Fits, in_literal, in_property, within, is_elision, is_spread, is_assignment, is_equals, is_wide, is_object, is_literal, is_pattern, is_target, target_of, relabelled, pattern_kind, literal_tree, slot_of, rest_slot, shorthand_slot, behind_first, reference_slot, named_slot, property_slot, element_slot, are_none, followed, before_all, before_value, elements_in, operator_places, literal_places, places_of, places_in, made_span, is_property}
+use Rattle.parse_targets.specs.Targets.{literal_kind, Each, IsIn, Closed, Narrow, Fits, in_literal, in_property, within, is_elision, is_spread, is_assignment, is_equals, is_wide, is_object, is_literal, is_pattern, is_target, target_of, relabelled, pattern_kind, literal_tree, slot_of, rest_slot, shorthand_slot, behind_first, reference_slot, named_slot, property_slot, element_slot, followed, before_all, before_value, elements_in, operator_places, literal_places, places_of, places_in, made_span}
 use Rattle.parse_targets.specs.declared.widening.Widening.{Widening}
 use Rattle.parse_targets.specs.declared.widening.Widening.TheVariants.{Rest, RestTarget, Operator}
 use Rattle.parse_targets.proofs.ArrayTargets.{with_operator}

@@ -1,12 +1,12 @@
 -- Numbers of nodes from before and of new ones, of which none is reached twice.
-use Rattle.std.proofs.Common.{ℕ, ◌≡◌, ◌<◌, ◌≤◌, ◌⊎◌, inl, inr, List, [], ◌∷◌, ◌++◌, length, Option, Some, None, refl, sym, ap, subst, arith, ◌∙◌, append-nil, append_assoc}
+use Rattle.std.proofs.Common.{ℕ, ◌≡◌, ◌<◌, ◌≤◌, ◌⊎◌, inl, inr, List, [], ◌∷◌, ◌++◌, length, Option, Some, None, refl, sym, ap, subst, arith, ◌∙◌, append-nil}
 use Rattle.std.specs.Prelude.{get_or}
-use Rattle.std.proofs.lemmas.List.{get_or_append_left, get_or_push, length_push}
+use Rattle.std.proofs.lemmas.List.{get_or_push, length_push}
 use Rattle.js_grammar.specs.Trees.{Label, Slots, end, hole, tree, append}
 use Rattle.parse_shared.specs.js_tree.declared.id.NodeId.{NodeId}
 use Rattle.parse_shared.specs.js_tree.Nodes.{Node, label, node_at, empty_program}
 use Rattle.parse_shared.specs.js_tree.Holding.{Stands, stands, StandsAll, no_slots, next_child, next_hole, AreWithin, AreDistinct, AreApart, Lacks, Keeps}
-use Rattle.parse_shared.proofs.js_tree.HoldingLemmas.{AreDistinct-append, StandsAll-kept, StandsAll-wider, StandsAll-within, Stands-below, Keeps-longer, Keeps-made, AgreeOn, StandsAll-agree, agree_kept, StandsAll-append}
+use Rattle.parse_shared.proofs.js_tree.HoldingLemmas.{AreDistinct-append, StandsAll-kept, StandsAll-wider, StandsAll-within, Stands-below, Keeps-longer, Keeps-made, StandsAll-agree, agree_kept, StandsAll-append}
 use Rattle.parse_targets.specs.Targets.{Each, IsIn, Reused, Slotted, Noded}
 
 -- ---- lists of numbers

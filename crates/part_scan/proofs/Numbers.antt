@@ -2,15 +2,14 @@
 use Rattle.std.proofs.Common.{◌≡◌, ◌<◌, ◌≤◌, ℕ, ◌+◌, ◌==◌, Bool, true, false, List, [], ◌∷◌, ◌++◌, refl, sym, ap, subst, ◌∙◌, not, ◌&&◌, ◌||◌, append_assoc, arith, length}
 use Rattle.std.specs.Prelude.{nat_lt, nat_le, IsCharBoundary}
 use Rattle.std.specs.List.{list_all, list_any}
-use Rattle.std.specs.Char.{is_digit, digit_value}
+use Rattle.std.specs.Char.{digit_value}
 use Rattle.std.proofs.lemmas.Bool.Decides.{nat_tests}
-use Rattle.std.proofs.lemmas.List.{append-nil}
 use Rattle.std.proofs.Math.Bool.{or_assoc}
 use Rattle.js_base.specs.part_text.Characters.{one_of, is_decimal, is_hex}
 use Rattle.part_words.specs.js_grammar.Characters.{begins}
 use Rattle.part_words.specs.js_grammar.Numbers.{Rest, digits, legacy, has_separator}
 use Rattle.part_words.specs.js_grammar.LexicalFaults.{behind}
-use Rattle.part_words.proofs.js_grammar.LongestLemmas.{both-left, both-right, both}
+use Rattle.part_words.proofs.js_grammar.LongestLemmas.{both}
 use Rattle.part_words.proofs.js_grammar.Finding.{all-append}
 use Rattle.part_words.proofs.js_grammar.CoreLemmas.{below, implies, implied}
 use Rattle.part_words.proofs.js_grammar.CoreFirst.{decimal-ascii}

@@ -2,8 +2,6 @@
 use Rattle.std.proofs.Common.{◌≡◌, ℕ, ◌==◌, Bool, true, false, List, [], ◌∷◌, refl, sym, ◌&&◌, ◌||◌, None}
 use Rattle.std.specs.Prelude.{cond}
 use Rattle.std.specs.List.{list_all}
-use Rattle.std.proofs.lemmas.Bool.Decides.{Decides-eqb}
-use Rattle.std.proofs.lemmas.Bool.{ne_eqb}
 use Rattle.js_base.specs.Texts.{text_of, punctuators}
 use Rattle.part_scan.specs.Punctuators.{punctuator_of}
 use Rattle.part_scan.proofs.Punctuators.{fails}

@@ -12,7 +12,7 @@ use Rattle.js_base.specs.Keywords.{keyword_of}
 use Rattle.js_grammar.specs.Characters.{is_identifier_start, is_identifier_part}
 use Rattle.js_grammar.specs.Names.{is_plain_name, has_backslash}
 use Rattle.js_grammar.specs.LexicalFaults.{behind}
-use Rattle.js_grammar.proofs.LongestLemmas.{both-left, both-right, both, not-true}
+use Rattle.js_grammar.proofs.LongestLemmas.{both-left, both-right, both}
 use Rattle.js_grammar.proofs.Finding.{all-append, all-mono, neither-left, neither-right}
 use Rattle.js_grammar.proofs.CoreFirst.{lt-true, lt-is}
 use Rattle.js_grammar.proofs.CorePlain.{no_backslash, points-plain}

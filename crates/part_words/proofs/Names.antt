@@ -15,7 +15,7 @@ use Rattle.js_grammar.specs.Lexemes.{kind_of, a_name, a_private_name}
 use Rattle.js_grammar.specs.LexicalFaults.{is_name_word}
 use Rattle.js_grammar.proofs.LongestLemmas.{both-left, both-right, both, not-true}
 use Rattle.js_grammar.proofs.CoreLemmas.{none_longer-from}
-use Rattle.js_grammar.proofs.CorePlain.{no_backslash, points-append, before-nil, before-all-append}
+use Rattle.js_grammar.proofs.CorePlain.{no_backslash, points-append, before-all-append}
 use Rattle.js_grammar.proofs.Finding.{all-append}
 use Rattle.js_grammar.proofs.CoreNames.{named-plain, named-not, parts_stop}
 use Rattle.part_words.specs.Names.{Spells, Refuses, is_refused}

@@ -10,11 +10,12 @@ use Rattle.parse_shared.specs.js_tree.declared.flags.NodeFlags.{NodeFlags}
 use Rattle.parse_shared.specs.js_tree.declared.op.Op.TheVariants as op
 use Rattle.parse_shared.specs.js_tree.Labels.{kind_of, label_of}
 use Rattle.parse_shared.specs.js_tree.Nodes.{Node, label, node_at}
-use Rattle.parse_targets.specs.Targets.{is_elision, is_spread, is_assignment, is_object, is_literal, literal_places, relabelled, Noted, noted_in, is_property}
+use Rattle.parse_targets.specs.Targets.{is_elision, is_spread, is_assignment, is_object, is_literal, literal_places, relabelled, Noted, noted_in}
 use Rattle.parse_targets.specs.declared.widening.Widening.TheVariants.{Rest}
 use Rattle.parse_targets.proofs.ConvertedNodes.{ElementAnswer, ElementLoop, ElementsAnswer, RestAnswer, TargetAnswer, literal_none, literal_some, argument_below, argument_less, argument_stood, child_less, child_stood, element_hole, element_item, elements_keep, elements_none, elements_some, item_assigned, item_property, no_elision, no_property, no_spread_element, no_assignment, item_spread, item_target, last_child, loop_begins, loop_ends, loop_hole, loop_next, loop_refuses, next_child', no_more, relabels, rest_made, rest_not_last, rest_unconverted, rest_without, target_literal, target_simple}
 use Rattle.parse_targets.proofs.PropertyNodes.{property_shorthand, property_without, property_refused, property_made, value_less, value_stood}
 use Rattle.parse_targets.proofs.array_target.+targets.Goals as goal
+use Rattle.js_grammar.specs.CoverInitialisers.{is_property}
 
 pub convert_literal-returns-in_default : goal.convert_literal-returns-in_default
 convert_literal-returns-in_default t c =
