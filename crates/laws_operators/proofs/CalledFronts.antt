@@ -16,6 +16,7 @@ use Rattle.js_grammar.proofs.Frame.{framed}
 use Rattle.js_grammar.proofs.Heads.{begins_head, of_operands}
 use Rattle.js_grammar.proofs.Looks.{apart, covered, not_both}
 use Rattle.js_grammar.proofs.RightEdges.{first_row, same_row}
+use Rattle.laws_operators.proofs.ParenthesizedFronts.{Same}
 
 abbrev the_word : Look
 the_word k w e = same_kind Async k
@@ -88,21 +89,16 @@ unfolding rule_of apart
 lines_call Program f = refl
 lines_call n f = refl
 
--- the parameters of the arguments, and of the operands, in a line under f
-abbrev Under : Bool → Flags → Flags → Type 0
-Under true f g = g ≡ f
-Under false f g = Unit {0}
-
-abbrev Same : Bool → Flags → G → Type 0
-Same true f b = b ≡ args f
-Same false f b = Unit {0}
+abbrev SameArguments : Bool → Flags → G → Type 0
+SameArguments true f b = b ≡ args f
+SameArguments false f b = Unit {0}
 
 abbrev Flagged : Flags → G → Type 0
-Flagged f (seq a b) = Flagged f a × Same (is_args b) f b
+Flagged f (seq a b) = Flagged f a × SameArguments (is_args b) f b
 Flagged f (alt a b) = Flagged f a × Flagged f b
 Flagged f (when c a) = Flagged f a
 Flagged f (node m a) = Flagged f a
-Flagged f (such n c) = Under (of_operands n.name) f n.flags
+Flagged f (such n c) = Same (of_operands n.name) f n.flags
 Flagged f _ = Unit {0}
 
 lines_flagged : (n : Name) (f : Flags) → of_operands n ≡ true → Flagged f (rule_of n f)
@@ -174,7 +170,7 @@ stayed (is_look q) h = (refl, refl)
 stayed _ h = absurd (false≢true h)
 
 -- behind the word
-behind_word : (f : Flags) (a : G) {b : G} {ts us vs : Slots} {j k : ℕ} {ls mid rest : Lexemes} (t : Bool) (x : Lexeme) → (t ≡ true → ⊥) → takes_one a ≡ true → ls ≡ next x mid → j ≡ x.to → Takes rule b end us j mid vs k rest → goes_behind b ≡ true → Same (is_args b) f b → Second ls → Called f (takes_one (seq a b)) t ts ls k rest
+behind_word : (f : Flags) (a : G) {b : G} {ts us vs : Slots} {j k : ℕ} {ls mid rest : Lexemes} (t : Bool) (x : Lexeme) → (t ≡ true → ⊥) → takes_one a ≡ true → ls ≡ next x mid → j ≡ x.to → Takes rule b end us j mid vs k rest → goes_behind b ≡ true → SameArguments (is_args b) f b → Second ls → Called f (takes_one (seq a b)) t ts ls k rest
 behind_word f a {b} {ts} {us} {vs} {j} {k} {ls} {mid} {rest} t x n o q e d h u s = by (or_cases (stays b) _ h)
   where
     named : IsTrue (seen begins_head (here mid))
@@ -182,7 +178,7 @@ behind_word f a {b} {ts} {us} {vs} {j} {k} {ls} {mid} {rest} t x n o q e d h u s
 
     here_args : (is_args b ≡ true) → Called f (takes_one (seq a b)) t ts ls k rest
     here_args i =
-        let c : b ≡ args f = subst (λ (v : Bool). Same v f b) i u in
+        let c : b ≡ args f = subst (λ (v : Bool). SameArguments v f b) i u in
         let z = framed (subst (λ (v : ℕ). Takes rule b end us v mid vs k rest) e d) in
         more x mid q (append z.0 end) k rest (subst (λ (g : G). Takes rule g end (append z.0 end) x.to mid end k rest) c (z.2 end)) (inl refl)
 
@@ -235,7 +231,7 @@ noded_call f m a {cs} {us} {ls} {rest} {j} h (alone o x q e r) = alone o x q e (
 noded_call f m a h (more x mid q vs e r k o) = more x mid q vs e r k o
 
 -- a symbol of operands
-by_symbol : (f : Flags) (n : Symbol) {ts us : Slots} {ls rest : Lexemes} {j : ℕ} → first_row us ≡ first_row ts → (of_operands n.name || apart (first n) the_word) ≡ true → Under (of_operands n.name) f n.flags → IsTrue (seen (starts first (rule n) full) (here ls)) → IsTrue (seen the_word (here ls)) → (calls (rule n) ≡ true → Flagged n.flags (rule n) → Called n.flags (takes_one (rule n)) (is_tree (rule n)) ts ls j rest) → Called f true true us ls j rest
+by_symbol : (f : Flags) (n : Symbol) {ts us : Slots} {ls rest : Lexemes} {j : ℕ} → first_row us ≡ first_row ts → (of_operands n.name || apart (first n) the_word) ≡ true → Same (of_operands n.name) f n.flags → IsTrue (seen (starts first (rule n) full) (here ls)) → IsTrue (seen the_word (here ls)) → (calls (rule n) ≡ true → Flagged n.flags (rule n) → Called n.flags (takes_one (rule n)) (is_tree (rule n)) ts ls j rest) → Called f true true us ls j rest
 by_symbol f n {ts} {us} {ls} {rest} {j} w h u s q go = by (or_cases (of_operands n.name) _ h)
   where
     of_rule : (f : Flags) → is_tree (rule n) ≡ true → Called f (takes_one (rule n)) (is_tree (rule n)) ts ls j rest → Called f true true us ls j rest
@@ -243,7 +239,7 @@ by_symbol f n {ts} {us} {ls} {rest} {j} w h u s q go = by (or_cases (of_operands
     of_rule f t (more x mid l vs e r k o) = more x mid l vs e r k o
 
     by : (of_operands n.name ≡ true) ⊎ (apart (first n) the_word ≡ true) → Called f true true us ls j rest
-    by (inl e) = let z = line_calls n e in subst (λ (v : Flags). Called v true true us ls j rest) (subst (λ (b : Bool). Under b f n.flags) e u) (of_rule n.flags z.1 (go z.0 (line_flagged n e)))
+    by (inl e) = let z = line_calls n e in subst (λ (v : Flags). Called v true true us ls j rest) (subst (λ (b : Bool). Same b f n.flags) e u) (of_rule n.flags z.1 (go z.0 (line_flagged n e)))
     by (inr e) = absurd (not_both (first n) the_word e (here ls).kind (here ls).newline (here ls).escaped (covered (starts firsts.first (rule n) full) (first n) (firsts.claims n) _ _ _ s) q)
 
 called : (f : Flags) {g : G} {ts us : Slots} {i j : ℕ} {ls rest : Lexemes} → Takes rule g end ts i ls us j rest → calls g ≡ true → Flagged f g → IsTrue (seen the_word (here ls)) → Second ls → Called f (takes_one g) (is_tree g) ts ls j rest
@@ -274,7 +270,7 @@ pub data Front (f : Flags) (ts : Slots) (x : Lexeme) (mid rest : Lexemes) : Type
 pub word_front : (n : Symbol) → of_operands n.name ≡ true → {ts us : Slots} {i j : ℕ} {x : Lexeme} {mid rest : Lexemes} → Takes rule (such n always) end ts i (next x mid) us j rest → IsTrue (seen the_word x) → IsTrue (seen begins_head (here mid)) → Front n.flags ts x mid rest
 word_front n o {ts} {us} {i} {j} {x} {mid} {rest} d q s = go (called n.flags d (rw o refl) (itself (of_operands n.name)) q s)
   where
-    itself : (b : Bool) → Under b n.flags n.flags
+    itself : (b : Bool) → Same b n.flags n.flags
     itself true = refl
     itself false = tt
 

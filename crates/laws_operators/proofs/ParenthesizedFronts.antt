@@ -55,7 +55,7 @@ of_target f {l} {cs} d = let x = target_left_hand_side (record { label = l; slot
 -- ---- where the parentheses stand
 
 -- the parameters of a nonterminal in a line under f
-abbrev Same : Bool → Flags → Flags → Type 0
+abbrev pub Same : Bool → Flags → Flags → Type 0
 Same true f g = g ≡ f
 Same false f g = Unit {0}
 

@@ -113,6 +113,11 @@ pub data Headed (text : List ℕ) (f : Flags) (s : ℕ) (l : Label) (cs : Slots)
 abbrev pub MemberSoFar : List ℕ → Flags → ℕ → ℕ → Label → Slots → (Lexemes → Lexemes) → ℕ → Type 0
 MemberSoFar text f s from l cs pass s' = Looped text (members f) (after (at Member f)) s from l cs pass s' × NoOther text f s
 
+-- what is answered of one
+abbrev pub MemberOutcome : List ℕ → Flags → Parser → Parser → Result NodeId Stop → Type 0
+MemberOutcome text f o q (Ok id) = Taken text f o q id (λ l cs pass s'. MemberSoFar text f o.prev_token_end o.token.span.start l cs pass s') (NoMember text f o.prev_token_end)
+MemberOutcome text f o q (Err e) = Stops o q e (NoMember text f o.prev_token_end)
+
 -- neither `.` nor `[` stands here, nor a template
 abbrev pub NoAccess : List ℕ → Parser → Type 0
 NoAccess text q = (y : Lexeme) → Lex text q.prev_token_end y → one_of_kinds access_kinds y.kind ≡ false

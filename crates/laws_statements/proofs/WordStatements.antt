@@ -208,7 +208,7 @@ module _ {text : List ℕ} {f : Flags} {q : Parser} (a : At text f q) where
   no_gap : (MayEnd q → ⊥) → Fails rule (Lex text) (plain closes_or_line) end empty_slot q.prev_token_end
   no_gap m = fails_here firsts (λ y l h. no_close a m y l h)
 
-  same_line : (MayEnd q → ⊥) → q.token.is_on_new_line ≡ false
+  pub same_line : (MayEnd q → ⊥) → q.token.is_on_new_line ≡ false
   same_line m = go q.token.is_on_new_line refl
     where
       go : (b : Bool) → q.token.is_on_new_line ≡ b → q.token.is_on_new_line ≡ false

@@ -59,6 +59,7 @@ use Rattle.parse_shared.proofs.laws_shared.Told.{told_at, told_same}
 use Rattle.parse_shared.proofs.laws_shared.Verdicts.{and_then, behind_none, either_way, grown_then, verdict_of}
 use Rattle.parse_shared.proofs.laws_shared.Verdicts.{after as grown_behind}
 use Rattle.parse_shared.proofs.laws_shared.PlainSigns.{eq_plain}
+use Rattle.parse_shared.proofs.laws_shared.Commas.{comma_may_follow}
 
 -- ---- what the line says
 
@@ -114,10 +115,6 @@ goes_on_with a k y l h = not_both an_eq (behind_row after_declarator) eq_apart y
 pub no_eq_here : {text : List ℕ} {f : Flags} {q : Parser} → At text f q → (q.token.kind ≡ Eq → ⊥) → (y : Lexeme) → Lex text q.prev_token_end y → IsTrue (seen (is Eq) y) → ⊥
 unfolding apart
 no_eq_here {q = q} a n y l h = not_here a (Eq ∷ []) refl (other_kind Eq q.token.kind n) y l (or_left (same_kind Eq y.kind) false (and_parts (same_kind Eq y.kind) (not y.escaped) h).0)
-
-comma_may_follow : covers (is Comma) (surest Assignment) ≡ true
-unfolding covers
-comma_may_follow = refl
 
 -- what may stand behind a declarator may stand behind its initialiser
 behind_value : {f : Flags} {l : Label} {cs : Slots} {i j : ℕ} {ls mid : Lexemes} → Takes rule (symbol Assignment f) end (tree l cs end) i ls end j mid → IsTrue (seen (behind_row (row_of l cs)) (here mid)) → Admits (after (at Assignment f)) (tree l cs end) (here mid)

@@ -22,10 +22,11 @@ use Rattle.parse_targets.specs.Targets.{Within, in_literal, in_property, within,
 use Rattle.parse_targets.specs.declared.widening.Widening.{Widening}
 use Rattle.parse_targets.specs.declared.widening.Widening.TheVariants.{Rest}
 use Rattle.parse_shared.specs.js_tree.declared.kind.NodeKind.TheVariants as node
-use Rattle.parse_targets.proofs.LiteralsAsTargets.{before_of, no_end, is_end, element_some, places_assigned}
+use Rattle.parse_targets.proofs.LiteralsAsTargets.{before_of, no_end, is_end, element_some, places_assigned, some_is, property_kind}
 use Rattle.parse_targets.proofs.TargetsAsLiterals.{target_kind}
-use Rattle.parse_targets.proofs.CoveredNodes.{empty_parens}
+use Rattle.parse_targets.proofs.CoveredNodes.{empty_parens, open_parens, directly}
 use Rattle.parse_targets.proofs.ReusedNodes.{Children, children_of, in_left, in_right, distinct_left, distinct_right, distinct_apart, slotted_on, slotted_none, slotted_hole, slotted_wider, slotted_old, slotted_node, reused_own}
+use Rattle.parse_targets.proofs.Laws.{slot_parts}
 use Rattle.parse_shared.specs.js_tree.Sources.{text_of}
 use Rattle.parse_shared.specs.laws_shared.NodeTexts.{NodeFits}
 use Rattle.parse_shared.proofs.laws_shared.NodeTexts.{untextual}
@@ -44,9 +45,6 @@ within_left lo hi (r ∷ rs) ss w = (w.0, w.1, within_left lo hi rs ss w.2)
 pub within_right : (lo hi : ℕ) (rs ss : List ℕ) → AreWithin lo hi (rs ++ ss) → AreWithin lo hi ss
 within_right lo hi [] ss w = w
 within_right lo hi (r ∷ rs) ss w = within_right lo hi rs ss w.2
-
-some_is : {a b : Slots} → Some a ≡ Some b → a ≡ b
-some_is e = cc
 
 no_some : {a : Slots} → None ≡ Some a → ⊥
 no_some e = cc
@@ -433,10 +431,6 @@ no_one_child l o (next_child b h no_slots) = absurd (cc)
 no_one_child l o (next_child {l = m} {cs = ds} b h (next_child {l = n} {cs = es} {us = vs} b' h' a)) = two_elements l m ds (tree n es vs) refl
 no_one_child l o (next_child {l = m} {cs = ds} b h (next_hole {us = vs} a)) = two_elements l m ds (hole vs) refl
 
-pub tree_of : (r : Option Tree) (ts : Slots) → slot_of r ≡ Some ts → (t : Tree) × (r ≡ Some t) × (ts ≡ tree t.label t.slots end)
-tree_of (Some t) ts e = (t, refl, sym (some_is e))
-tree_of None ts e = absurd (cc)
-
 -- ---- what is answered of a rest
 
 -- places of the argument are among those of the rest
@@ -509,7 +503,7 @@ module _ {os : List Node} {id : NodeId} where
           by l cs rs s d h =
               let x = one_child c k h.stands in
               let y = made_of (v x.label x.slots h.numbers x.stands (subst AreDistinct h.is d).1) in
-              let q = tree_of (target_by x.label x.slots (own_of x.label x.slots)) y.slots y.is in
+              let q = slot_parts (target_by x.label x.slots (own_of x.label x.slots)) y.slots y.is in
               let r : t ≡ relabelled assignment_target_rest l = e ∙ ap (relabelled assignment_target_rest) (sym h.label_is) in
               let own = places_in (within x.label.kind) x.slots in
               let ws = cond (is_literal x.label.kind) own [] in
@@ -591,10 +585,6 @@ pub item_assigned : (o : Bool) {os ns : List Node} {id : NodeId} {noted notes : 
 item_assigned o {id = id} last found g v = λ l cs rs s d a.
     let z = kind_here {id = id} is_assignment g s in
     answer_as (one_node found) (sym (places_assigned o l cs (places_in (within l.kind) cs) z)) (sym (assigned_slot last l cs (own_of l cs) a (no_spread l.kind z) z)) (v l cs rs s d z)
-
-pub property_kind : (k : NodeKind) → is_property k ≡ true → k ≡ object_property
-property_kind object_property h = refl
-property_kind _ h = absurd (false≢true h)
 
 property_spots : (o : Bool) (l : Label) (cs : Slots) → l.kind ≡ object_property → property_places l (places_in in_property cs) ≡ spots_at o l cs
 property_spots o l cs h = rw h refl
@@ -687,15 +677,9 @@ target_simple {id = id} {noted = noted} found h v = λ l cs rs s d. let b = kind
 abbrev pub SimpleAnswer : List Node → NodeId → Option NodeId → Type 0
 SimpleAnswer os id found = OfNode os id (λ l cs rs. Converted os os rs unnoted unnoted [] (one_node found) (slot_of (target_of l cs)))
 
-open_parens : (l : Label) (cs : Slots) → is_parenthesized l.kind ≡ true → target_of l cs ≡ target_in cs
-open_parens l cs p = rw p refl
-
 wider_answer : {os : List Node} {rs ss : List ℕ} (ids : Option (List (Option NodeId))) {r : Option Slots} → ((q : ℕ) → IsIn rs q → IsIn ss q) → Converted os os rs unnoted unnoted [] ids r → Converted os os ss unnoted unnoted [] ids r
 wider_answer (Some ids) f (converts x) = converts (record { keeps = x.keeps; lies = x.lies; slots = x.slots; is = x.is; slotted = slotted_wider f x.slotted; places_are = x.places_are; unblamed = x.unblamed })
 wider_answer None f (refuses x) = refuses (record { keeps = x.keeps; lies = x.lies; is = x.is; blames = inl refl })
-
-directly : (l : Label) (cs : Slots) (b : Bool) → is_parenthesized l.kind ≡ false → is_target l.kind ≡ b → target_of l cs ≡ cond b (Some (record { label = l; slots = cs })) None
-directly l cs b p t = rw (p, t) refl
 
 module _ {os : List Node} {id : NodeId} where
   pub simple_none : is_parenthesized (label (node_at os id)).kind ≡ true → Only (node_at os id).children None → SimpleAnswer os id None

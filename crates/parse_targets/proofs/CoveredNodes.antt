@@ -50,7 +50,7 @@ none_at o (stands id h a) = none_in o a
 
 -- ---- what is answered
 
-open_parens : (l : Label) (cs : Slots) → is_parenthesized l.kind ≡ true → target_of l cs ≡ target_in cs
+pub open_parens : (l : Label) (cs : Slots) → is_parenthesized l.kind ≡ true → target_of l cs ≡ target_in cs
 open_parens l cs p = rw p refl
 
 pub empty_parens : {ns : List Node} {lo hi : ℕ} {id : NodeId} {l : Label} {cs : Slots} → Only (node_at ns id).children None → is_parenthesized (label (node_at ns id)).kind ≡ true → Holds ns lo hi id.0 l cs → target_of l cs ≡ None
@@ -66,7 +66,7 @@ in_the_parens {ns} {lo} {hi} {id} {l} {cs} c r o p h f =
     moved m ds (Some id) e t = record { tree = t.tree; is = e ∙ t.is; holds = t.holds }
     moved m ds None e t = e ∙ t
 
-directly : (l : Label) (cs : Slots) (b : Bool) → is_parenthesized l.kind ≡ false → is_target l.kind ≡ b → target_of l cs ≡ cond b (Some (record { label = l; slots = cs })) None
+pub directly : (l : Label) (cs : Slots) (b : Bool) → is_parenthesized l.kind ≡ false → is_target l.kind ≡ b → target_of l cs ≡ cond b (Some (record { label = l; slots = cs })) None
 directly l cs b p t = rw (p, t) refl
 
 pub itself : {ns : List Node} {lo hi : ℕ} {id : NodeId} {l : Label} {cs : Slots} → is_parenthesized (label (node_at ns id)).kind ≡ false → is_target (label (node_at ns id)).kind ≡ true → Holds ns lo hi id.0 l cs → TargetNode ns lo hi l cs id

@@ -5,7 +5,7 @@ use Rattle.js_base.specs.declared.kind.Kind.{Kind}
 use Rattle.js_base.specs.declared.kind.Kind.TheVariants.{Eq, Colon, Comma, Dot3, LBrack, RBrack, LCurly, RCurly}
 use Rattle.js_base.specs.Kinds.{same_kind, one_of_kinds}
 use Rattle.js_base.proofs.KindLemmas.{kind_of_same}
-use Rattle.js_grammar.specs.Trees.{NodeKind, Op, Span, Label, Slots, end, hole, tree, Tree, no_op, init, assignment_expression, spread_element, function_expression, array_assignment_target, object_assignment_target, assignment_target_rest, assignment_target_with_default, assignment_target_property_property, append}
+use Rattle.js_grammar.specs.Trees.{NodeKind, Op, Span, Label, Slots, end, hole, tree, Tree, no_op, init, assignment_expression, spread_element, function_expression, array_assignment_target, object_assignment_target, assignment_target_rest, assignment_target_with_default, assignment_target_property_property, append, object_property}
 use Rattle.js_grammar.specs.Grammar.{Lexeme, Lexemes, last, next, here, seen, is, such, when, nothing, never, empty_slot, ◌▸◌, ◌◇◌, Takes, is_nothing, is_lexeme, is_empty_slot, is_seq, is_left, is_right, is_when, is_ahead, is_many, is_such, is_node, Look}
 use Rattle.js_grammar.specs.Insertion.{assign_operators, other_operators}
 use Rattle.js_grammar.specs.Lexed.{Lexes}
@@ -83,8 +83,12 @@ one_of_each P (v ∷ ws) w (inr i) h = one_of_each P ws w i h.1
 pub kind_is : {k : Kind} (x : Lexeme) → IsTrue (seen (is k) x) → x.kind ≡ k
 kind_is {k} x q = sym (kind_of_same k x.kind (and_parts (same_kind k x.kind) _ q).0)
 
-some_is : {a b : Slots} → Some a ≡ Some b → a ≡ b
+pub some_is : {a b : Slots} → Some a ≡ Some b → a ≡ b
 some_is e = cc
+
+pub property_kind : (k : NodeKind) → is_property k ≡ true → k ≡ object_property
+property_kind object_property h = refl
+property_kind _ h = absurd (false≢true h)
 
 -- ---- the parts of what is converted
 

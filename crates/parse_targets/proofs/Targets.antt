@@ -409,7 +409,7 @@ module _ {f : Flags} {i j : ℕ} {ls rest : Lexemes} where
   as_parens d = is_such (is_right (is_right (is_right d))) refl
 
 -- the same, of another tree that is the target
-is_the : {a b : Tree} → Some a ≡ Some b → a ≡ b
+pub is_the : {a b : Tree} → Some a ≡ Some b → a ≡ b
 is_the e = cc
 
 -- what is known of the slots of the first slot

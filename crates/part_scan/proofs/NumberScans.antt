@@ -31,8 +31,8 @@ use Rattle.part_words.specs.Places.{Word}
 use Rattle.part_words.specs.Scans.{IsScanned, IsStopped, NoLexeme}
 use Rattle.part_scan.specs.Numbers.{begins_number, goes_on, Unstopped, IsRest, Reads, AreLegacy}
 use Rattle.part_words.specs.Places.{in_radix, Finds}
-use Rattle.part_scan.proofs.Numbers.{decimal-on}
-use Rattle.part_scan.proofs.NumberRests.{behind_word, behind_one, behind_rejected, same_here, same_from_head, fronts_go_on, one_fails, head-is, front-of, stays}
+use Rattle.part_scan.proofs.Numbers.{decimal-on, same-head}
+use Rattle.part_scan.proofs.NumberRests.{behind_word, behind_one, behind_rejected, same_here, same_from_head, fronts_go_on, one_fails, front-of, stays}
 use Rattle.part_words.specs.Faults.{PartsEnd, Reaches, fault_kind, kind_of_fault, is_part}
 use Rattle.part_words.proofs.Parts.{parts_some}
 use Rattle.std.proofs.lemmas.Str.{len_utf8_bounds}
@@ -75,22 +75,22 @@ reads_octal {text = text} {n = n} d h a =
 pub reads_hex : {text : List ℕ} {i : ℕ} {result : Result Number ℕ} → Finds (in_radix 10) text i false → Finds (one_of (88 ∷ 120 ∷ [])) text i true → Reads (digits is_hex (suffix Hex HexBigInt) false) false text (i + 1) result → Reads zero_rest false text i result
 reads_hex n f x =
     let h = f.2 in
-    let d : is_decimal f.0 ≡ false = head-is is_decimal f.1 n in
+    let d : is_decimal f.0 ≡ false = same-head is_decimal f.1 n in
     behind_one f.1 (λ v. rw (d, h, zero_rest) refl) (member goes_on (88 ∷ 120 ∷ []) f.0 f.2 refl) (not-true (f.0 == 95) (member (λ a. not (a == 95)) (88 ∷ 120 ∷ []) f.0 f.2 refl)) x
 
 pub reads_modern_octal : {text : List ℕ} {i : ℕ} {result : Result Number ℕ} → Finds (in_radix 10) text i false → Finds (one_of (88 ∷ 120 ∷ [])) text i false → Finds (one_of (79 ∷ 111 ∷ [])) text i true → Reads (digits is_octal (suffix Octal OctalBigInt) false) false text (i + 1) result → Reads zero_rest false text i result
 reads_modern_octal n m f x =
     let h = f.2 in
-    let d : is_decimal f.0 ≡ false = head-is is_decimal f.1 n in
-    let e : one_of (88 ∷ 120 ∷ []) f.0 ≡ false = head-is (one_of (88 ∷ 120 ∷ [])) f.1 m in
+    let d : is_decimal f.0 ≡ false = same-head is_decimal f.1 n in
+    let e : one_of (88 ∷ 120 ∷ []) f.0 ≡ false = same-head (one_of (88 ∷ 120 ∷ [])) f.1 m in
     behind_one f.1 (λ v. rw (d, e, h, zero_rest) refl) (member goes_on (79 ∷ 111 ∷ []) f.0 f.2 refl) (not-true (f.0 == 95) (member (λ a. not (a == 95)) (79 ∷ 111 ∷ []) f.0 f.2 refl)) x
 
 pub reads_binary : {text : List ℕ} {i : ℕ} {result : Result Number ℕ} → Finds (in_radix 10) text i false → Finds (one_of (88 ∷ 120 ∷ [])) text i false → Finds (one_of (79 ∷ 111 ∷ [])) text i false → Finds (one_of (66 ∷ 98 ∷ [])) text i true → Reads (digits is_binary (suffix Binary BinaryBigInt) false) false text (i + 1) result → Reads zero_rest false text i result
 reads_binary n m o f x =
     let h = f.2 in
-    let d : is_decimal f.0 ≡ false = head-is is_decimal f.1 n in
-    let e : one_of (88 ∷ 120 ∷ []) f.0 ≡ false = head-is (one_of (88 ∷ 120 ∷ [])) f.1 m in
-    let g : one_of (79 ∷ 111 ∷ []) f.0 ≡ false = head-is (one_of (79 ∷ 111 ∷ [])) f.1 o in
+    let d : is_decimal f.0 ≡ false = same-head is_decimal f.1 n in
+    let e : one_of (88 ∷ 120 ∷ []) f.0 ≡ false = same-head (one_of (88 ∷ 120 ∷ [])) f.1 m in
+    let g : one_of (79 ∷ 111 ∷ []) f.0 ≡ false = same-head (one_of (79 ∷ 111 ∷ [])) f.1 o in
     behind_one f.1 (λ v. rw (d, e, g, h, zero_rest) refl) (member goes_on (66 ∷ 98 ∷ []) f.0 f.2 refl) (not-true (f.0 == 95) (member (λ a. not (a == 95)) (66 ∷ 98 ∷ []) f.0 f.2 refl)) x
 
 no_prefix : (v : List ℕ) → begins is_decimal v ≡ false → begins (one_of (88 ∷ 120 ∷ [])) v ≡ false → begins (one_of (79 ∷ 111 ∷ [])) v ≡ false → begins (one_of (66 ∷ 98 ∷ [])) v ≡ false → zero_rest v ≡ integer_rest v

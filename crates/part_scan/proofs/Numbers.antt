@@ -80,7 +80,7 @@ passed_digit {radix = radix} {complete = complete} l p f =
       marked = p.marked ∙ or-false (has_separator p.word) ∙ ap (λ (b : Bool). has_separator p.word || (b || false)) (sym (radix-no-separator radix c l f.2)) ∙ sym (any-append (λ a. a == 95) p.word (c ∷ []));
     }
 
-same-head : {text : List ℕ} {j c : ℕ} (p : ℕ → Bool) → Word text j (j + 1) (c ∷ []) → begins p (behind text j) ≡ false → p c ≡ false
+pub same-head : {text : List ℕ} {j c : ℕ} (p : ℕ → Bool) → Word text j (j + 1) (c ∷ []) → begins p (behind text j) ≡ false → p c ≡ false
 same-head p w h = subst (λ (v : List ℕ). begins p v ≡ false) w.splits h
 
 pub passed_separator : {radix : ℕ} {text : List ℕ} {i j : ℕ} {separated : Bool} → Passed radix text i j true separated → Finds (in_radix radix) text j false → Finds (λ c. c == 95) text j true → Passed radix text i (j + 1) false true
