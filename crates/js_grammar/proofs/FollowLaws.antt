@@ -10,9 +10,10 @@ use Rattle.js_grammar.specs.Productions.{Flags, Name, Symbol, at, Program, Expre
 use Rattle.js_grammar.specs.Parsing.{always, full, Admits, Fails}
 use Rattle.js_grammar.specs.Table.{rule}
 use Rattle.js_grammar.specs.Follow.{Edge, row_of, edge_of, first_edge, tight, larger, looser, behind_statement, follow_of, follow, widest, surest, after}
+use Rattle.js_grammar.specs.RightEdges.{may_end}
 use Rattle.js_grammar.proofs.Looks.{covers, covered}
 use Rattle.js_grammar.proofs.Calculus.{Sure, On, closes, fails_rule}
-use Rattle.js_grammar.proofs.RightEdges.{each_row, at_row, may_end, edged, first_row}
+use Rattle.js_grammar.proofs.RightEdges.{each_row, at_row, edged, first_row}
 use Rattle.js_grammar.proofs.Finding.{holds_if}
 
 -- A regular expression counts as a slash, a template's middle and its tail as a right brace.

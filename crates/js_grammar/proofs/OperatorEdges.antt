@@ -11,12 +11,13 @@ use Rattle.js_grammar.specs.Parsing.{Admits}
 use Rattle.js_grammar.specs.Table.{rule}
 use Rattle.js_grammar.specs.Levels.{binds, level_at, operators_of, operators_at, node_at}
 use Rattle.js_grammar.specs.Follow.{row_of, first_edge, tight, looser, follow, after}
+use Rattle.js_grammar.specs.RightEdges.{of_operand}
 use Rattle.js_grammar.proofs.Looks.{covers, covered, same_self}
 use Rattle.js_grammar.proofs.Calculus.{Within}
 use Rattle.js_grammar.proofs.Towers.{OneOf}
 use Rattle.js_grammar.proofs.Loops.{Edges, listed}
 use Rattle.js_grammar.proofs.Operators.{operates}
-use Rattle.js_grammar.proofs.RightEdges.{each_row, at_row, of_operand, first_row}
+use Rattle.js_grammar.proofs.RightEdges.{each_row, at_row, first_row}
 use Rattle.js_grammar.proofs.FollowLaws.{admits, looser_than}
 
 -- the test of a level is that of its number

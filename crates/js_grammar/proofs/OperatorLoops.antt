@@ -12,13 +12,13 @@ use Rattle.js_grammar.specs.Table.{rule}
 use Rattle.js_grammar.specs.FirstSets.{first}
 use Rattle.js_grammar.specs.Levels.{level_at, top_level, operators_at, node_at, feet_at, private_in}
 use Rattle.js_grammar.specs.Follow.{row_of, first_edge, tight, looser, after}
+use Rattle.js_grammar.specs.RightEdges.{of_operand}
 use Rattle.js_grammar.proofs.Calculus.{fails_never}
 use Rattle.js_grammar.proofs.FirstRules.{fails_here}
 use Rattle.js_grammar.proofs.FirstClaims.{firsts}
 use Rattle.js_grammar.proofs.Towers.{Foot, topmost, of_level, linked_label, OneOf}
 use Rattle.js_grammar.proofs.Loops.{Around, Alone, Follows, OtherFeet, start_at, start_fails_at, step, step_fails, operators_follow, one_operator, operators_end}
 use Rattle.js_grammar.proofs.Operators.{climbs, levels, operates}
-use Rattle.js_grammar.proofs.RightEdges.{of_operand}
 use Rattle.js_grammar.proofs.FollowLaws.{admits}
 use Rattle.js_grammar.proofs.OperatorEdges.{level_looser, tighter_level, operator_edges, operator_loosely, operator_exactly, one_level}
 

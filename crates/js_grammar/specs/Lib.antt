@@ -8,6 +8,7 @@ pub mod Table
 pub mod FirstSets
 pub mod Levels
 pub mod Follow
+pub mod RightEdges
 pub mod Parsing
 pub mod Lines
 pub mod BoundNames

@@ -23,7 +23,6 @@ use Rattle.js_grammar.specs.Table.{rule, rule_of, args}
 use Rattle.js_grammar.specs.Follow.{after, looser, row_of, widest}
 use Rattle.js_grammar.proofs.Heads.{One, the_last, and_more, begins_head, operand_taken, in_one, one_name}
 use Rattle.js_grammar.proofs.Looks.{covers, covered, apart, not_both}
-use Rattle.js_grammar.proofs.RightEdges.{may_end}
 use Rattle.js_grammar.proofs.Calculus.{On, Inside, inside_full, ◌▹◌, ◌▹✗◌, here_at, done, left, right, looks, part_fails, fails_node, fails_look, fails_alt, weaken_on}
 use Rattle.js_grammar.proofs.FollowLaws.{fails_by}
 use Rattle.js_base.specs.declared.token.Token.{Token}
@@ -41,6 +40,7 @@ use Rattle.js_base.specs.declared.kind.Kind.TheVariants.{Undetermined}
 use Rattle.js_grammar.specs.Lexed.{Lex as StandsBehind, all_faults}
 use Rattle.js_grammar.specs.Lexemes.{is_escaped}
 use Rattle.js_grammar.specs.Marks.{Mark, a_lexeme}
+use Rattle.js_grammar.specs.RightEdges.{may_end}
 use Rattle.laws_shared.specs.js_cursor.Moves.{Peeks}
 use Rattle.laws_shared.specs.js_cursor.Moves.{Keeps as Keeps_one}
 use Rattle.js_base.specs.declared.diagnostic.DiagnosticKind.TheVariants.{LineterminatorBeforeArrow}

@@ -17,12 +17,13 @@ use Rattle.js_grammar.specs.Parsing.{Fails, plain, full, always}
 use Rattle.js_grammar.specs.Productions.{Flags, Symbol, at, any_of, branches, Arrow', Assignment, Conditional, Params, Short, SimpleTarget, Target, ArrayTarget, ObjectTarget}
 use Rattle.js_grammar.specs.Productions.{sym as symbol}
 use Rattle.js_grammar.specs.Table.{rule, rule_of, args}
+use Rattle.js_grammar.specs.RightEdges.{of_operand}
 use Rattle.js_grammar.proofs.Behind.{lexed_behind}
 use Rattle.js_grammar.proofs.Calculus.{◌▹◌, ◌▹✗◌, here_at, left, right, fails_alt, fails_node, inside_full, weaken_fails_on}
 use Rattle.js_grammar.proofs.FollowLaws.{fails_by, row_claimed, same_read}
 use Rattle.js_grammar.proofs.Heads.{One, the_last, and_more, begins_head, of_operands, operand_taken}
 use Rattle.js_grammar.proofs.Looks.{apart, covers, covered, not_both}
-use Rattle.js_grammar.proofs.RightEdges.{first_row, of_operand}
+use Rattle.js_grammar.proofs.RightEdges.{first_row}
 use Rattle.js_grammar.proofs.Finding.{contrary}
 use Rattle.laws_shared.specs.js_tree.declared.id.NodeId.{NodeId}
 use Rattle.laws_shared.specs.js_tree.Holding.{Holds, Keeps}

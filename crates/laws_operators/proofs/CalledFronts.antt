@@ -10,12 +10,13 @@ use Rattle.js_grammar.specs.Insertion.{Row, after_expression, after_postfix, aft
 use Rattle.js_grammar.specs.Parsing.{full, always}
 use Rattle.js_grammar.specs.Productions.{G, Flags, Name, Symbol, Program, Short, Coalesce, Or, And, BitOr, BitXor, BitAnd, Equality, Relational, Shift, Additive, Multiply, Exponent, Unary, Update, LeftHandSide, New, Member, Call, Chain, Links, Argument, Primary, FuncExpr, IdentifierReference, SimpleTarget}
 use Rattle.js_grammar.specs.Table.{rule, rule_of, args}
+use Rattle.js_grammar.specs.RightEdges.{same_row}
 use Rattle.js_grammar.proofs.First.{starts, starting}
 use Rattle.js_grammar.proofs.FirstClaims.{firsts}
 use Rattle.js_grammar.proofs.Frame.{framed}
 use Rattle.js_grammar.proofs.Heads.{begins_head, of_operands}
 use Rattle.js_grammar.proofs.Looks.{apart, covered, not_both}
-use Rattle.js_grammar.proofs.RightEdges.{first_row, same_row}
+use Rattle.js_grammar.proofs.RightEdges.{first_row}
 use Rattle.laws_operators.proofs.ParenthesizedFronts.{Same}
 
 abbrev the_word : Look

@@ -11,6 +11,7 @@ use Rattle.js_grammar.specs.Table.{rule, rule_of}
 use Rattle.js_grammar.specs.FirstSets.{first}
 use Rattle.js_grammar.specs.Insertion.{Row, after_expression, after_postfix, after_body, after_yield, after_declarator, after_word}
 use Rattle.js_grammar.specs.Follow.{edge_of, row_of, first_edge, follow, after, widest, surest, looser}
+use Rattle.js_grammar.specs.RightEdges.{of_operand}
 use Rattle.js_grammar.proofs.Looks.{covers, covered, apart, not_both}
 use Rattle.js_grammar.proofs.Calculus.{On, Inside, Within, here_at, ◌▹◌, ◌▹✗◌, stay, left, right, by_rule, fails_alt, fails_never, fails_node, part_fails, then_by, makes_by, weaken_on, weaken_fails_on}
 use Rattle.js_grammar.proofs.Chains.{is_coalesce, base_of, links_of, coalesces}
@@ -19,7 +20,6 @@ use Rattle.js_grammar.proofs.FirstClaims.{firsts}
 use Rattle.js_grammar.proofs.FirstRules.{by_first, fails_here}
 use Rattle.js_grammar.proofs.FollowLaws.{admits, surely, looser_than, passes_on, same_read, fails_by}
 use Rattle.js_grammar.proofs.Loops.{Follows, Edges, Alone, start, start_fails, step, step_fails, finish, recap, rekept, unfollowed}
-use Rattle.js_grammar.proofs.RightEdges.{of_operand}
 use Rattle.js_grammar.proofs.Towers.{Among, Link, link, linked_label, make_of, this, of_left, of_right, an_link}
 use Rattle.js_base.specs.declared.operator.AssignmentOperator.{AssignmentOperator}
 use Rattle.js_base.specs.declared.operator.AssignmentOperator.TheVariants as assignment

@@ -15,6 +15,7 @@ use Rattle.js_grammar.specs.Productions.{G, Flags, at, tok, Exponent, Symbol}
 use Rattle.js_grammar.specs.Table.{rule}
 use Rattle.js_grammar.specs.Levels.{level_at, node_at, operators_at, top_level, feet_at}
 use Rattle.js_grammar.specs.Follow.{row_of, tight, looser, after}
+use Rattle.js_grammar.specs.RightEdges.{of_operand, may_end}
 use Rattle.js_grammar.proofs.Calculus.{◌▹◌, ◌▹✗◌}
 use Rattle.js_grammar.proofs.Towers.{OneOf, head, later, linked_label, Link, of_operations}
 use Rattle.js_grammar.proofs.Loops.{Around, Step, finish, part_at}
@@ -22,7 +23,6 @@ use Rattle.js_grammar.proofs.Operators.{levels, operates, climbs}
 use Rattle.js_grammar.proofs.OperatorEdges.{level_looser, operator_exactly, operator_level, last_at, some_level}
 use Rattle.js_grammar.proofs.OperatorLoops.{loop_start, loop_start_fails}
 use Rattle.laws_operators.proofs.SlashOperators.{division_sign, operator_plain, slash_step, slash_step_fails}
-use Rattle.js_grammar.proofs.RightEdges.{of_operand, may_end}
 use Rattle.laws_shared.specs.js_tree.declared.id.NodeId.{NodeId}
 use Rattle.laws_shared.specs.js_tree.Nodes.{Node}
 use Rattle.laws_shared.specs.js_tree.Holding.{Holds, Keeps}

@@ -14,6 +14,7 @@ use Rattle.js_grammar.specs.Parsing.{Admits, full, always}
 use Rattle.js_grammar.specs.Productions.{G, Flags, Name, Symbol, at, plus_in, Program, Expression, Assignment, Short, Coalesce, Or, And, BitOr, BitXor, BitAnd, Equality, Relational, Shift, Additive, Multiply, Exponent, Unary, Update, LeftHandSide, New, Member, Call, Chain, Links, Argument, Primary, FuncExpr, IdentifierReference, SimpleTarget}
 use Rattle.js_grammar.specs.Productions.{sym as symbol}
 use Rattle.js_grammar.specs.Table.{rule, rule_of, args}
+use Rattle.js_grammar.specs.RightEdges.{of_operand}
 use Rattle.js_grammar.proofs.Behind.{lexed_behind}
 use Rattle.js_grammar.proofs.Calculus.{here_at}
 use Rattle.js_grammar.proofs.First.{starts, starting}
@@ -21,7 +22,7 @@ use Rattle.js_grammar.proofs.FirstClaims.{firsts}
 use Rattle.js_grammar.proofs.FollowLaws.{row_claimed}
 use Rattle.js_grammar.proofs.Heads.{One, the_last, and_more, in_one, of_operands, operand_taken}
 use Rattle.js_grammar.proofs.Looks.{apart, covers, covered, not_both}
-use Rattle.js_grammar.proofs.RightEdges.{of_operand, first_row}
+use Rattle.js_grammar.proofs.RightEdges.{first_row}
 use Rattle.js_grammar.proofs.Finding.{contrary}
 use Rattle.laws_shared.proofs.FreeOfIn.{any_in}
 use Rattle.laws_shared.proofs.Escapes.{read_plain}

@@ -16,10 +16,11 @@ use Rattle.js_grammar.specs.Productions.{sym as symbol}
 use Rattle.js_grammar.specs.Table.{rule, rule_of}
 use Rattle.js_base.specs.Texts.{words}
 use Rattle.js_grammar.specs.Follow.{after, looser, tight, row_of, surest}
+use Rattle.js_grammar.specs.RightEdges.{of_assignment}
 use Rattle.js_grammar.proofs.Looks.{covers, covered, apart, not_both}
 use Rattle.js_grammar.proofs.Calculus.{here_at, ends, passes_both, reaches_less, ◌▹◌, left, right, fails_alt, weaken_fails_on}
 use Rattle.js_grammar.proofs.FollowLaws.{admits, surely, same_read, fails_by}
-use Rattle.js_grammar.proofs.RightEdges.{of_assignment, edge_append}
+use Rattle.js_grammar.proofs.RightEdges.{edge_append}
 use Rattle.js_grammar.proofs.Frame.{append_assoc}
 use Rattle.laws_shared.specs.js_tree.declared.id.NodeId.{NodeId}
 use Rattle.laws_shared.specs.js_tree.declared.kind.NodeKind.TheVariants as node

@@ -14,6 +14,7 @@ use Rattle.js_grammar.specs.Table.{rule}
 use Rattle.js_grammar.specs.Levels.{feet_at, level_at, node_at, operators_at, operators_of, top_level}
 use Rattle.js_grammar.specs.Follow.{after, first_edge, follow, looser, row_of, tight}
 use Rattle.js_grammar.specs.FirstSets.{first}
+use Rattle.js_grammar.specs.RightEdges.{of_operand}
 use Rattle.js_grammar.proofs.FirstClaims.{firsts}
 use Rattle.js_grammar.proofs.FollowLaws.{counts_as_slash}
 use Rattle.js_grammar.proofs.Looks.{apart, not_both, same_self}
@@ -21,7 +22,6 @@ use Rattle.js_grammar.proofs.Loops.{Alone, Around, Step, listed, one_operator, p
 use Rattle.js_grammar.proofs.OperatorEdges.{level_looser, one_level, operator_edges, operator_exactly}
 use Rattle.js_grammar.proofs.OperatorLoops.{operand_follow}
 use Rattle.js_grammar.proofs.Operators.{climbs, levels, operates}
-use Rattle.js_grammar.proofs.RightEdges.{of_operand}
 use Rattle.js_grammar.proofs.Towers.{Link, OneOf, linked_label}
 use Rattle.laws_shared.specs.Lexemes.{Lex, Plain, other_goals, slashes}
 use Rattle.laws_shared.specs.Operators.{power_of}

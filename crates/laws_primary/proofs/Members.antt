@@ -24,7 +24,6 @@ use Rattle.js_grammar.proofs.FirstClaims.{firsts}
 use Rattle.js_grammar.proofs.FirstRules.{by_first, fails_here}
 use Rattle.js_grammar.proofs.FollowLaws.{fails_by, surely}
 use Rattle.js_grammar.proofs.Lexemes.{first_or}
-use Rattle.js_grammar.proofs.RightEdges.{may_end, same_row}
 use Rattle.js_base.specs.declared.diagnostic.DiagnosticKind.TheVariants as fault
 use Rattle.js_grammar.specs.Lexed.{all_faults}
 use Rattle.js_grammar.specs.Lexed.{Lex as StandsBehind}
@@ -79,6 +78,7 @@ use Rattle.laws_primary.specs.declared.forms.LinkBase.{LinkBase}
 use Rattle.laws_primary.specs.declared.forms.LinkBase.TheVariants as base
 use Rattle.js_base.specs.Texts.{words}
 use Rattle.js_grammar.specs.Lexemes.{is_word as is_name_word}
+use Rattle.js_grammar.specs.RightEdges.{same_row, may_end}
 use Rattle.laws_shared.proofs.Classes.{here_ends}
 use Rattle.js_base.specs.declared.diagnostic.DiagnosticKind.TheVariants.{ExpectClosing}
 use Rattle.laws_shared.proofs.Tight.{plain_is_read, plain_lex}

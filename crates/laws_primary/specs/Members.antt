@@ -15,9 +15,9 @@ use Rattle.js_grammar.specs.Parsing.{Test, Fails, always, plain, full}
 use Rattle.js_grammar.specs.Productions.{G, Flags, Symbol, at, mk, tok, optional_flag, plus_in, Member, Call, Links, Super, LeftHandSide, IdentifierName, Expression}
 use Rattle.js_grammar.specs.Productions.{New as new_symbol, sym as symbol}
 use Rattle.js_grammar.specs.Table.{rule, args}
+use Rattle.js_grammar.specs.RightEdges.{same_row}
 use Rattle.js_grammar.proofs.Chains.{members, calls, chains}
 use Rattle.js_grammar.proofs.Loops.{Around}
-use Rattle.js_grammar.proofs.RightEdges.{same_row}
 use Rattle.js_grammar.proofs.Towers.{Tower, Link, link}
 use Rattle.laws_shared.specs.js_tree.declared.id.NodeId.{NodeId}
 use Rattle.laws_shared.specs.js_tree.Holding.{Holds, Keeps}

@@ -18,10 +18,11 @@ use Rattle.js_grammar.specs.Productions.{G, Flags, at, tok, Assignment, Binding,
 use Rattle.js_grammar.specs.Productions.{sym as symbol}
 use Rattle.js_grammar.specs.Table.{rule, rule_of, declarator}
 use Rattle.js_grammar.specs.Follow.{after, first_edge, looser, row_of, surest}
+use Rattle.js_grammar.specs.RightEdges.{of_assignment}
 use Rattle.js_grammar.proofs.Looks.{covers, covered, apart, not_both}
 use Rattle.js_grammar.proofs.Calculus.{here_at, ends, passes_both, reaches_less}
 use Rattle.js_grammar.proofs.FollowLaws.{surely, assignment_ended}
-use Rattle.js_grammar.proofs.RightEdges.{of_assignment, at_row}
+use Rattle.js_grammar.proofs.RightEdges.{at_row}
 use Rattle.js_grammar.proofs.Finding.{either_of, implied}
 use Rattle.parse_shared.specs.js_tree.declared.id.NodeId.{NodeId}
 use Rattle.parse_shared.specs.js_tree.declared.kind.NodeKind.TheVariants as node
