@@ -10,6 +10,8 @@ pub mod Levels
 pub mod Follow
 pub mod RightEdges
 pub mod Parsing
+pub mod Towers
+pub mod Chains
 pub mod Lines
 pub mod BoundNames
 pub mod Settings

@@ -133,7 +133,6 @@ module _ (Q : Span → Type 0) where
 
 -- of which it is so near each lexeme
 module _ (Q : Span → Type 0) (L : ℕ → Lexeme → Type 0) (told : (i : ℕ) (x : Lexeme) → L i x → (e : Extent) (p : Look) → is_near e p ≡ true → IsTrue (seen p x) → (ls : Lexemes) → Q (span_of e (next x ls) x.to ls)) where
-
   at_node : (m : Make) (a : G) → Fits (node m a) → {ks cs us : Slots} {i j : ℕ} {ls rest : Lexemes} → Takes rule a ks cs i ls us j rest → Lexes L i ls → is_lexical m.kind ≡ true → Q (label_of m ls j rest).span
   at_node m (lexeme p) w {i = i} (is_lexeme {x = x} {ls = ls} h) l q = told i x l.0 m.extent p (holds_if (is_lexical m.kind) (is_near m.extent p) w q) h ls
   at_node m a w d l q = absurd (false≢true (sym w.0 ∙ q))

@@ -343,7 +343,6 @@ module _ {text : List ℕ} {f : Flags} {p : Parser} (a : At text f p) where
 -- ---- what stands behind a name
 
 module _ {text : List ℕ} {f : Flags} {p : Parser} {t : Token} (a : At text f p) (h : Peeks p t) where
-
   -- an arrow is told where it stands
   pub arrow_peeked : (y : Lexeme) → Lex text p.token.span.end y → y.kind ≡ Arrow → t.kind ≡ Arrow
   arrow_peeked y l k = given_behind a h

@@ -16,10 +16,11 @@ use Rattle.js_grammar.specs.Table.{rule}
 use Rattle.js_grammar.specs.Levels.{level_at, node_at, operators_at, top_level, feet_at}
 use Rattle.js_grammar.specs.Follow.{row_of, tight, looser, after}
 use Rattle.js_grammar.specs.RightEdges.{of_operand, may_end}
+use Rattle.js_grammar.specs.Towers.{Link, linked_label, Around}
 use Rattle.js_grammar.proofs.Calculus.{◌▹◌, ◌▹✗◌}
-use Rattle.js_grammar.proofs.Towers.{OneOf, head, later, linked_label, Link, of_operations}
-use Rattle.js_grammar.proofs.Loops.{Around, Step, finish, part_at}
-use Rattle.js_grammar.proofs.Operators.{levels, operates, climbs}
+use Rattle.js_grammar.proofs.Towers.{OneOf, head, later, of_operations}
+use Rattle.js_grammar.proofs.Loops.{Step, finish, part_at}
+use Rattle.js_grammar.proofs.Operators.{levels, operates}
 use Rattle.js_grammar.proofs.OperatorEdges.{level_looser, operator_exactly, operator_level, last_at, some_level}
 use Rattle.js_grammar.proofs.OperatorLoops.{loop_start, loop_start_fails}
 use Rattle.laws_operators.proofs.SlashOperators.{division_sign, operator_plain, slash_step, slash_step_fails}
@@ -317,7 +318,7 @@ module _ {text : List ℕ} {f : Flags} where
         not_true false i = refl
 
     operators_over : {ks : Slots} {l : Label} {cs : Slots} {from : ℕ} {way : Way} → Around (Lex text) (after (level_at f m)) (levels f) m p.prev_token_end from s.cap l cs q.prev_token_end way → Reads rule (Lex text) (after (level_at f m)) ks (such (level_at f m) always) p.prev_token_end q.prev_token_end (tree l cs) way
-    operators_over a = finish firsts refl (λ l cs vs y e. e) a (λ q' x st y l t. no_operator q' st.0 st.1 y l (part_plain q' x st y.kind y.newline y.escaped t) (part_at firsts (level_at f) top_level node_at (feet_at f) (operators_at f) (climbs f) m s.cap q' x st y.kind y.newline y.escaped t).0)
+    operators_over a = finish firsts refl (λ l cs vs y e. e) a (λ q' x st y l t. no_operator q' st.0 st.1 y l (part_plain q' x st y.kind y.newline y.escaped t) (part_at firsts (level_at f) top_level node_at (feet_at f) (operators_at f) m s.cap q' x st y.kind y.newline y.escaped t).0)
 
     pub operands_answer : m ≤ 10 → Numbered text f (level_at f m) p t id
     operands_answer h = record {

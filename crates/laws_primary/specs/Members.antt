@@ -16,9 +16,8 @@ use Rattle.js_grammar.specs.Productions.{G, Flags, Symbol, at, mk, tok, optional
 use Rattle.js_grammar.specs.Productions.{New as new_symbol, sym as symbol}
 use Rattle.js_grammar.specs.Table.{rule, args}
 use Rattle.js_grammar.specs.RightEdges.{same_row}
-use Rattle.js_grammar.proofs.Chains.{members, calls, chains}
-use Rattle.js_grammar.proofs.Loops.{Around}
-use Rattle.js_grammar.proofs.Towers.{Tower, Link, link}
+use Rattle.js_grammar.specs.Towers.{Link, link, Tower, Around}
+use Rattle.js_grammar.specs.Chains.{members, calls, chains}
 use Rattle.laws_shared.specs.js_tree.declared.id.NodeId.{NodeId}
 use Rattle.laws_shared.specs.js_tree.Holding.{Holds, Keeps}
 use Rattle.laws_shared.specs.js_cursor.Parsers.{Parser}

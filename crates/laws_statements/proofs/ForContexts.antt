@@ -52,7 +52,6 @@ module _ {text : List ℕ} (w : Bool) (e : Ending) (f : Flags) where
 -- ---- the states
 
 module _ {text : List ℕ} where
-
   out_of : {f : Flags} {w : Bool} {p q : Parser} {c : Context} {first : Option NodeId} → At text f p → FirstTaken text (minus_in f) w (record p { ctx = c }) q first → FirstTaken text f w p (record q { ctx = p.ctx }) first
   out_of {f} {w} {p} {q} {c} a x = record {
     at = at_under p.ctx (flags_same p (record q { ctx = p.ctx }) refl x.same.follows.source_type x.same.options ∙ a.flags_are) x.at;
