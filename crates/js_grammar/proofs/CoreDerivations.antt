@@ -13,6 +13,7 @@ use Rattle.js_grammar.specs.CoreGrammar.{core_kinds, dead, stands_inside, core_o
 use Rattle.js_grammar.specs.CoreReadings.{core_lexeme, AllCore}
 use Rattle.js_grammar.proofs.CoreProductions.{core_at, dead_at}
 use Rattle.js_grammar.proofs.Renamed.{paired}
+use Rattle.js_grammar.proofs.Behind.{left_behind}
 
 abbrev prune : G → G
 prune = pruned dead core_kinds
@@ -68,24 +69,7 @@ core_here (next x ls) c = c.0
 
 -- what is left is core lexemes still
 pub stays : {r : Symbol → G} {g : G} {ks ts us : Slots} {i j : ℕ} {ls rest : Lexemes} → Takes r g ks ts i ls us j rest → AllCore ls → AllCore rest
-stays is_nothing c = c
-stays (is_lexeme p) c = c.1
-stays (is_look p) c = c
-stays (is_text p) c = c
-stays (is_ahead d) c = c
-stays is_empty_slot c = c
-stays (is_seq d e) c = stays e (stays d c)
-stays (is_left d) c = stays d c
-stays (is_right d) c = stays d c
-stays (is_when q d) c = stays d c
-stays (is_many d) c = stays d c
-stays (is_commas d) c = stays d c
-stays (is_such d q) c = stays d c
-stays (is_marked d) c = stays d c
-stays (is_node d) c = stays d c
-stays (is_ended q d e) c = stays e (stays d c)
-stays (is_keep d e) c = stays e (stays d c)
-stays (is_kept q) c = c
+stays d c = left_behind AllCore (λ x ls h. h.1) d c
 
 -- What is taken isn't nothing at all.
 none : {g : G} {ks ts us : Slots} {i j : ℕ} {ls rest : Lexemes} → Takes left g ks ts i ls us j rest → is_never g ≡ true → ⊥
