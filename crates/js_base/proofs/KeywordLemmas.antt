@@ -5,8 +5,7 @@ use Rattle.std.specs.Str.{bytes_eq}
 use Rattle.std.proofs.lemmas.Slice.Eq.{bytes_eq-Decides}
 use Rattle.std.proofs.lemmas.Bool.Decides.{Decides-eqb}
 use Rattle.std.proofs.lemmas.Bool.{and_parts}
-use Rattle.js_base.proofs.KindLemmas.{all_of}
-use Rattle.js_base.specs.Kinds.{Kind, Ident}
+use Rattle.js_base.specs.Kinds.{Kind, Ident, every_kind}
 use Rattle.js_base.specs.Texts.{text_of, words}
 use Rattle.js_base.specs.Keywords.{begins_with, first_with_text, keyword_of}
 
@@ -59,10 +58,10 @@ skipped k ks b cs true p q r h =
     absurd (cc)
 skipped k ks b cs false p q r h = rw p h
 
-none_begins : (ks : List Kind) (b : ℕ) (cs : List ℕ) → all_of (begins_among cs) ks ≡ true → is_among cs b ≡ false → filter (begins_with b) ks ≡ []
+none_begins : (ks : List Kind) (b : ℕ) (cs : List ℕ) → every_kind (begins_among cs) ks ≡ true → is_among cs b ≡ false → filter (begins_with b) ks ≡ []
 none_begins [] b cs a n = refl
 none_begins (k ∷ ks) b cs a n =
-    let parts = and_parts (begins_among cs k) (all_of (begins_among cs) ks) a in
+    let parts = and_parts (begins_among cs k) (every_kind (begins_among cs) ks) a in
     skipped k ks b cs (begins_with b k) refl parts.0 n (none_begins ks b cs parts.1 n)
 
 pub filter-words-none : (b : ℕ) → is_among first_bytes b ≡ false → filter (begins_with b) words ≡ []

@@ -1,7 +1,7 @@
 -- Two kinds with one code are one kind; a claim on each of the list is one on every kind.
 use Rattle.std.proofs.Common.{ℕ, zero, suc, List, [], ◌∷◌, length, get_or, ◌≡◌, ◌<◌, Bool, true, ◌&&◌, refl, ap, sym, ◌∙◌, eqb-true, lit<, arith, subst}
 use Rattle.std.proofs.lemmas.Bool.{and_parts}
-use Rattle.js_base.specs.Kinds.{Kind, kinds, code, same_kind, Break, Case, Catch, Class, Const, Continue, Debugger, Default, Delete, Do, Else, Enum, Export, Extends, False, Finally, For, Function, If, Import, In, Instanceof, New, Null, Return, Super, Switch, This, Throw, True, Try, Typeof, Var, Void, While, With, Let, Static, Implements, Interface, Package, Private, Protected, Public, Yield, Await, Async, Of, Get, Set, As, From, Assert, Accessor, Using, Defer, Source, Meta, Target, Satisfies, Constructor, TypeWord, LParen, RParen, LCurly, RCurly, LBrack, RBrack, Semicolon, Comma, Colon, Dot, Dot3, Arrow, At, Tilde, Bang, Question, QuestionDot, Question2, Question2Eq, Plus, Plus2, PlusEq, Minus, Minus2, MinusEq, Star, Star2, StarEq, Star2Eq, Slash, SlashEq, Percent, PercentEq, Eq, Eq2, Eq3, Neq, Neq2, LAngle, LtEq, RAngle, GtEq, ShiftLeft, ShiftLeftEq, ShiftRight, ShiftRightEq, ShiftRight3, ShiftRight3Eq, Amp, Amp2, AmpEq, Amp2Eq, Pipe, Pipe2, PipeEq, Pipe2Eq, Caret, CaretEq, Ident, PrivateIdentifier, Str, Decimal, Float, Binary, Octal, Hex, PositiveExponential, NegativeExponential, DecimalBigInt, BinaryBigInt, OctalBigInt, HexBigInt, RegExp, NoSubstitutionTemplate, TemplateHead, TemplateMiddle, TemplateTail, HashbangComment, Eof, Undetermined}
+use Rattle.js_base.specs.Kinds.{Kind, kinds, code, same_kind, Break, Case, Catch, Class, Const, Continue, Debugger, Default, Delete, Do, Else, Enum, Export, Extends, False, Finally, For, Function, If, Import, In, Instanceof, New, Null, Return, Super, Switch, This, Throw, True, Try, Typeof, Var, Void, While, With, Let, Static, Implements, Interface, Package, Private, Protected, Public, Yield, Await, Async, Of, Get, Set, As, From, Assert, Accessor, Using, Defer, Source, Meta, Target, Satisfies, Constructor, TypeWord, LParen, RParen, LCurly, RCurly, LBrack, RBrack, Semicolon, Comma, Colon, Dot, Dot3, Arrow, At, Tilde, Bang, Question, QuestionDot, Question2, Question2Eq, Plus, Plus2, PlusEq, Minus, Minus2, MinusEq, Star, Star2, StarEq, Star2Eq, Slash, SlashEq, Percent, PercentEq, Eq, Eq2, Eq3, Neq, Neq2, LAngle, LtEq, RAngle, GtEq, ShiftLeft, ShiftLeftEq, ShiftRight, ShiftRightEq, ShiftRight3, ShiftRight3Eq, Amp, Amp2, AmpEq, Amp2Eq, Pipe, Pipe2, PipeEq, Pipe2Eq, Caret, CaretEq, Ident, PrivateIdentifier, Str, Decimal, Float, Binary, Octal, Hex, PositiveExponential, NegativeExponential, DecimalBigInt, BinaryBigInt, OctalBigInt, HexBigInt, RegExp, NoSubstitutionTemplate, TemplateHead, TemplateMiddle, TemplateTail, HashbangComment, Eof, Undetermined, every_kind}
 
 pub at_code : (k : Kind) → get_or kinds (code k) Eof ≡ k
 unfolding kinds
@@ -296,14 +296,10 @@ below_length Undetermined = lit< tt
 pub kind_of_same : (a b : Kind) → same_kind a b ≡ true → a ≡ b
 kind_of_same a b h = sym (at_code a) ∙ ap (λ n. get_or kinds n Eof) (eqb-true (code a) (code b) h) ∙ at_code b
 
-abbrev pub all_of : (Kind → Bool) → List Kind → Bool
-all_of p [] = true
-all_of p (k ∷ ks) = p k && all_of p ks
+every_kind_at : (p : Kind → Bool) (ks : List Kind) (i : ℕ) → i < length ks → every_kind p ks ≡ true → p (get_or ks i Eof) ≡ true
+every_kind_at p [] i h e = absurd (omega arith)
+every_kind_at p (k ∷ ks) zero h e = (and_parts (p k) (every_kind p ks) e).0
+every_kind_at p (k ∷ ks) (suc i) h e = every_kind_at p ks i (omega arith) (and_parts (p k) (every_kind p ks) e).1
 
-all_of_at : (p : Kind → Bool) (ks : List Kind) (i : ℕ) → i < length ks → all_of p ks ≡ true → p (get_or ks i Eof) ≡ true
-all_of_at p [] i h e = absurd (omega arith)
-all_of_at p (k ∷ ks) zero h e = (and_parts (p k) (all_of p ks) e).0
-all_of_at p (k ∷ ks) (suc i) h e = all_of_at p ks i (omega arith) (and_parts (p k) (all_of p ks) e).1
-
-pub at_each : (p : Kind → Bool) → all_of p kinds ≡ true → (k : Kind) → p k ≡ true
-at_each p h k = subst (λ x. p x ≡ true) (at_code k) (all_of_at p kinds (code k) (below_length k) h)
+pub at_each : (p : Kind → Bool) → every_kind p kinds ≡ true → (k : Kind) → p k ≡ true
+at_each p h k = subst (λ x. p x ≡ true) (at_code k) (every_kind_at p kinds (code k) (below_length k) h)

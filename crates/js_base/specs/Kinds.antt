@@ -1,5 +1,5 @@
 -- The kinds of lexemes, and tests of them.
-use Rattle.std.specs.Prelude.{ℕ, Bool, false, List, [], ◌∷◌, nat_eq, ◌||◌}
+use Rattle.std.specs.Prelude.{ℕ, Bool, true, false, List, [], ◌∷◌, nat_eq, ◌&&◌, ◌||◌}
 pub use Rattle.js_base.specs.declared.kind.Kind.{Kind}
 pub use Rattle.js_base.specs.declared.kind.Kind.TheVariants.{Break, Case, Catch, Class, Const, Continue, Debugger, Default, Delete, Do, Else, Enum, Export, Extends, False, Finally, For, Function, If, Import, In, Instanceof, New, Null, Return, Super, Switch, This, Throw, True, Try, Typeof, Var, Void, While, With, Let, Static, Implements, Interface, Package, Private, Protected, Public, Yield, Await, Async, Of, Get, Set, As, From, Assert, Accessor, Using, Defer, Source, Meta, Target, Satisfies, Constructor, TypeWord, LParen, RParen, LCurly, RCurly, LBrack, RBrack, Semicolon, Comma, Colon, Dot, Dot3, Arrow, At, Tilde, Bang, Question, QuestionDot, Question2, Question2Eq, Plus, Plus2, PlusEq, Minus, Minus2, MinusEq, Star, Star2, StarEq, Star2Eq, Slash, SlashEq, Percent, PercentEq, Eq, Eq2, Eq3, Neq, Neq2, LAngle, LtEq, RAngle, GtEq, ShiftLeft, ShiftLeftEq, ShiftRight, ShiftRightEq, ShiftRight3, ShiftRight3Eq, Amp, Amp2, AmpEq, Amp2Eq, Pipe, Pipe2, PipeEq, Pipe2Eq, Caret, CaretEq, Ident, PrivateIdentifier, Str, Decimal, Float, Binary, Octal, Hex, PositiveExponential, NegativeExponential, DecimalBigInt, BinaryBigInt, OctalBigInt, HexBigInt, RegExp, NoSubstitutionTemplate, TemplateHead, TemplateMiddle, TemplateTail, HashbangComment, Eof, Undetermined}
 
@@ -156,6 +156,11 @@ same_kind a b = nat_eq (code a) (code b)
 abbrev pub one_of_kinds : List Kind → Kind → Bool
 one_of_kinds [] k = false
 one_of_kinds (a ∷ as') k = same_kind a k || one_of_kinds as' k
+
+-- whether each kind of a list passes a test
+abbrev pub every_kind : (Kind → Bool) → List Kind → Bool
+every_kind p [] = true
+every_kind p (k ∷ ks) = p k && every_kind p ks
 
 -- every kind, in the order of `code`
 unfoldable pub kinds : List Kind

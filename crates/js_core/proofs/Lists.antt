@@ -4,7 +4,3 @@ use Rattle.std.proofs.Common.{◌≡◌, List, [], ◌∷◌, ◌++◌, refl}
 pub first_empty : {K : Type 0} (a b : List K) → a ++ b ≡ [] → a ≡ []
 first_empty [] b e = refl
 first_empty (x ∷ a) b e = absurd (cc)
-
-pub second_empty : {K : Type 0} (a b : List K) → a ++ b ≡ [] → b ≡ []
-second_empty [] b e = e
-second_empty (x ∷ a) b e = absurd (cc)

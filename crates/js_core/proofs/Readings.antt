@@ -43,7 +43,7 @@ use Rattle.parse_shared.proofs.laws_shared.Giving.{fails_none}
 use Rattle.parse_shared.proofs.laws_shared.Here.{alike, told, plain_there, kind_here}
 use Rattle.parse_shared.proofs.laws_shared.Paths.{at_kind, read_of}
 use Rattle.parse_statements.proofs.laws_statements.StatementLists.{none_left, text_ends}
-use Rattle.parse_shared.proofs.laws_shared.Verdicts.{grown_some}
+use Rattle.parse_shared.proofs.laws_shared.Verdicts.{grown_some, ending}
 use Rattle.parse_shared.specs.js_cursor.Starts.{is_module, is_commonjs}
 use Rattle.parse_shared.specs.js_tree.Nodes.{Node, empty_program}
 use Rattle.parse_shared.proofs.js_tree.HoldingLemmas.{HoldsAll-wider, HoldsAll-append, HoldsAll-one, Holds-kept, Holds-wider, Keeps-refl}
@@ -65,7 +65,7 @@ use Rattle.parse_shared.proofs.laws_shared.Moving.{standing, beside_nodes}
 use Rattle.js_core.specs.Readings.{options_of}
 use Rattle.js_core.specs.Readings.{parameters, ReadingBy, IsOnlyReadingBy, HasNoReadingBy, HasNoLooseReading}
 use Rattle.js_core.specs.Taken.{FoundNothing, ReadOrNot, ProgramTaken, ProgramStops}
-use Rattle.js_core.proofs.Lists.{first_empty, second_empty}
+use Rattle.js_core.proofs.Lists.{first_empty}
 use Rattle.js_base.specs.declared.source_type.Goal.TheVariants as source
 use Rattle.js_grammar.specs.Grammar.{Derives}
 use Rattle.js_grammar.specs.CoverInitialisers.{with_cover}
@@ -201,8 +201,8 @@ module _ {text : List ℕ} where
   -- where no fault was kept, none stands anywhere on the way
   right_there : {s s' : Spot} {pass : Lexemes → Lexemes} → Walked text s s' pass → s'.kept.errors ≡ [] → ((s.kept.errors ≡ []) → Right text s) → Right text s'
   right_there nowhere e h = h e
-  right_there (one_more {s' = m} {n = n} w i r) e h = i.faults.none (second_empty m.kept.errors n.faults e)
-  right_there (read_again {s' = m} {n = n} w ds k i) e h = i.faults.none (second_empty (m.kept.errors ++ ds) n.faults e)
+  right_there (one_more {s' = m} {n = n} w i r) e h = i.faults.none (ending m.kept.errors n.faults e)
+  right_there (read_again {s' = m} {n = n} w ds k i) e h = i.faults.none (ending (m.kept.errors ++ ds) n.faults e)
   right_there (more_faults {s' = m} w ds n) e h = right_there w (first_empty m.kept.errors ds e) h
 
   source_kept : {s s' : Spot} {pass : Lexemes → Lexemes} → Walked text s s' pass → s'.source ≡ s.source
@@ -219,7 +219,7 @@ module _ {text : List ℕ} where
   all_right (read_again {s' = m} {x = x} {n = n} w ds k i) e h ms l r =
       let both = first_empty (m.kept.errors ++ ds) n.faults e in
       let none = first_empty m.kept.errors ds both in
-      all_right w none h (next x ms) l (k.none (second_empty m.kept.errors ds both) (right_there w none h), r)
+      all_right w none h (next x ms) l (k.none (ending m.kept.errors ds both) (right_there w none h), r)
   all_right (more_faults {s' = m} w ds n) e h ms l r = all_right w (first_empty m.kept.errors ds e) h ms l r
 
   -- where some fault was kept, one stands on the way, or here

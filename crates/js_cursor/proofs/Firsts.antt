@@ -1,6 +1,6 @@
 -- What holds of the first token of a text.
 use Rattle.std.proofs.Common.{ℕ, ◌≡◌, ◌≤◌, inl, inr, Bool, true, false, List, [], ◌∷◌, ◌++◌, refl, sym, ap, subst, arith, ◌∙◌, not, ◌&&◌, ◌==◌, Some, None, Option}
-use Rattle.std.specs.Prelude.{IsTrue, ◌↔◌, IsUtf8, codes, is_some, chars, length, slice_index_or}
+use Rattle.std.specs.Prelude.{IsTrue, ◌↔◌, IsUtf8, codes, chars, length, slice_index_or}
 use Rattle.std.specs.List.{All}
 use Rattle.std.proofs.lemmas.Bool.{false≢true, eqb-true}
 use Rattle.std.proofs.lemmas.List.Elements.{All-append, All-same, All-cons, All-nil}
@@ -18,22 +18,21 @@ use Rattle.js_base.specs.declared.TheConstants.{MAX_LEN}
 use Rattle.js_base.specs.Spans.{LiesIn}
 use Rattle.js_tree.specs.js_grammar.Characters.{begins}
 use Rattle.js_tree.specs.js_grammar.CoreTexts.{starts}
-use Rattle.js_tree.specs.js_grammar.Lexemes.{division, hashbang, hashbang_kind, lexemes_in, kind_in}
+use Rattle.js_tree.specs.js_grammar.Lexemes.{division, hashbang, kind_in}
 use Rattle.js_tree.specs.js_grammar.LexicalFaults.{behind, FaultyBehind}
-use Rattle.js_tree.specs.js_grammar.Longest.{longest, none_longer}
+use Rattle.js_tree.specs.js_grammar.Longest.{longest}
 use Rattle.js_tree.specs.js_grammar.Marks.{Mark}
 use Rattle.js_tree.specs.js_grammar.ModuleRecords.{Part as Visit}
 use Rattle.js_tree.specs.js_grammar.Settings.{Goal}
 use Rattle.js_tree.specs.js_grammar.Trivia.{within_line}
-use Rattle.js_tree.proofs.js_grammar.CoreLemmas.{none_longer-from}
 use Rattle.js_tree.proofs.js_grammar.LongestLemmas.{both, both-left, both-right}
 use Rattle.js_lex.specs.Comments.{each_at, html_fault_at}
 use Rattle.js_lex.specs.Kept.{IsEmpty}
 use Rattle.js_lex.specs.Reading.{cut, GivesLexeme, GivesNone, Outcome, GivesNext, GivesHashbang, GivesFirst, in_a_module}
 use Rattle.js_lex.specs.part_words.Scans.{NoLexeme}
 use Rattle.js_lex.specs.States.{State, goal_of}
-use Rattle.js_lex.proofs.part_words.Fronts.{not_all}
 use Rattle.js_lex.proofs.part_words.KindsOfLexemes.{hashbang_is}
+use Rattle.js_lex.proofs.Hashbangs.{comment_is, longest_line}
 use Rattle.js_tree.specs.Nodes.{Node, empty_program}
 use Rattle.js_cursor.specs.Histories.{StandBefore}
 use Rattle.js_cursor.specs.Notes.{Notes, HasNone}
@@ -61,17 +60,6 @@ line (c ∷ cs) = one_more c cs (is_line_terminator c) refl (line cs)
 
 abbrev if_line : Bool → Option Kind
 if_line b = elim b [ true ↦ Some HashbangComment | false ↦ None ]
-
-comment_is : (w : List ℕ) → within_line w ≡ true → hashbang_kind (35 ∷ 33 ∷ w) ≡ Some HashbangComment
-comment_is w h = ap if_line h
-
-no_comment : (w : List ℕ) → within_line w ≡ false → hashbang_kind (35 ∷ 33 ∷ w) ≡ None
-no_comment w h = ap if_line h
-
-longest_line : (w rest : List ℕ) → within_line w ≡ true → begins (λ c. not (is_line_terminator c)) rest ≡ false → longest (lexemes_in hashbang) (35 ∷ 33 ∷ w) rest ≡ true
-longest_line w rest h l =
-    both (lexemes_in hashbang (35 ∷ 33 ∷ w) rest) (none_longer (lexemes_in hashbang) (35 ∷ 33 ∷ w) rest) (ap is_some (comment_is w h))
-    (none_longer-from (lexemes_in hashbang) (35 ∷ 33 ∷ w) rest (λ d x more e. ap is_some (no_comment (w ++ d ∷ x) (not_all (λ c. not (is_line_terminator c)) w d x (sym (ap (begins (λ c. not (is_line_terminator c))) e) ∙ l)))))
 
 opens_comment : (text cs : List ℕ) → behind text 0 ≡ 35 ∷ 33 ∷ cs → NoLexeme hashbang text 0 → ⊥
 opens_comment text cs e none =

@@ -1,5 +1,5 @@
 -- Later places: what was kept is still there, so that the parser may go back; and a bracket that was passed was opened.
-use Rattle.std.proofs.Common.{ℕ, ◌≡◌, ◌≤◌, inl, inr, Bool, true, false, List, [], ◌∷◌, ◌++◌, length, take, refl, sym, ap, subst, arith, ◌∙◌, length-append, append_assoc, append-nil, ◌&&◌, Option}
+use Rattle.std.proofs.Common.{ℕ, ◌≡◌, ◌≤◌, inl, inr, Bool, true, false, List, [], ◌∷◌, ◌++◌, length, take, refl, sym, ap, subst, arith, ◌∙◌, length-append, append-nil, ◌&&◌, Option}
 use Rattle.std.specs.Prelude.{IsCharBoundary}
 use Rattle.std.proofs.Math.Seq.{take-append_seam}
 use Rattle.std.proofs.lemmas.Bool.{false≢true}
@@ -17,6 +17,7 @@ use Rattle.js_tree.specs.js_grammar.Settings.{Goal}
 use Rattle.js_lex.specs.Kept.{lengths_of, AreAtMost}
 use Rattle.js_lex.specs.Reading.{is_kept}
 use Rattle.js_lex.specs.States.{goal_of}
+use Rattle.js_lex.proofs.Keeping.{twice}
 use Rattle.js_tree.specs.Nodes.{Node}
 use Rattle.js_tree.specs.Holding.{Keeps as KeepsNodes}
 use Rattle.js_tree.proofs.HoldingLemmas.{Keeps-refl, Keeps-trans}
@@ -53,9 +54,6 @@ follows_itself p = record {
   still = still_itself p.lexer p.token;
 }
 
-then : {X : Type 0} (a b c x y : List X) → b ≡ a ++ x → c ≡ b ++ y → c ≡ a ++ (x ++ y)
-then a b c x y e f = f ∙ ap (λ v. v ++ y) e ∙ append_assoc a x y
-
 pub follows_on : {p q r : Parser} → Follows p q → Follows q r → Follows p r
 follows_on {p} {q} {r} f g = record {
   text = g.text ∙ f.text;
@@ -63,15 +61,15 @@ follows_on {p} {q} {r} f g = record {
   options = g.options ∙ f.options;
   nodes = Keeps-trans f.nodes g.nodes;
   later_errors = f.later_errors ++ g.later_errors;
-  errors = then p.errors q.errors r.errors f.later_errors g.later_errors f.errors g.errors;
+  errors = twice p.errors q.errors r.errors f.later_errors g.later_errors f.errors g.errors;
   later_visits = f.later_visits ++ g.later_visits;
-  visits = then p.visits q.visits r.visits f.later_visits g.later_visits f.visits g.visits;
+  visits = twice p.visits q.visits r.visits f.later_visits g.later_visits f.visits g.visits;
   later_covers = f.later_covers ++ g.later_covers;
-  covers = then p.state.covers q.state.covers r.state.covers f.later_covers g.later_covers f.covers g.covers;
+  covers = twice p.state.covers q.state.covers r.state.covers f.later_covers g.later_covers f.covers g.covers;
   later_commas = f.later_commas ++ g.later_commas;
-  commas = then p.state.commas q.state.commas r.state.commas f.later_commas g.later_commas f.commas g.commas;
+  commas = twice p.state.commas q.state.commas r.state.commas f.later_commas g.later_commas f.commas g.commas;
   later_faults = f.later_faults ++ g.later_faults;
-  faults = then p.lexer.kept.errors q.lexer.kept.errors r.lexer.kept.errors f.later_faults g.later_faults f.faults g.faults;
+  faults = twice p.lexer.kept.errors q.lexer.kept.errors r.lexer.kept.errors f.later_faults g.later_faults f.faults g.faults;
   longer = record {
     comments = let a = f.longer.comments in let b = g.longer.comments in omega arith;
     irregular_whitespaces = let a = f.longer.irregular_whitespaces in let b = g.longer.irregular_whitespaces in omega arith;

@@ -4,7 +4,7 @@ use Rattle.std.specs.Prelude.{codes, bytes_eq, nat_eq}
 use Rattle.std.specs.List.{starts_with}
 use Rattle.std.proofs.lemmas.List.{take_all, length-drop}
 use Rattle.std.specs.Cmp.Lexicographic.{pointwise}
-use Rattle.std.proofs.lemmas.Bool.{false≢true, eqb-true, eq-eqb}
+use Rattle.std.proofs.lemmas.Bool.{false≢true, eqb-true}
 use Rattle.js_base.specs.declared.kind.Kind.TheVariants.{Undetermined, Eof}
 use Rattle.js_base.specs.declared.span.Span.{Span}
 use Rattle.js_base.specs.declared.token.Token.{Token}
@@ -13,6 +13,7 @@ use Rattle.js_tree.specs.js_grammar.Lexed.{Lexes, end_of, join}
 use Rattle.js_tree.specs.js_grammar.Marks.{Plain, NoPlain, begins_marker, begins_middle, begins_closing, middle_marker, closing_marker, seven_from}
 use Rattle.js_tree.proofs.js_grammar.Parts.{joins}
 use Rattle.js_tree.proofs.js_grammar.LongestLemmas.{both-left, both-right}
+use Rattle.js_tree.proofs.js_grammar.Finding.{eqb-turn}
 use Rattle.js_lex.specs.Kept.{Extends}
 use Rattle.js_lex.specs.Reading.{Tells}
 use Rattle.js_lex.specs.States.{State, SameText}
@@ -21,14 +22,6 @@ use Rattle.js_cursor.specs.Markers.{lexeme_of, or_else, middle_with, Seen, nothi
 use Rattle.js_cursor.proofs.Moving.{end_of-join, lexeme_some}
 
 -- ---- comparing bytes
-
-eqb-turn : (a b : ℕ) → (a == b) ≡ (b == a)
-eqb-turn a b = go (a == b) refl (b == a) refl
-  where
-    go : (x : Bool) → (a == b) ≡ x → (y : Bool) → (b == a) ≡ y → x ≡ y
-    go true e y f = sym (eq-eqb b a (sym (eqb-true a b e))) ∙ f
-    go false e true f = absurd (false≢true (sym e ∙ eq-eqb a b (sym (eqb-true b a f))))
-    go false e false f = refl
 
 turned : (a b : List ℕ) → pointwise nat_eq a b ≡ pointwise nat_eq b a
 turned [] [] = refl

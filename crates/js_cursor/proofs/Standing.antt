@@ -4,7 +4,7 @@ use Rattle.std.proofs.Math.Seq.{get_or-append_seam}
 use Rattle.std.specs.Prelude.{IsTrue, IsUtf8, codes, bytes_eq, IsCharBoundary}
 use Rattle.std.specs.List.{All, slice_get}
 use Rattle.std.proofs.lemmas.Option.{slice_get_read}
-use Rattle.std.proofs.lemmas.Bool.{false≢true, eqb-true}
+use Rattle.std.proofs.lemmas.Bool.{false≢true, eqb-true, or_cases}
 use Rattle.std.proofs.lemmas.List.{length-take, length-drop, get_or-take, get_or-drop}
 use Rattle.std.proofs.lemmas.List.Elements.{All-get_or, All-same}
 use Rattle.std.proofs.lemmas.Str.{IsCharBoundary-after_ascii}
@@ -245,12 +245,8 @@ ends_signs signs text i u l h e =
     let there : IsCharBoundary text (i + 6 + 1) = IsCharBoundary-after_ascii text (i + 6) u (omega arith) last in
     (long, subst (IsCharBoundary text) (omega arith) there)
 
-either : (a b : Bool) → (a || b) ≡ true → (a ≡ true) ⊎ (b ≡ true)
-either true b h = inl refl
-either false b h = inr h
-
 marker_ends : (text : List ℕ) (x : Lexeme) → IsUtf8 text → begins_some_marker text x ≡ true → (x.from + 7 ≤ length text) × IsCharBoundary text (x.from + 7)
-marker_ends text x u h = first (either (begins_marker (codes "<<<<<<<") text x) (begins_middle text x || (begins_closing text x || begins_marker (codes "|||||||") text x)) h)
+marker_ends text x u h = first (or_cases (begins_marker (codes "<<<<<<<") text x) (begins_middle text x || (begins_closing text x || begins_marker (codes "|||||||") text x)) h)
   where
     ends : (signs : List ℕ) → length signs ≡ 7 → get_or signs 6 0 < 128 → begins_marker signs text x ≡ true → (x.from + 7 ≤ length text) × IsCharBoundary text (x.from + 7)
     ends signs l c e = ends_signs signs text x.from u l c (both-right (x.newline || (x.from == 0)) (bytes_eq (take 7 (drop x.from text)) signs) e)
@@ -261,11 +257,11 @@ marker_ends text x u h = first (either (begins_marker (codes "<<<<<<<") text x) 
 
     second : (begins_middle text x ≡ true) ⊎ ((begins_closing text x || begins_marker (codes "|||||||") text x) ≡ true) → (x.from + 7 ≤ length text) × IsCharBoundary text (x.from + 7)
     second (inl e) = let c : 61 < 128 = omega arith in ends (codes "=======") refl c e
-    second (inr e) = third (either (begins_closing text x) (begins_marker (codes "|||||||") text x) e)
+    second (inr e) = third (or_cases (begins_closing text x) (begins_marker (codes "|||||||") text x) e)
 
     first : (begins_marker (codes "<<<<<<<") text x ≡ true) ⊎ ((begins_middle text x || (begins_closing text x || begins_marker (codes "|||||||") text x)) ≡ true) → (x.from + 7 ≤ length text) × IsCharBoundary text (x.from + 7)
     first (inl e) = let c : 60 < 128 = omega arith in ends (codes "<<<<<<<") refl c e
-    first (inr e) = second (either (begins_middle text x) (begins_closing text x || begins_marker (codes "|||||||") text x) e)
+    first (inr e) = second (or_cases (begins_middle text x) (begins_closing text x || begins_marker (codes "|||||||") text x) e)
 
 marker_mark : {p : Parser} {d : Diagnostic} → IsAt p → (p.token.kind ≡ Undetermined → ⊥) → IsMarker p d → Mark (goal p) p.text d
 marker_mark {p} {d} a n m =

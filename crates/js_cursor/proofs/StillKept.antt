@@ -1,5 +1,5 @@
 -- What a lexer has kept is still there after a move, and after it went back.
-use Rattle.std.proofs.Common.{ℕ, zero, suc, ◌+◌, ◌-◌, ◌≡◌, ◌≤◌, Bool, true, false, cond, ◌&&◌, List, [], ◌∷◌, ◌++◌, length, take, refl, sym, ap, arith, ◌∙◌, length-append, append_assoc, append-nil}
+use Rattle.std.proofs.Common.{ℕ, zero, suc, ◌+◌, ◌-◌, ◌≡◌, ◌≤◌, Bool, true, false, cond, ◌&&◌, List, [], ◌∷◌, ◌++◌, length, take, refl, sym, ap, arith, ◌∙◌, length-append, append-nil}
 use Rattle.std.proofs.lemmas.Bool.{false≢true}
 use Rattle.std.proofs.lemmas.List.{take-append-le, length-take-le}
 use Rattle.std.proofs.Math.Seq.{take-length}
@@ -10,6 +10,7 @@ use Rattle.js_base.specs.part_memory.Lists.{replaced}
 use Rattle.js_lex.specs.Kept.{lengths_of, first_kept, AreAtMost}
 use Rattle.js_lex.specs.Reading.{is_kept, kept_token, GivesNext, GivesAgain}
 use Rattle.js_lex.specs.States.{State, SameText}
+use Rattle.js_lex.proofs.Keeping.{twice}
 use Rattle.js_cursor.specs.Tokens.{may_be_read_again, steady, StillKept}
 
 take_less : {X : Type 0} (m n : ℕ) (xs : List X) → m ≤ n → take m (take n xs) ≡ take m xs
@@ -17,9 +18,6 @@ take_less zero n xs h = refl
 take_less (suc m) zero xs h = absurd (omega arith)
 take_less (suc m) (suc n) [] h = refl
 take_less (suc m) (suc n) (x ∷ xs) h = ap (λ v. x ∷ v) (take_less m n xs (omega arith))
-
-then : {X : Type 0} (a b c x y : List X) → b ≡ a ++ x → c ≡ b ++ y → c ≡ a ++ (x ++ y)
-then a b c x y e f = f ∙ ap (λ v. v ++ y) e ∙ append_assoc a x y
 
 steady_fits : (l : State) (t : Token) → steady l t ≤ length l.kept.tokens
 steady_fits l t = omega arith
@@ -31,9 +29,9 @@ pub still_on : {a b c : State} {t u v : Token} → StillKept a t b u → StillKe
 still_on {a} {b} {c} {t} {u} {v} f g = record {
   keeps_tokens = g.keeps_tokens ∙ f.keeps_tokens;
   later_comments = f.later_comments ++ g.later_comments;
-  comments = then a.kept.comments b.kept.comments c.kept.comments f.later_comments g.later_comments f.comments g.comments;
+  comments = twice a.kept.comments b.kept.comments c.kept.comments f.later_comments g.later_comments f.comments g.comments;
   later_blanks = f.later_blanks ++ g.later_blanks;
-  blanks = then a.kept.irregular_whitespaces b.kept.irregular_whitespaces c.kept.irregular_whitespaces f.later_blanks g.later_blanks f.blanks g.blanks;
+  blanks = twice a.kept.irregular_whitespaces b.kept.irregular_whitespaces c.kept.irregular_whitespaces f.later_blanks g.later_blanks f.blanks g.blanks;
   tokens =
       let s = f.steadier in
       sym (take_less (steady a t) (steady b u) c.kept.tokens s) ∙ (ap (λ ts. take (steady a t) ts) g.tokens ∙ (take_less (steady a t) (steady b u) b.kept.tokens s ∙ f.tokens));

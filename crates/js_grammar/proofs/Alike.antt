@@ -9,7 +9,7 @@ use Rattle.js_grammar.specs.Lexemes.{LexicalGoal, lexemes_in}
 use Rattle.js_grammar.specs.Lexed.{Passing, Lex, Stands}
 use Rattle.js_grammar.proofs.LongestLemmas.{both-left, both-right, none_longer-at, longest-same}
 
-no_empty_piece : (first : Bool) (rest : List ℕ) → is_trivia_piece first [] rest ≡ false
+pub no_empty_piece : (first : Bool) (rest : List ℕ) → is_trivia_piece first [] rest ≡ false
 no_empty_piece true rest = refl
 no_empty_piece false rest = refl
 

@@ -9,6 +9,7 @@ use Rattle.js_grammar.specs.TableLaws.{begins_unbuilt, BeginNoUnbuilt, BuiltInWh
 use Rattle.js_grammar.proofs.Looks.{full, apart, not_both}
 use Rattle.js_grammar.proofs.First.{starts, starting}
 use Rattle.js_grammar.proofs.FirstClaims.{firsts}
+use Rattle.js_grammar.proofs.Behind.{left_behind}
 
 into_whole : {g : G} {ks ts us : Slots} {i j : ℕ} {ls rest : Lexemes} → Takes rule g ks ts i ls us j rest → Takes whole g ks ts i ls us j rest
 unfolding rule whole
@@ -49,24 +50,7 @@ unbuilt_away : (n : Symbol) {ks ts us : Slots} {i j : ℕ} {ls rest : Lexemes} �
 unbuilt_away n {ls = ls} d c = not_both (starts first (unbuilt_of n.name n.flags) full) begins_none (unbuilt_begins n.name n.flags) _ _ _ (starting firsts full d refl) (none_here ls c)
 
 stays : {r : Symbol → G} {g : G} {ks ts us : Slots} {i j : ℕ} {ls rest : Lexemes} → Takes r g ks ts i ls us j rest → BeginNoUnbuilt ls → BeginNoUnbuilt rest
-stays is_nothing c = c
-stays (is_lexeme p) c = c.1
-stays (is_look p) c = c
-stays (is_text p) c = c
-stays (is_ahead d) c = c
-stays is_empty_slot c = c
-stays (is_seq d e) c = stays e (stays d c)
-stays (is_left d) c = stays d c
-stays (is_right d) c = stays d c
-stays (is_when q d) c = stays d c
-stays (is_many d) c = stays d c
-stays (is_commas d) c = stays d c
-stays (is_such d q) c = stays d c
-stays (is_marked d) c = stays d c
-stays (is_node d) c = stays d c
-stays (is_ended q d e) c = stays e (stays d c)
-stays (is_keep d e) c = stays e (stays d c)
-stays (is_kept q) c = c
+stays d c = left_behind BeginNoUnbuilt (λ x ls h. h.1) d c
 
 built_line : (n : Symbol) {cs : Slots} {l : Label} {i j : ℕ} {ls rest : Lexemes} → BeginNoUnbuilt ls → Takes rule (alt (rule_of n.name n.flags) (unbuilt_of n.name n.flags)) end (tree l cs end) i ls end j rest → Takes rule (rule_of n.name n.flags) end (tree l cs end) i ls end j rest
 built_line n c (is_left d) = d

@@ -1,10 +1,10 @@
 -- Readings of a grammar's parts over any lexing, and the rules that put them together: for any grammar.
-use Rattle.std.proofs.Common.{ℕ, suc, ◌≡◌, ◌≤◌, inl, inr, Bool, true, false, not, ◌&&◌, ◌||◌, IsTrue, List, refl, ap, sym, ◌∙◌, subst, cond, arith}
+use Rattle.std.proofs.Common.{ℕ, suc, ◌≡◌, ◌≤◌, inl, inr, Bool, true, false, not, ◌&&◌, ◌||◌, IsTrue, List, refl, ap, sym, ◌∙◌, subst, arith}
 use Rattle.std.proofs.lemmas.Bool.{false≢true, or_left, or_right, and_from, and_parts}
 use Rattle.js_base.specs.declared.kind.Kind.{Kind}
 use Rattle.js_base.specs.declared.kind.Kind.TheVariants.{Eof, Semicolon, Comma}
 use Rattle.js_grammar.specs.Trees.{Span, Label, Slots, end, hole, tree, Tree, append}
-use Rattle.js_grammar.specs.Grammar.{Lexeme, Lexemes, last, next, here, Look, seen, Make, label_of, is, begins_with_brace, may_omit, Grammar, nothing, never, lexeme, look, text, ahead, empty_slot, seq, alt, when, many, commas, such, marked, node, ended, keep, kept, many_once, commas_once, semicolon, ◌◇◌, Takes, is_nothing, is_lexeme, is_look, is_text, is_ahead, is_empty_slot, is_seq, is_left, is_right, is_when, is_many, is_commas, is_such, is_marked, is_node, is_ended, is_keep, is_kept}
+use Rattle.js_grammar.specs.Grammar.{Lexeme, Lexemes, last, next, here, Look, seen, Make, label_of, is, begins_with_brace, may_omit, Grammar, nothing, never, lexeme, look, text, ahead, empty_slot, seq, alt, when, many, commas, such, marked, node, ended, keep, kept, many_once, commas_once, semicolon, ◌◇◌, Takes, is_nothing, is_lexeme, is_look, is_text, is_ahead, is_empty_slot, is_seq, is_left, is_right, is_when, is_many, is_commas, is_such, is_marked, is_node, is_ended, is_keep, is_kept, after_comma, after_item}
 use Rattle.js_base.specs.Kinds.{same_kind}
 use Rattle.js_base.proofs.KindLemmas.{kind_of_same}
 use Rattle.js_grammar.specs.Lexed.{Lexes}
@@ -52,14 +52,6 @@ no_omission false p h = false≢true h
 
 no_semicolon : (w e : Bool) (k : Kind) (p : Bool) → (same_kind Eof k || begins_with_brace k || (w && not (same_kind Semicolon k) && not p)) ≡ true → (same_kind Semicolon k && not e) ≡ true → ⊥
 no_semicolon w e k p h q = let z = kind_of_same Semicolon k (and_parts (same_kind Semicolon k) (not e) q).0 in no_omission w p (subst (λ v. (same_kind Eof v || begins_with_brace v || (w && not (same_kind Semicolon v) && not p)) ≡ true) (sym z) h)
-
--- what remains behind the comma of an item
-abbrev pub after_comma : {N : Type 0} → Bool → Grammar N → Grammar N
-after_comma b a = cond b (commas b a ◇ nothing) (commas b a)
-
--- and behind the item
-abbrev pub after_item : {N : Type 0} → Bool → Grammar N → Grammar N
-after_item b a = seq (lexeme (is Comma)) (after_comma b a) ◇ nothing
 
 -- to stay, to pass a lexeme, and one stretch behind another
 pub passes_none : {Lex : ℕ → Lexeme → Type 0} {s : ℕ} → Passes Lex s s (λ ls. ls)

@@ -5,6 +5,7 @@ use Rattle.js_grammar.specs.Trees.{Slots, end, hole, tree, append, Label}
 use Rattle.js_base.specs.declared.kind.Kind.{Kind}
 use Rattle.js_base.specs.declared.kind.Kind.TheVariants.{Comma, Semicolon}
 use Rattle.js_grammar.specs.Grammar.{Lexeme, Lexemes, last, next, here, seen, Grammar, nothing, never, lexeme, look, text, ahead, empty_slot, seq, alt, when, many, commas, such, marked, node, ended, keep, kept, is, semicolon, may_omit, label_of, Takes, is_nothing, is_lexeme, is_look, is_text, is_ahead, is_empty_slot, is_seq, is_left, is_right, is_when, is_many, is_commas, is_such, is_marked, is_node, is_ended, is_keep, is_kept}
+use Rattle.js_grammar.specs.TreeForms.{are_none}
 use Rattle.js_grammar.proofs.Same.{same_label, label_of_same, same_slots, slots_of_same, node_code, same_op}
 
 both : (b c : Bool) → elim b [ true ↦ c | false ↦ false ] ≡ true → (b ≡ true) × (c ≡ true)
@@ -102,11 +103,7 @@ abbrev pub run_commas : ℕ → Bool → Step → Step
 run_commas zero b s K ts i ls = false
 run_commas (suc n) b s K ts i ls = s (λ us j rest. behind b (λ k more. run_commas n b s K us k more) K us j rest) ts i ls
 
-abbrev pub is_end : Slots → Bool
-is_end end = true
-is_end _ = false
-
-end_is : (ts : Slots) → is_end ts ≡ true → ts ≡ end
+end_is : (ts : Slots) → are_none ts ≡ true → ts ≡ end
 end_is end e = refl
 end_is (hole us) e = absurd (false≢true e)
 end_is (tree l cs us) e = absurd (false≢true e)
@@ -141,19 +138,19 @@ module _ {N : Type 0} (D : N → Label → Slots → ℕ → Lexemes → (ℕ �
   ]
   run (marked h n) ks K _ i ls = false
   run (node m a) ks K (tree l cs us) i ls = elim (nat_eq (node_code l.kind) (node_code m.kind) && (same_op l.op m.op && nat_eq l.flags m.flags)) [
-    | true ↦ run a ks (λ ds j rest. elim (is_end ds) [ true ↦ elim (same_label l (label_of m ls j rest)) [ true ↦ K us j rest | false ↦ false ] | false ↦ false ]) cs i ls
+    | true ↦ run a ks (λ ds j rest. elim (are_none ds) [ true ↦ elim (same_label l (label_of m ls j rest)) [ true ↦ K us j rest | false ↦ false ] | false ↦ false ]) cs i ls
     | false ↦ false
   ]
   run (node m a) ks K _ i ls = false
-  run (ended rows a) ks K ts i ls = any_split (λ cs us. run a ks (λ ds j rest. elim (is_end ds) [ true ↦ over (rows (here ls) cs) (λ k more. K us k more) j rest | false ↦ false ]) cs i ls) ts
-  run (keep a b) ks K ts i ls = any_kept (λ cs. run a ks (λ ds j rest. elim (is_end ds) [ true ↦ run b cs K ts j rest | false ↦ false ]) cs i ls) ts
+  run (ended rows a) ks K ts i ls = any_split (λ cs us. run a ks (λ ds j rest. elim (are_none ds) [ true ↦ over (rows (here ls) cs) (λ k more. K us k more) j rest | false ↦ false ]) cs i ls) ts
+  run (keep a b) ks K ts i ls = any_kept (λ cs. run a ks (λ ds j rest. elim (are_none ds) [ true ↦ run b cs K ts j rest | false ↦ false ]) cs i ls) ts
   run kept ks K ts i ls = strip ks (λ us. K us i ls) ts
 
 module _ {N : Type 0} (rule : N → Grammar N) (fuel : ℕ) (undo : Label → Label) where
   -- the symbol derives the tree from i, by a derivation of at most this height, up to some place where K holds
   abbrev pub check : ℕ → N → Label → Slots → ℕ → Lexemes → (ℕ → Lexemes → Bool) → Bool
   check zero n l cs i ls K = false
-  check (suc h) n l cs i ls K = run (λ m k ds x more L. check h m k ds x more L) fuel undo (rule n) end (λ ts j rest. elim (is_end ts) [ true ↦ K j rest | false ↦ false ]) (tree l cs end) i ls
+  check (suc h) n l cs i ls K = run (λ m k ds x more L. check h m k ds x more L) fuel undo (rule n) end (λ ts j rest. elim (are_none ts) [ true ↦ K j rest | false ↦ false ]) (tree l cs end) i ls
 
 branch : (b x y : Bool) → elim b [ true ↦ x | false ↦ y ] ≡ true → ((b ≡ true) × (x ≡ true)) ⊎ (y ≡ true)
 branch true x y e = inl (refl, e)
@@ -265,21 +262,21 @@ module _ {N : Type 0} (rule : N → Grammar N) where
     run_right (node m a) ks K (hole us) i ls e = absurd (false≢true e)
     run_right (node m a) ks K (tree l cs us) i ls e =
         let x = both _ _ e in
-        let y = run_right a ks (λ ds j rest. elim (is_end ds) [ true ↦ elim (same_label l (label_of m ls j rest)) [ true ↦ K us j rest | false ↦ false ] | false ↦ false ]) cs i ls x.1 in
+        let y = run_right a ks (λ ds j rest. elim (are_none ds) [ true ↦ elim (same_label l (label_of m ls j rest)) [ true ↦ K us j rest | false ↦ false ] | false ↦ false ]) cs i ls x.1 in
         let z = both _ _ y.4 in
         let w = both _ _ z.1 in
         let d : Takes rule a ks cs i ls end y.1 y.2 = subst (λ v. Takes rule a ks cs i ls v y.1 y.2) (end_is y.0 z.0) y.3 in
         (us, y.1, y.2, subst (λ v. Takes rule (node m a) ks (tree v cs us) i ls us y.1 y.2) (sym (label_of_same l (label_of m ls y.1 y.2) w.0)) (is_node d), w.1)
     run_right (ended rows a) ks K ts i ls e =
         let x = split_right _ ts e in
-        let y = run_right a ks (λ ds j rest. elim (is_end ds) [ true ↦ over (rows (here ls) x.0) (λ k more. K x.1 k more) j rest | false ↦ false ]) x.0 i ls x.3 in
+        let y = run_right a ks (λ ds j rest. elim (are_none ds) [ true ↦ over (rows (here ls) x.0) (λ k more. K x.1 k more) j rest | false ↦ false ]) x.0 i ls x.3 in
         let z = both _ _ y.4 in
         let d : Takes rule a ks x.0 i ls end y.1 y.2 = subst (λ v. Takes rule a ks x.0 i ls v y.1 y.2) (end_is y.0 z.0) y.3 in
         let w = over_right (rows (here ls) x.0) ks K x.1 y.1 y.2 z.1 in
         (w.0, w.1, w.2, is_ended x.2 d w.3, w.4)
     run_right (keep a b) ks K ts i ls e =
         let x = kept_right _ ts e in
-        let y = run_right a ks (λ ds j rest. elim (is_end ds) [ true ↦ run D fuel undo b x.0 K ts j rest | false ↦ false ]) x.0 i ls x.1 in
+        let y = run_right a ks (λ ds j rest. elim (are_none ds) [ true ↦ run D fuel undo b x.0 K ts j rest | false ↦ false ]) x.0 i ls x.1 in
         let z = both _ _ y.4 in
         let d : Takes rule a ks x.0 i ls end y.1 y.2 = subst (λ v. Takes rule a ks x.0 i ls v y.1 y.2) (end_is y.0 z.0) y.3 in
         let w = run_right b x.0 K ts y.1 y.2 z.1 in
@@ -291,6 +288,6 @@ module _ {N : Type 0} (rule : N → Grammar N) where
     pub checked : (h : ℕ) (n : N) (l : Label) (cs : Slots) (i : ℕ) (ls : Lexemes) (K : ℕ → Lexemes → Bool) → check rule fuel undo h n l cs i ls K ≡ true → (j : ℕ) × (rest : Lexemes) × Takes rule (rule n) end (tree l cs end) i ls end j rest × (K j rest ≡ true)
     checked zero n l cs i ls K e = absurd (false≢true e)
     checked (suc h) n l cs i ls K e =
-        let x = run_right (λ m k ds x more L. check rule fuel undo h m k ds x more L) (checked h) fuel undo (rule n) end (λ ts j rest. elim (is_end ts) [ true ↦ K j rest | false ↦ false ]) (tree l cs end) i ls e in
+        let x = run_right (λ m k ds x more L. check rule fuel undo h m k ds x more L) (checked h) fuel undo (rule n) end (λ ts j rest. elim (are_none ts) [ true ↦ K j rest | false ↦ false ]) (tree l cs end) i ls e in
         let z = both _ _ x.4 in
         (x.1, x.2, subst (λ v. Takes rule (rule n) end (tree l cs end) i ls v x.1 x.2) (end_is x.0 z.0) x.3, z.1)

@@ -2,17 +2,18 @@
 use Rattle.std.proofs.Common.{ℕ, ◌≡◌, Bool, true, false, not, cond, ◌||◌, List, [], ◌∷◌, IsTrue, refl, sym, subst}
 use Rattle.std.proofs.lemmas.Bool.{false≢true, not-true, or_left, or_right, and_parts, and_from}
 use Rattle.js_base.specs.declared.kind.Kind.{Kind}
-use Rattle.js_base.specs.Kinds.{same_kind, one_of_kinds}
+use Rattle.js_base.specs.Kinds.{same_kind, one_of_kinds, every_kind}
 use Rattle.js_base.proofs.KindLemmas.{kind_of_same}
 use Rattle.js_grammar.specs.Trees.{Label, Slots, end, Tree}
 use Rattle.js_grammar.specs.Grammar.{Make, Lexeme, Lexemes, last, next, here, Look, seen, nothing, never, lexeme, look, text, ahead, empty_slot, seq, alt, when, many, commas, such, marked, node, ended, keep, kept, semicolon, commas_once, Takes, is_nothing, is_lexeme, is_look, is_text, is_ahead, is_empty_slot, is_seq, is_left, is_right, is_when, is_many, is_commas, is_such, is_marked, is_node, is_ended, is_keep, is_kept, Derives}
 use Rattle.js_grammar.specs.Productions.{Flags, Name, Program, Symbol, G}
 use Rattle.js_grammar.specs.Table.{rule}
-use Rattle.js_grammar.specs.Pruning.{is_never, is_nothing as is_idle, some_kind, every_kind, some_line, each_line, seq_of, alt_of, many_of, if_some, pruned}
+use Rattle.js_grammar.specs.Pruning.{is_never, is_nothing as is_idle, some_kind, some_line, each_line, seq_of, alt_of, many_of, if_some, pruned}
 use Rattle.js_grammar.specs.CoreGrammar.{core_kinds, dead, stands_inside, core_of, core_rule}
 use Rattle.js_grammar.specs.CoreReadings.{core_lexeme, AllCore}
 use Rattle.js_grammar.proofs.CoreProductions.{core_at, dead_at}
 use Rattle.js_grammar.proofs.Renamed.{paired}
+use Rattle.js_grammar.proofs.Behind.{left_behind}
 
 abbrev prune : G → G
 prune = pruned dead core_kinds
@@ -68,24 +69,7 @@ core_here (next x ls) c = c.0
 
 -- what is left is core lexemes still
 pub stays : {r : Symbol → G} {g : G} {ks ts us : Slots} {i j : ℕ} {ls rest : Lexemes} → Takes r g ks ts i ls us j rest → AllCore ls → AllCore rest
-stays is_nothing c = c
-stays (is_lexeme p) c = c.1
-stays (is_look p) c = c
-stays (is_text p) c = c
-stays (is_ahead d) c = c
-stays is_empty_slot c = c
-stays (is_seq d e) c = stays e (stays d c)
-stays (is_left d) c = stays d c
-stays (is_right d) c = stays d c
-stays (is_when q d) c = stays d c
-stays (is_many d) c = stays d c
-stays (is_commas d) c = stays d c
-stays (is_such d q) c = stays d c
-stays (is_marked d) c = stays d c
-stays (is_node d) c = stays d c
-stays (is_ended q d e) c = stays e (stays d c)
-stays (is_keep d e) c = stays e (stays d c)
-stays (is_kept q) c = c
+stays d c = left_behind AllCore (λ x ls h. h.1) d c
 
 -- What is taken isn't nothing at all.
 none : {g : G} {ks ts us : Slots} {i j : ℕ} {ls rest : Lexemes} → Takes left g ks ts i ls us j rest → is_never g ≡ true → ⊥

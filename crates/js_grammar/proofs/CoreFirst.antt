@@ -3,6 +3,7 @@ use Rattle.std.proofs.Common.{◌≡◌, ◌<◌, ℕ, ◌==◌, Bool, true, fal
 use Rattle.std.specs.Prelude.{bytes_eq}
 use Rattle.std.specs.List.{list_all, find}
 use Rattle.std.proofs.lemmas.Bool.Decides.{nat_tests}
+use Rattle.std.proofs.lemmas.Bool.{or_cases}
 use Rattle.std.proofs.lemmas.Slice.Eq.{bytes_eq-Decides}
 use Rattle.js_base.specs.declared.kind.Kind.{Kind}
 use Rattle.js_base.specs.Texts.{text_of}
@@ -14,7 +15,7 @@ use Rattle.js_grammar.specs.CoreTexts.{is_core_blank, is_ascii_name, is_core_num
 use Rattle.js_grammar.specs.Strings.{nothing_left}
 use Rattle.js_grammar.proofs.LongestLemmas.{both-left, both-right}
 use Rattle.js_grammar.proofs.CoreLemmas.{below, implies, implied, opens}
-use Rattle.js_grammar.proofs.Finding.{either, member, found-test, found-all, found}
+use Rattle.js_grammar.proofs.Finding.{member, found-test, found-all, found}
 
 pub lt-true : (a b : ℕ) → nat_lt a b ≡ true → a < b
 lt-true a b h = grind (arith, nat_tests)
@@ -86,13 +87,13 @@ pub data Sort (c : ℕ) (cs rest : List ℕ) : Type 0 where
   punctuator : is_core_punctuator (c ∷ cs) rest ≡ true → Sort c cs rest
 
 pub sort : (c : ℕ) (cs rest : List ℕ) → is_core_piece (c ∷ cs) rest ≡ true → Sort c cs rest
-sort c cs rest h = elim (either (is_core_blank (c ∷ cs)) (is_ascii_name (c ∷ cs) || (is_core_number (c ∷ cs) || (is_core_string (c ∷ cs) || is_core_punctuator (c ∷ cs) rest))) h) [
+sort c cs rest h = elim (or_cases (is_core_blank (c ∷ cs)) (is_ascii_name (c ∷ cs) || (is_core_number (c ∷ cs) || (is_core_string (c ∷ cs) || is_core_punctuator (c ∷ cs) rest))) h) [
   | inl a ↦ blank a
-  | inr b ↦ elim (either (is_ascii_name (c ∷ cs)) (is_core_number (c ∷ cs) || (is_core_string (c ∷ cs) || is_core_punctuator (c ∷ cs) rest)) b) [
+  | inr b ↦ elim (or_cases (is_ascii_name (c ∷ cs)) (is_core_number (c ∷ cs) || (is_core_string (c ∷ cs) || is_core_punctuator (c ∷ cs) rest)) b) [
     | inl a ↦ name a
-    | inr b ↦ elim (either (is_core_number (c ∷ cs)) (is_core_string (c ∷ cs) || is_core_punctuator (c ∷ cs) rest) b) [
+    | inr b ↦ elim (or_cases (is_core_number (c ∷ cs)) (is_core_string (c ∷ cs) || is_core_punctuator (c ∷ cs) rest) b) [
       | inl a ↦ number a
-      | inr b ↦ elim (either (is_core_string (c ∷ cs)) (is_core_punctuator (c ∷ cs) rest) b) [
+      | inr b ↦ elim (or_cases (is_core_string (c ∷ cs)) (is_core_punctuator (c ∷ cs) rest) b) [
         | inl a ↦ string a
         | inr a ↦ punctuator a
       ]

@@ -1,6 +1,6 @@
 -- A core text has one list of lexemes, the same at every goal.
 use Rattle.std.proofs.Common.{◌≡◌, ◌<◌, ◌≤◌, ℕ, zero, suc, ◌+◌, ◌==◌, Bool, true, false, List, [], ◌∷◌, ◌++◌, refl, sym, ap, subst, ◌∙◌, not, ◌&&◌, ◌||◌, Some, None, length, arith}
-use Rattle.std.specs.Prelude.{chars, codes, IsUtf8}
+use Rattle.std.specs.Prelude.{codes, IsUtf8}
 use Rattle.js_base.specs.declared.kind.Kind.{Kind}
 use Rattle.js_base.specs.declared.kind.Kind.TheVariants.{Eof, RegExp}
 use Rattle.js_base.specs.Kinds.{code, same_kind, one_of_kinds}
@@ -37,7 +37,7 @@ comments-lack in_script qs h = refl
 comments-lack in_module qs h = h
 comments-lack all_faults qs h = refl
 
-flags-none : (p : Passing) (k : Kind) (w : List ℕ) → same_kind RegExp k ≡ false → flags_right p k w ≡ true
+pub flags-none : (p : Passing) (k : Kind) (w : List ℕ) → same_kind RegExp k ≡ false → flags_right p k w ≡ true
 flags-none in_script k w h = ap (λ (b : Bool). not b || flags_pass (flags w)) h
 flags-none in_module k w h = ap (λ (b : Bool). not b || flags_pass (flags w)) h
 flags-none all_faults k w h = refl
@@ -169,10 +169,10 @@ at_word text s qs c cs rest st l f i r = record { stands = here; only = only }
         let same = stands-same h.stands st in
         lex-same h (here p) (word_is_division h.goal h.word h.rest c (cs ++ rest) y.kind same.back f h.lexeme.kind)
 
-stands_of : {text : List ℕ} {s : ℕ} {cs : List ℕ} (qs : List (List ℕ)) (w rest : List ℕ) → At text s cs → cs ≡ joined qs ++ (w ++ rest) → are_trivia (s == 0) qs (w ++ rest) ≡ true → Stands text s qs w rest
+pub stands_of : {text : List ℕ} {s : ℕ} {cs : List ℕ} (qs : List (List ℕ)) (w rest : List ℕ) → At text s cs → cs ≡ joined qs ++ (w ++ rest) → are_trivia (s == 0) qs (w ++ rest) ≡ true → Stands text s qs w rest
 stands_of qs w rest a e t = record { within = a.within; splits = at-chars a ∙ e; trivia = t }
 
-at_along : {text : List ℕ} {s : ℕ} {cs ds : List ℕ} → cs ≡ ds → At text s cs → At text s ds
+pub at_along : {text : List ℕ} {s : ℕ} {cs ds : List ℕ} → cs ≡ ds → At text s cs → At text s ds
 at_along {text = text} {s = s} e a = subst (λ (v : List ℕ). At text s v) e a
 
 -- all of them are core lexemes, and they are those of the pieces

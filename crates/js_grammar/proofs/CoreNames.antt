@@ -1,5 +1,6 @@
 -- A core name and a core number are the longest lexeme of the whole language, too.
 use Rattle.std.proofs.Common.{◌≡◌, ◌<◌, ℕ, ◌==◌, Bool, true, false, List, [], ◌∷◌, ◌++◌, refl, ap, subst, ◌∙◌, not, ◌&&◌, ◌||◌, Option, Some, None, nat_lt}
+use Rattle.std.proofs.lemmas.Bool.{and_right}
 use Rattle.std.specs.Prelude.{is_some}
 use Rattle.std.specs.List.{list_all}
 use Rattle.js_base.specs.declared.kind.Kind.{Kind}
@@ -17,7 +18,7 @@ use Rattle.js_grammar.specs.CoreGrammar.{core_kinds}
 use Rattle.js_grammar.specs.CoreTexts.{is_core_piece, is_ascii_name, is_core_number, is_core_blank, is_core_string, is_core_punctuator, core_words}
 use Rattle.js_grammar.proofs.LongestLemmas.{both-left, both-right, both, not-true, none_longer-at}
 use Rattle.js_grammar.proofs.Finding.{neither-left, neither-right, kind_member, kind_passes, all-append, all-both}
-use Rattle.js_grammar.proofs.CoreLemmas.{below, implies, implied, none_longer-from, plain_of, opens, opens-same}
+use Rattle.js_grammar.proofs.CoreLemmas.{below, implies, implied, none_longer-from, plain_of}
 use Rattle.js_grammar.proofs.CoreFirst.{is_core_first, lt-true, lt-is, name_opens}
 use Rattle.js_grammar.proofs.CorePlain.{no_backslash, points-append, points-plain, points-one}
 
@@ -65,10 +66,10 @@ name_no_backslash c cs h =
     (ascii is_identifier_start no_backslash c refl (lt-true c 128 (both-left (nat_lt c 128) (list_all (λ d. nat_lt d 128) cs) a)) s)
     (all-both is_identifier_part (λ d. nat_lt d 128) no_backslash cs (λ d p l. ascii is_identifier_part no_backslash d refl (lt-true d 128 l) p) (plain_parts c cs h) (both-right (nat_lt c 128) (list_all (λ d. nat_lt d 128) cs) a))
 
-named-plain : (w : List ℕ) → is_plain_name w ≡ true → named (Some w) ≡ Some w
+pub named-plain : (w : List ℕ) → is_plain_name w ≡ true → named (Some w) ≡ Some w
 named-plain w h = ap (λ (b : Bool). elim b [ true ↦ Some w | false ↦ None ]) h
 
-named-not : (w : List ℕ) → is_plain_name w ≡ false → named (Some w) ≡ None
+pub named-not : (w : List ℕ) → is_plain_name w ≡ false → named (Some w) ≡ None
 named-not w h = ap (λ (b : Bool). elim b [ true ↦ Some w | false ↦ None ]) h
 
 pub name-of-plain : (c : ℕ) (cs : List ℕ) → is_ascii_name (c ∷ cs) ≡ true → name_of (c ∷ cs) ≡ Some (c ∷ cs)
@@ -77,11 +78,7 @@ name-of-plain c cs h = ap named (points-plain in_name (c ∷ cs) (name_no_backsl
 -- a character that no name goes on with
 pub parts_stop : (xs : List ℕ) (d : ℕ) (ys : List ℕ) → is_identifier_part d ≡ false → list_all is_identifier_part (xs ++ d ∷ ys) ≡ false
 parts_stop [] d ys h = rw h refl
-parts_stop (x ∷ xs) d ys h = let r = parts_stop xs d ys h in and-false (is_identifier_part x) (list_all is_identifier_part (xs ++ d ∷ ys)) r
-  where
-    and-false : (a b : Bool) → b ≡ false → (a && b) ≡ false
-    and-false true b e = e
-    and-false false b e = refl
+parts_stop (x ∷ xs) d ys h = and_right (is_identifier_part x) (list_all is_identifier_part (xs ++ d ∷ ys)) (parts_stop xs d ys h)
 
 plain_stops : (c : ℕ) (cs : List ℕ) (d : ℕ) (ys : List ℕ) → is_identifier_part d ≡ false → is_plain_name (c ∷ cs ++ d ∷ ys) ≡ false
 plain_stops c cs d ys h = and-false (is_identifier_start c) (list_all is_identifier_part (cs ++ d ∷ ys)) (parts_stop cs d ys h)

@@ -1,13 +1,13 @@
 -- Over core lexemes, of the parameters In alone makes a difference, and the option for V8's own functions.
 use Rattle.std.proofs.Common.{ℕ, ◌≡◌, Bool, true, false, not, ◌&&◌, ◌||◌, IsTrue, List, [], ◌∷◌, refl, sym, ap, subst, ◌∙◌, rules}
 use Rattle.std.proofs.lemmas.Bool.{false≢true, not-true, and_parts, and_from}
+use Rattle.std.proofs.Math.Bool.{beq}
 use Rattle.js_base.specs.declared.kind.Kind.{Kind}
-use Rattle.js_base.specs.Kinds.{one_of_kinds}
+use Rattle.js_base.specs.Kinds.{one_of_kinds, every_kind}
 use Rattle.js_grammar.specs.Trees.{Slots, Tree, tree}
 use Rattle.js_grammar.specs.Grammar.{Lexeme, Lexemes, here, Look, seen, nothing, never, lexeme, look, text, ahead, empty_slot, seq, alt, when, many, commas, such, marked, node, ended, keep, kept, label_of, semicolon, commas_once, Takes, Derives, is_nothing, is_lexeme, is_look, is_text, is_ahead, is_empty_slot, is_seq, is_left, is_right, is_when, is_many, is_commas, is_such, is_marked, is_node, is_ended, is_keep, is_kept}
 use Rattle.js_grammar.specs.Productions.{Flags, Name, Symbol, at, G, Element, Property, IdentifierReference, BindingIdentifier, LabelIdentifier}
 use Rattle.js_grammar.specs.Table.{rule_of}
-use Rattle.js_grammar.specs.Pruning.{every_kind}
 use Rattle.js_grammar.specs.CoreGrammar.{core_kinds, core_of, core_rule}
 use Rattle.js_grammar.specs.CoreReadings.{core_lexeme, AllCore}
 use Rattle.js_grammar.proofs.Related.{Like as Alike}
@@ -20,13 +20,9 @@ is_member Property = true
 is_member Element = true
 is_member _ = false
 
-abbrev agree : Bool → Bool → Bool
-agree true b = b
-agree false b = not b
-
--- tests that agree on core lexemes
+-- tests that beq on core lexemes
 abbrev agree_at : Look → Look → Kind → Bool
-agree_at p q k = agree (p k true false) (q k true false) && agree (p k false false) (q k false false)
+agree_at p q k = beq (p k true false) (q k true false) && beq (p k false false) (q k false false)
 
 abbrev like : Look → Look → Bool
 like p q = every_kind (agree_at p q) core_kinds
@@ -62,7 +58,7 @@ Like _ _ = ⊥
 like_itself : (p : Look) → like p p ≡ true
 like_itself p = every core_kinds
   where
-    agree_itself : (a : Bool) → agree a a ≡ true
+    agree_itself : (a : Bool) → beq a a ≡ true
     agree_itself true = refl
     agree_itself false = refl
 
@@ -103,7 +99,7 @@ shares : (n m : Symbol) → core_class n ≡ core_class m → no_member n m ≡ 
 shares n m e h = (ap (λ (s : Symbol). s.name) e, not-true (is_member n.name) h, λ i. record (m.flags) { in_ = sym (ap (λ (s : Symbol). s.flags.in_) e) i; v8 = sym (ap (λ (s : Symbol). s.flags.v8) e) i; wide = sym (ap (λ (s : Symbol). s.flags.wide) e) i })
 
 -- the lines that test a lexeme by a parameter
-abbrev is_identifier : Name → Bool
+abbrev pub is_identifier : Name → Bool
 is_identifier IdentifierReference = true
 is_identifier BindingIdentifier = true
 is_identifier LabelIdentifier = true
@@ -142,7 +138,7 @@ like_rule : (n m : Symbol) → Shares n m → Like (core_rule n) (core_rule m)
 unfolding core_rule
 like_rule n m s = subst (λ (a : Name). Like (core_of n.name n.flags) (core_of a m.flags)) s.0 (subst (λ (f : Flags). Like (core_of n.name n.flags) (core_of n.name f)) (sym s.2) (like_at n.name s.1 n.flags m.flags))
 
-same : (a b : Bool) → agree a b ≡ true → a ≡ true → b ≡ true
+same : (a b : Bool) → beq a b ≡ true → a ≡ true → b ≡ true
 same true b h e = h
 same false b h e = absurd (false≢true e)
 

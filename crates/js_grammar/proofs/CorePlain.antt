@@ -1,5 +1,5 @@
 -- Characters without a backslash stand for themselves, in a name and in a string.
-use Rattle.std.proofs.Common.{◌≡◌, ◌<◌, ◌≤◌, ℕ, ◌==◌, Bool, true, false, List, [], ◌∷◌, ◌++◌, refl, sym, ap, subst, ◌∙◌, not, ◌&&◌, ◌||◌, Option, Some, None}
+use Rattle.std.proofs.Common.{◌≡◌, ◌<◌, ◌≤◌, ℕ, ◌==◌, Bool, true, false, List, [], ◌∷◌, ◌++◌, refl, sym, ap, ◌∙◌, not, ◌&&◌, ◌||◌, Option, Some, None, append_assoc}
 use Rattle.std.specs.List.{list_all}
 use Rattle.js_base.specs.part_text.Escapes.{Where, Stage, Step, outside, backslash, go, plainly, step, read_from, before_all, line_feeds, line_feeds_after}
 use Rattle.js_grammar.proofs.LongestLemmas.{both-left, both-right, not-true}
@@ -13,14 +13,11 @@ plainly-at c e = ap (λ (b : Bool). elim b [ true ↦ go backslash [] | false �
 read-step : (w : Where) (s : Stage) (c : ℕ) (cs : List ℕ) (o : Option Step) → step w s c ≡ o → read_from w s (c ∷ cs) ≡ elim o [ None ↦ None | Some t ↦ before_all t.gives (read_from w t.stage cs) ]
 read-step w s c cs o h = ap (λ (a : Option Step). elim a [ None ↦ None | Some t ↦ before_all t.gives (read_from w t.stage cs) ]) h
 
-before-all-append : (xs ys : List ℕ) (o : Option (List ℕ)) → before_all xs (before_all ys o) ≡ before_all (xs ++ ys) o
+pub before-all-append : (xs ys : List ℕ) (o : Option (List ℕ)) → before_all xs (before_all ys o) ≡ before_all (xs ++ ys) o
 before-all-append xs ys None = refl
-before-all-append xs ys (Some zs) = ap (λ (v : List ℕ). Some v) (sym (append_assoc' xs ys zs))
-  where
-    append_assoc' : (a b c : List ℕ) → (a ++ b) ++ c ≡ a ++ (b ++ c)
-    append_assoc' a b c = Rattle.std.proofs.Common.append_assoc a b c
+before-all-append xs ys (Some zs) = ap (λ (v : List ℕ). Some v) (sym (append_assoc xs ys zs))
 
-before-nil : (o : Option (List ℕ)) → before_all [] o ≡ o
+pub before-nil : (o : Option (List ℕ)) → before_all [] o ≡ o
 before-nil None = refl
 before-nil (Some zs) = refl
 

@@ -1,24 +1,26 @@
 -- A core string is the longest lexeme of the whole language, too.
-use Rattle.std.proofs.Common.{◌≡◌, ◌<◌, ◌≤◌, ℕ, zero, suc, ◌+◌, ◌-◌, ◌==◌, Bool, true, false, List, [], ◌∷◌, ◌++◌, refl, sym, ap, subst, ◌∙◌, not, ◌&&◌, ◌||◌, Option, Some, None, ◌⊎◌, inl, inr, append_assoc, take, drop, length, arith}
+use Rattle.std.proofs.Common.{◌≡◌, ◌<◌, ◌≤◌, ℕ, ◌+◌, ◌-◌, ◌==◌, Bool, true, false, List, [], ◌∷◌, ◌++◌, refl, sym, ap, subst, ◌∙◌, not, ◌&&◌, ◌||◌, Option, Some, None, ◌⊎◌, append_assoc}
 use Rattle.std.specs.Prelude.{is_some}
 use Rattle.std.specs.List.{list_all}
 use Rattle.std.proofs.lemmas.Bool.{eqb-true, and_right, and_left, not_from_false}
+use Rattle.std.proofs.lemmas.List.{append-nil}
 use Rattle.js_base.specs.declared.kind.Kind.TheVariants.{Str}
 use Rattle.js_base.specs.part_text.Characters.{one_of, is_decimal}
 use Rattle.js_base.specs.Texts.{words}
 use Rattle.js_grammar.specs.Characters.{begins}
 use Rattle.js_grammar.specs.Longest.{none_longer}
-use Rattle.js_base.specs.part_text.Escapes.{in_string, code_points, code_units, line_feeds, line_feeds_after}
+use Rattle.js_base.specs.part_text.Escapes.{in_string, code_points, code_units, line_feeds}
 use Rattle.js_base.specs.part_text.Decoding.{string_points, string_units}
 use Rattle.js_grammar.specs.Strings.{nothing_left, closes_string, string_inside, string_kind}
-use Rattle.js_grammar.specs.Lexemes.{plain_kind, lexemes_in, division, a_string, opening}
+use Rattle.js_grammar.specs.Lexemes.{plain_kind, lexemes_in, division, a_string}
 use Rattle.js_grammar.specs.CoreTexts.{is_core_string, closes_core_string}
-use Rattle.js_grammar.proofs.LongestLemmas.{both-left, both-right, both, not-true, append-nil}
+use Rattle.js_grammar.proofs.LongestLemmas.{both-left, both-right, both, not-true}
 use Rattle.js_grammar.proofs.Finding.{neither-left, neither-right, member, all-mono}
-use Rattle.js_grammar.proofs.CoreLemmas.{none_longer-from, plain_of, opens, opens-same}
+use Rattle.js_grammar.proofs.CoreLemmas.{none_longer-from, plain_of}
 use Rattle.js_grammar.proofs.CoreNumbers.{nothing-nil}
 use Rattle.js_grammar.proofs.CoreNames.{IsPlain}
 use Rattle.js_grammar.proofs.CorePlain.{no_backslash, no_return, points-plain, feeds-append}
+use Rattle.js_grammar.proofs.Quotations.{plain-feeds, something_left, inside_of, quote_opens}
 
 -- a character within the quotes
 abbrev pub plain_in : ℕ → ℕ → Bool
@@ -78,51 +80,26 @@ no_cr q body h = all-mono (plain_in q) no_return body (λ c p. not_from_false (c
 no_slash : (q : ℕ) (body : List ℕ) → list_all (plain_in q) body ≡ true → list_all no_backslash body ≡ true
 no_slash q body h = all-mono (plain_in q) no_backslash body (λ c p. not_from_false (c == 92) (plain-of q c p).slash) h
 
--- the quote's line ends
-quote-feeds : (q : ℕ) (ys : List ℕ) → (q == 13) ≡ false → line_feeds (q ∷ ys) ≡ q ∷ line_feeds ys
-quote-feeds q ys e = ap (λ (b : Bool). elim b [ true ↦ 10 ∷ line_feeds_after true ys | false ↦ q ∷ line_feeds_after false ys ]) e
-
-something_left : (d : ℕ) (ys : List ℕ) → nothing_left (line_feeds (d ∷ ys)) ≡ false
-something_left d ys = go (d == 13)
-  where
-    go : (b : Bool) → nothing_left (elim b [ true ↦ 10 ∷ line_feeds_after true ys | false ↦ d ∷ line_feeds_after false ys ]) ≡ false
-    go true = refl
-    go false = refl
-
-take-all : (xs ys : List ℕ) → take (length xs) (xs ++ ys) ≡ xs
-take-all [] ys = refl
-take-all (x ∷ xs) ys = ap (λ (v : List ℕ). x ∷ v) (take-all xs ys)
-
-inside-of : (q : ℕ) (body : List ℕ) → string_inside (q ∷ body ++ q ∷ []) ≡ body
-inside-of q body =
-    let m : length (body ++ q ∷ []) ≡ length body + 1 = Rattle.std.proofs.Common.length-append body (q ∷ []) in
-    let n : length (q ∷ body ++ q ∷ []) - 1 ≡ suc (length body) = omega arith in
-    ap (λ (m : ℕ). drop 1 (take m (q ∷ body ++ q ∷ []))) n ∙ take-all body (q ∷ [])
-
 quote_no_return : (q : ℕ) → one_of (34 ∷ 39 ∷ []) q ≡ true → (q == 13) ≡ false
 quote_no_return q h = not-true (q == 13) (member (λ c. not (c == 13)) (34 ∷ 39 ∷ []) q h refl)
 
 string-itself : (q : ℕ) (body : List ℕ) → one_of (34 ∷ 39 ∷ []) q ≡ true → list_all (plain_in q) body ≡ true → string_kind (q ∷ body ++ q ∷ []) ≡ Some Str
 string-itself q body o h =
-    let f : line_feeds (body ++ q ∷ []) ≡ body ++ q ∷ [] = feeds-append body (q ∷ []) (no_cr q body h) ∙ ap (λ (v : List ℕ). body ++ v) (quote-feeds q [] (quote_no_return q o)) in
+    let f : line_feeds (body ++ q ∷ []) ≡ body ++ q ∷ [] = feeds-append body (q ∷ []) (no_cr q body h) ∙ ap (λ (v : List ℕ). body ++ v) (plain-feeds q [] (quote_no_return q o)) in
     let c : closes_string q false (line_feeds (body ++ q ∷ [])) ≡ true = ap (λ (v : List ℕ). closes_string q false v) f ∙ closes-run q body [] h in
     let g : line_feeds body ≡ body = ap line_feeds (sym (append-nil body)) ∙ feeds-append body [] (no_cr q body h) ∙ append-nil body in
-    let p : string_points (string_inside (q ∷ body ++ q ∷ [])) ≡ Some body = ap string_points (inside-of q body) ∙ ap (λ (v : List ℕ). code_points in_string v) g ∙ points-plain in_string body (no_slash q body h) in
+    let p : string_points (string_inside (q ∷ body ++ q ∷ [])) ≡ Some body = ap string_points (inside_of q body) ∙ ap (λ (v : List ℕ). code_points in_string v) g ∙ points-plain in_string body (no_slash q body h) in
     ap (λ (b : Bool). elim b [ true ↦ Some Str | false ↦ None ])
     (both (one_of (34 ∷ 39 ∷ []) q) (closes_string q false (line_feeds (body ++ q ∷ [])) && is_some (string_points (string_inside (q ∷ body ++ q ∷ [])))) o
     (both (closes_string q false (line_feeds (body ++ q ∷ []))) (is_some (string_points (string_inside (q ∷ body ++ q ∷ [])))) c (ap is_some p)))
 
 string-longer : (q : ℕ) (body : List ℕ) (d : ℕ) (ys : List ℕ) → one_of (34 ∷ 39 ∷ []) q ≡ true → list_all (plain_in q) body ≡ true → string_kind (q ∷ body ++ q ∷ d ∷ ys) ≡ None
 string-longer q body d ys o h =
-    let f : line_feeds (body ++ q ∷ d ∷ ys) ≡ body ++ q ∷ line_feeds (d ∷ ys) = feeds-append body (q ∷ d ∷ ys) (no_cr q body h) ∙ ap (λ (v : List ℕ). body ++ v) (quote-feeds q (d ∷ ys) (quote_no_return q o)) in
+    let f : line_feeds (body ++ q ∷ d ∷ ys) ≡ body ++ q ∷ line_feeds (d ∷ ys) = feeds-append body (q ∷ d ∷ ys) (no_cr q body h) ∙ ap (λ (v : List ℕ). body ++ v) (plain-feeds q (d ∷ ys) (quote_no_return q o)) in
     let c : closes_string q false (line_feeds (body ++ q ∷ d ∷ ys)) ≡ false = ap (λ (v : List ℕ). closes_string q false v) f ∙ closes-run q body (line_feeds (d ∷ ys)) h ∙ something_left d ys in
     ap (λ (b : Bool). elim b [ true ↦ Some Str | false ↦ None ])
     (and_right (one_of (34 ∷ 39 ∷ []) q) (closes_string q false (line_feeds (body ++ q ∷ d ∷ ys)) && is_some (string_points (string_inside (q ∷ body ++ q ∷ d ∷ ys))))
     (and_left (closes_string q false (line_feeds (body ++ q ∷ d ∷ ys))) (is_some (string_points (string_inside (q ∷ body ++ q ∷ d ∷ ys)))) c))
-
-quote_opens : (q : ℕ) (digit : Bool) → one_of (34 ∷ 39 ∷ []) q ≡ true → opening q digit ≡ a_string
-quote_opens q true h = opens-same _ _ (member (λ c. opens (opening c true) a_string) (34 ∷ 39 ∷ []) q h refl)
-quote_opens q false h = opens-same _ _ (member (λ c. opens (opening c false) a_string) (34 ∷ 39 ∷ []) q h refl)
 
 plain_body : (q : ℕ) (body rest : List ℕ) → one_of (34 ∷ 39 ∷ []) q ≡ true → list_all (plain_in q) body ≡ true → IsPlain (q ∷ body ++ q ∷ []) rest
 unfolding words
@@ -158,5 +135,5 @@ string-units q cs h =
     let b = body_of q cs (both-right (one_of (34 ∷ 39 ∷ []) q) (closes_core_string q cs) h) in
     let g : line_feeds b.body ≡ b.body = ap line_feeds (sym (append-nil b.body)) ∙ feeds-append b.body [] (no_cr q b.body b.plain) ∙ append-nil b.body in
     let p : string_points b.body ≡ Some b.body = ap (λ (v : List ℕ). code_points in_string v) g ∙ points-plain in_string b.body (no_slash q b.body b.plain) in
-    let i : string_inside (q ∷ cs) ≡ b.body = ap (λ (v : List ℕ). string_inside (q ∷ v)) b.is ∙ inside-of q b.body in
+    let i : string_inside (q ∷ cs) ≡ b.body = ap (λ (v : List ℕ). string_inside (q ∷ v)) b.is ∙ inside_of q b.body in
     ap (λ (o : Option (List ℕ)). Rattle.std.specs.Prelude.option_map code_units o) (subst (λ (v : List ℕ). string_points v ≡ Some v) (sym i) p)

@@ -66,7 +66,7 @@ unfolding core_rule
 plain_line n e = plain_at n.name e n.flags
 
 -- a mark on functions in parentheses is another one
-pife_apart : (n : ℕ) → has_flag pure_flag (n + 8192) ≡ has_flag pure_flag n
+pub pife_apart : (n : ℕ) → has_flag pure_flag (n + 8192) ≡ has_flag pure_flag n
 pife_apart n = ap (λ (m : ℕ). nat_eq m 1) (let k : (n + 8192) / 4096 % 2 ≡ n / 4096 % 2 = omega arith in k)
 
 pife_plain : (k : NodeKind) (o : Op) (n : ℕ) (s : Span) → plain k n ≡ true → (plain (with_pife (record { kind = k; op = o; flags = n; span = s })).kind (with_pife (record { kind = k; op = o; flags = n; span = s })).flags) ≡ true

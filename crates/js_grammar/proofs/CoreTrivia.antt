@@ -1,24 +1,25 @@
 -- The trivia of a core text, and the lexeme behind it.
 use Rattle.std.proofs.Common.{◌≡◌, ◌<◌, ℕ, ◌+◌, ◌==◌, Bool, true, false, List, [], ◌∷◌, ◌++◌, refl, sym, ap, subst, ◌∙◌, not, ◌&&◌, ◌||◌, length, arith, nat_lt}
 use Rattle.std.proofs.lemmas.Bool.{and_right, and_left}
+use Rattle.std.proofs.Math.Bool.{or-false}
 use Rattle.std.specs.Prelude.{codes, bytes_eq}
 use Rattle.std.specs.List.{list_all}
 use Rattle.js_base.specs.Kinds.{one_of_kinds}
 use Rattle.js_base.specs.Texts.{text_of}
 use Rattle.js_base.specs.part_text.Characters.{one_of, is_decimal, is_line_terminator}
 use Rattle.js_grammar.specs.Characters.{width, is_identifier_start, is_white_space, has_line_terminator, begins}
-use Rattle.js_grammar.specs.Longest.{longest, none_longer, none_begins, joined}
+use Rattle.js_grammar.specs.Longest.{longest, none_longer, joined}
 use Rattle.js_grammar.specs.Trivia.{after, within_line, closes_comment, is_blank, is_single_line_comment, is_multi_line_comment, is_html_open, is_html_close, is_html_comment, is_trivia_piece, are_trivia, lack_html_comments}
 use Rattle.js_base.specs.Keywords.{keyword_of}
 use Rattle.js_grammar.specs.Names.{is_plain_name}
 use Rattle.js_grammar.specs.Lexemes.{may_precede}
-use Rattle.js_grammar.specs.CoreTexts.{is_core_piece, is_core_blank, is_ascii_name, is_core_number, is_core_string, is_core_punctuator, core_punctuators, core_words, is_core_use, are_core, ends_in_glue, is_glue, starts, occurs}
+use Rattle.js_grammar.specs.CoreTexts.{is_core_piece, is_core_blank, is_ascii_name, is_core_number, core_punctuators, core_words, is_core_use, are_core, ends_in_glue, is_glue, starts, occurs}
 use Rattle.js_grammar.specs.Strings.{nothing_left}
 use Rattle.js_grammar.specs.Grammar.{last, next}
 use Rattle.js_grammar.specs.CorePieces.{piece_lexeme, end_lexeme, lexemes_from}
 use Rattle.js_grammar.proofs.LongestLemmas.{both-left, both-right, both, not-true}
 use Rattle.js_grammar.proofs.Finding.{neither, neither-left, neither-right, member, found-all}
-use Rattle.js_grammar.proofs.CoreLemmas.{none_longer-from, opens}
+use Rattle.js_grammar.proofs.CoreLemmas.{none_longer-from}
 use Rattle.js_grammar.proofs.CoreFirst.{is_core_first, decimal-ascii, is_mark, IsMark, punctuator_mark, first_passes, Sort, blank, name, number, string, punctuator, sort, sort_first}
 use Rattle.js_grammar.proofs.CoreNames.{Before, IsPlain, ascii, core_ascii, plain_name}
 use Rattle.js_grammar.proofs.CoreNumbers.{nothing-nil, plain_number}
@@ -66,7 +67,7 @@ after-starts [] w more p h = refl
 after-starts (x ∷ a) [] more p h = cc
 after-starts (x ∷ a) (c ∷ w) more p h = both (x == c) (starts a (w ++ more)) (both-left (x == c) (after a p w) h) (after-starts a w more p (both-right (x == c) (after a p w) h))
 
-not_after : (a w more rest : List ℕ) (p : List ℕ → Bool) → rest ≡ w ++ more → starts a rest ≡ false → after a p w ≡ false
+pub not_after : (a w more rest : List ℕ) (p : List ℕ → Bool) → rest ≡ w ++ more → starts a rest ≡ false → after a p w ≡ false
 not_after a w more rest p e n = go (after a p w) refl
   where
     go : (b : Bool) → after a p w ≡ b → after a p w ≡ false
@@ -198,10 +199,6 @@ any_of true b d = refl
 any_of false true d = refl
 any_of false false d = refl
 
-any_none : (a : Bool) → (a || false) ≡ a
-any_none true = refl
-any_none false = refl
-
 behind : (s c : ℕ) (qs : List (List ℕ)) → s + width (c ∷ []) + width (joined qs) ≡ s + width (joined ((c ∷ []) ∷ qs))
 behind s c qs = omega arith
 
@@ -232,14 +229,14 @@ word_listed first c cs ps l f p k t = (
   t,
   λ s nl. ap (λ (b : Bool). elim b [ true ↦ lexemes_from (s + width (c ∷ cs)) (nl || has_line_terminator (c ∷ cs)) ps | false ↦ next (piece_lexeme s nl (c ∷ cs) (joined ps)) (lexemes_from (s + width (c ∷ cs)) false ps) ]) (no_blank c cs f)
       ∙ ap (λ (i : ℕ). next (piece_lexeme i nl (c ∷ cs) (joined ps)) (lexemes_from (i + width (c ∷ cs)) false ps)) (at_once s)
-      ∙ ap (λ (n : Bool). next (piece_lexeme (s + 0) n (c ∷ cs) (joined ps)) (lexemes_from (s + 0 + width (c ∷ cs)) false ps)) (sym (any_none nl)),
+      ∙ ap (λ (n : Bool). next (piece_lexeme (s + 0) n (c ∷ cs) (joined ps)) (lexemes_from (s + 0 + width (c ∷ cs)) false ps)) (sym (or-false nl)),
 )
   where
     at_once : (s : ℕ) → s ≡ s + 0
     at_once s = omega arith
 
 end_listed : (first : Bool) (s : ℕ) (nl : Bool) → lexemes_from s nl [] ≡ last (end_lexeme (s + 0) (nl || false))
-end_listed first s nl = ap (λ (i : ℕ). last (end_lexeme i nl)) at_once ∙ ap (λ (n : Bool). last (end_lexeme (s + 0) n)) (sym (any_none nl))
+end_listed first s nl = ap (λ (i : ℕ). last (end_lexeme i nl)) at_once ∙ ap (λ (n : Bool). last (end_lexeme (s + 0) n)) (sym (or-false nl))
   where
     at_once : s ≡ s + 0
     at_once = omega arith

@@ -17,7 +17,8 @@ use Rattle.js_grammar.specs.LexicalFaults.{Reached}
 use Rattle.js_grammar.proofs.Behind.{lexed_behind}
 use Rattle.js_grammar.proofs.Renamed.{renamed, remarked, first_of, second_of, symbol_of, mark_of}
 use Rattle.js_grammar.proofs.BuiltLines.{in_whole}
-use Rattle.js_grammar.proofs.Loose.{strict_is_cover, strict_is_loose}
+use Rattle.js_grammar.proofs.Loose.{strict_is_cover, strict_is_loose, is_property_line}
+use Rattle.js_grammar.proofs.Finding.{either_of}
 
 -- The head of an arrow, as it may be before it is known to be one, drops what it keeps: no program has one.
 abbrev is_head : Name → Bool
@@ -77,15 +78,11 @@ puts (keep a b) = puts a && puts b
 puts kept = true
 puts _ = false
 
-in_one : {A : Type 0} (a b : Bool) → (a || b) ≡ true → (a ≡ true → A) → (b ≡ true → A) → A
-in_one true b h x y = x refl
-in_one false b h x y = y h
-
 module _ (Q : Span → Type 0) where
   -- those that are kept
   kept_each : (g : G) → puts g ≡ true → {ks ts us : Slots} {i j : ℕ} {ls rest : Lexemes} → Takes rule g ks ts i ls us j rest → Each Q ts → Each Q ks
   kept_each (ahead a) h (is_ahead d) e = kept_each a h d e
-  kept_each (seq a b) h (is_seq d c) e = in_one (puts a) (puts b) h (λ p. kept_each a p d e) (λ p. kept_each b p c (behind Q d e))
+  kept_each (seq a b) h (is_seq d c) e = either_of (puts a) (puts b) h (λ p. kept_each a p d e) (λ p. kept_each b p c (behind Q d e))
   kept_each (alt a b) h (is_left d) e = kept_each a (and_parts (puts a) _ h).0 d e
   kept_each (alt a b) h (is_right d) e = kept_each b (and_parts (puts a) _ h).1 d e
   kept_each (when c a) h (is_when q d) e = kept_each a h d e
@@ -141,10 +138,6 @@ commas_narrow a b true true q e = (e, ((refl, ((q, e), tt)), tt))
 commas_narrow a b false false q e = (e, ((refl, (q, e)), tt))
 commas_narrow a b true false q e = absurd (cc)
 commas_narrow a b false true q e = absurd (cc)
-
-abbrev is_property_line : Name → Bool
-is_property_line Property = true
-is_property_line _ = false
 
 -- ---- computed for each nonterminal
 

@@ -1,17 +1,13 @@
 -- Tests on lists: members, and what `find` gives.
-use Rattle.std.proofs.Common.{◌≡◌, ℕ, ◌==◌, Bool, true, false, List, [], ◌∷◌, ◌++◌, refl, subst, ◌||◌, Option, Some, None, ◌⊎◌, inl, inr}
+use Rattle.std.proofs.Common.{◌≡◌, ℕ, ◌==◌, Bool, true, false, List, [], ◌∷◌, ◌++◌, refl, subst, ◌||◌, Option, Some, None, ◌⊎◌, inl, inr, not, sym, ◌∙◌}
 use Rattle.std.specs.Prelude.{is_some, cond}
 use Rattle.std.specs.List.{list_all, find}
-use Rattle.std.proofs.lemmas.Bool.{eqb-true}
+use Rattle.std.proofs.lemmas.Bool.{eqb-true, or_cases, false≢true, eq-eqb}
 use Rattle.js_base.specs.declared.kind.Kind.{Kind}
 use Rattle.js_base.specs.Kinds.{code, same_kind, one_of_kinds}
 use Rattle.js_base.proofs.KindLemmas.{kind_of_same}
 use Rattle.js_base.specs.part_text.Characters.{one_of}
 use Rattle.js_grammar.proofs.LongestLemmas.{both-left, both-right, both}
-
-pub either : (a b : Bool) → (a || b) ≡ true → (a ≡ true) ⊎ (b ≡ true)
-either true b h = inl refl
-either false b h = inr h
 
 pub neither-left : (a b : Bool) → (a || b) ≡ false → a ≡ false
 neither-left true b h = h
@@ -24,10 +20,35 @@ neither-right false b h = h
 pub neither : (a b : Bool) → a ≡ false → b ≡ false → (a || b) ≡ false
 neither a b h k = rw (h, k) refl
 
+pub contrary : (b : Bool) → not b ≡ true → b ≡ true → ⊥
+contrary true h e = false≢true h
+contrary false h e = false≢true e
+
+pub either_of : {F : Type 0} (a b : Bool) → (a || b) ≡ true → (a ≡ true → F) → (b ≡ true → F) → F
+either_of true b h f g = f refl
+either_of false b h f g = g h
+
+pub eqb-turn : (a b : ℕ) → (a == b) ≡ (b == a)
+eqb-turn a b = go (a == b) refl (b == a) refl
+  where
+    go : (x : Bool) → (a == b) ≡ x → (y : Bool) → (b == a) ≡ y → x ≡ y
+    go true e y f = sym (eq-eqb b a (sym (eqb-true a b e))) ∙ f
+    go false e true f = absurd (false≢true (sym e ∙ eq-eqb a b (sym (eqb-true b a f))))
+    go false e false f = refl
+
+pub implied : (a b : Bool) → (b || not a) ≡ true → a ≡ true → b ≡ true
+implied a true h e = refl
+implied true false h e = absurd (false≢true h)
+implied false false h e = e
+
+pub holds_if : (a b : Bool) → (not a || b) ≡ true → a ≡ true → b ≡ true
+holds_if true b h e = h
+holds_if false b h e = absurd (false≢true e)
+
 -- a member of a list passes what all its members pass
 pub member : (t : ℕ → Bool) (ds : List ℕ) (c : ℕ) → one_of ds c ≡ true → list_all t ds ≡ true → t c ≡ true
 member t [] c h a = cc
-member t (d ∷ ds) c h a = elim (either (d == c) (one_of ds c) h) [
+member t (d ∷ ds) c h a = elim (or_cases (d == c) (one_of ds c) h) [
   | inl e ↦ subst (λ (x : ℕ). t x ≡ true) (eqb-true d c e) (both-left (t d) (list_all t ds) a)
   | inr m ↦ member t ds c m (both-right (t d) (list_all t ds) a)
 ]
@@ -35,7 +56,7 @@ member t (d ∷ ds) c h a = elim (either (d == c) (one_of ds c) h) [
 -- of a kind
 pub kind_passes : (t : Kind → Bool) (ks : List Kind) (k : Kind) → one_of_kinds ks k ≡ true → list_all t ks ≡ true → t k ≡ true
 kind_passes t [] k h a = cc
-kind_passes t (d ∷ ks) k h a = elim (either (same_kind d k) (one_of_kinds ks k) h) [
+kind_passes t (d ∷ ks) k h a = elim (or_cases (same_kind d k) (one_of_kinds ks k) h) [
   | inl e ↦ subst (λ (x : Kind). t x ≡ true) (kind_of_same d k e) (both-left (t d) (list_all t ks) a)
   | inr m ↦ kind_passes t ks k m (both-right (t d) (list_all t ks) a)
 ]
@@ -43,7 +64,7 @@ kind_passes t (d ∷ ks) k h a = elim (either (same_kind d k) (one_of_kinds ks k
 -- of a kind, by its number
 pub kind_member : (t : ℕ → Bool) (ks : List Kind) (k : Kind) → one_of_kinds ks k ≡ true → list_all (λ a. t (code a)) ks ≡ true → t (code k) ≡ true
 kind_member t [] k h a = cc
-kind_member t (d ∷ ks) k h a = elim (either (same_kind d k) (one_of_kinds ks k) h) [
+kind_member t (d ∷ ks) k h a = elim (or_cases (same_kind d k) (one_of_kinds ks k) h) [
   | inl e ↦ subst (λ (x : ℕ). t x ≡ true) (eqb-true (code d) (code k) e) (both-left (t (code d)) (list_all (λ a. t (code a)) ks) a)
   | inr m ↦ kind_member t ks k m (both-right (t (code d)) (list_all (λ a. t (code a)) ks) a)
 ]

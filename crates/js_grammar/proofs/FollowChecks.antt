@@ -7,10 +7,9 @@ use Rattle.js_grammar.specs.Productions.{Flags, Name, G, Program, If, ForIn, Or,
 use Rattle.js_grammar.specs.Table.{rule_of}
 use Rattle.js_grammar.specs.FirstSets.{first}
 use Rattle.js_grammar.specs.Follow.{surest}
+use Rattle.js_grammar.specs.Chains.{is_coalesce, is_member, is_call, is_links, is_decorator_member, feet}
 use Rattle.js_grammar.proofs.Looks.{none, either, covers}
 use Rattle.js_grammar.proofs.First.{starts}
-use Rattle.js_grammar.proofs.Chains.{is_coalesce, is_member, is_call, is_links, is_decorator_member}
-use Rattle.js_grammar.proofs.Split.{feet}
 
 -- where F stands behind the part
 abbrev fits : G → Look → Bool

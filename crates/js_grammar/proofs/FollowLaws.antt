@@ -10,9 +10,11 @@ use Rattle.js_grammar.specs.Productions.{Flags, Name, Symbol, at, Program, Expre
 use Rattle.js_grammar.specs.Parsing.{always, full, Admits, Fails}
 use Rattle.js_grammar.specs.Table.{rule}
 use Rattle.js_grammar.specs.Follow.{Edge, row_of, edge_of, first_edge, tight, larger, looser, behind_statement, follow_of, follow, widest, surest, after}
+use Rattle.js_grammar.specs.RightEdges.{may_end}
 use Rattle.js_grammar.proofs.Looks.{covers, covered}
 use Rattle.js_grammar.proofs.Calculus.{Sure, On, closes, fails_rule}
-use Rattle.js_grammar.proofs.RightEdges.{each_row, at_row, may_end, edged, first_row}
+use Rattle.js_grammar.proofs.RightEdges.{each_row, at_row, edged, first_row}
+use Rattle.js_grammar.proofs.Finding.{holds_if}
 
 -- A regular expression counts as a slash, a template's middle and its tail as a right brace.
 
@@ -175,10 +177,6 @@ passed_at n m true true h = (and_parts (passes_at n m true true) _ (and_parts (p
 passed_at n m true false h = (and_parts (passes_at n m true true) _ (and_parts (passes_at n m true true && passes_at n m true false) _ h).0).1
 passed_at n m false true h = (and_parts (passes_at n m false true) _ (and_parts (passes_at n m true true && passes_at n m true false) _ h).1).0
 passed_at n m false false h = (and_parts (passes_at n m false true) _ (and_parts (passes_at n m true true && passes_at n m true false) _ h).1).1
-
-holds_if : (a b : Bool) → (not a || b) ≡ true → a ≡ true → b ≡ true
-holds_if true b h e = h
-holds_if false b h e = absurd (false≢true e)
 
 -- a symbol's tree has one of the rows that are claimed of it
 pub row_claimed : {m : Symbol} {c : Tree → Bool} {ks ts us : Slots} {i j : ℕ} {ls rest : Lexemes} → Takes rule (such m c) ks ts i ls us j rest → may_end m.name (first_row ts) ≡ true

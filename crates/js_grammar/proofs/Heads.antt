@@ -1,6 +1,6 @@
 -- A name, or what stands in parentheses, with `=>` behind it: no operand takes that arrow.
 use Rattle.std.proofs.Common.{ℕ, ◌≡◌, ◌⊎◌, inl, inr, Bool, true, false, not, cond, ◌&&◌, ◌||◌, List, [], ◌∷◌, ◌++◌, IsTrue, nat_eq, Some, None, refl, sym, ap, subst, ◌∙◌}
-use Rattle.std.proofs.lemmas.Bool.{false≢true, and_parts, or_right, false_from_ne_true}
+use Rattle.std.proofs.lemmas.Bool.{false≢true, and_parts, or_right, false_from_ne_true, or_cases}
 use Rattle.js_base.specs.declared.kind.Kind.{Kind}
 use Rattle.js_base.specs.declared.kind.Kind.TheVariants.{LParen, RParen, Arrow}
 use Rattle.js_base.specs.Kinds.{same_kind}
@@ -18,7 +18,6 @@ use Rattle.js_grammar.proofs.Matched.{Effect, leaves, effect, balance, Meets, br
 use Rattle.js_grammar.proofs.BracketClaims.{rule_matches}
 use Rattle.js_grammar.proofs.First.{starts, starting}
 use Rattle.js_grammar.proofs.FirstClaims.{firsts}
-use Rattle.js_grammar.proofs.Finding.{either}
 
 -- With these brackets open: the lexemes up to the one behind which none is open, the place there, and what stands behind it.
 pub data One : List ℕ → Lexemes → ℕ → Lexemes → Type 0 where
@@ -296,7 +295,7 @@ one_name x ls h n = rw (not_bracket x.kind x.newline x.escaped (λ q. not_both m
     alone false b h n = absurd (false≢true (sym n ∙ h))
 
 begins_along : {g : G} {ks ts us : Slots} {i j : ℕ} {ls rest : Lexemes} → Takes rule g ks ts i ls us j rest → (begins_no_arrow g || takes_no_arrow g) ≡ true → (rest ≡ ls) ⊎ NoArrow ls
-begins_along {g} {ls = ls} {rest = rest} d h = go (either (begins_no_arrow g) (takes_no_arrow g) h)
+begins_along {g} {ls = ls} {rest = rest} d h = go (or_cases (begins_no_arrow g) (takes_no_arrow g) h)
   where
     go : (begins_no_arrow g ≡ true) ⊎ (takes_no_arrow g ≡ true) → (rest ≡ ls) ⊎ NoArrow ls
     go (inl e) = inr (false_from_ne_true _ (λ q. not_both (starts first g full) an_arrow e (here ls).kind (here ls).newline (here ls).escaped (starting firsts full d refl) q))
@@ -317,7 +316,7 @@ seq_head {a} {b} {ls = ls} {rest = rest} d e h q f g = by (cant_begin (seq a b))
     by false false u v h = let z = and_parts (goes_on a) _ h in let w = and_parts (goes_on b) _ z.1 in then_taken (f z.0) (g w.0) (begins_along e w.1)
 
 by_symbol : (n : Symbol) (ls rest : Lexemes) → (of_operands n.name || apart (first n) begins_head) ≡ true → IsTrue (seen (starts first (rule n) full) (here ls)) → IsTrue (seen begins_head (here ls)) → (goes_on (rule n) ≡ true → Taken (may_be_empty (rule n)) ls rest) → Taken false ls rest
-by_symbol n ls rest h s q f = by (either (of_operands n.name) _ h)
+by_symbol n ls rest h s q f = by (or_cases (of_operands n.name) _ h)
   where
     by : (of_operands n.name ≡ true) ⊎ (apart (first n) begins_head ≡ true) → Taken false ls rest
     by (inl e) = let z = line_goes_on n e in of_symbol z.1 (f z.0)

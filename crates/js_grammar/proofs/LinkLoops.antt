@@ -10,11 +10,13 @@ use Rattle.js_grammar.specs.Productions.{sym as symbol}
 use Rattle.js_grammar.specs.Parsing.{full, plain, Way, joined, Admits, Reads, Fails}
 use Rattle.js_grammar.specs.Table.{rule, rule_of}
 use Rattle.js_grammar.specs.Follow.{Edge, edge_of, follow_of, after}
+use Rattle.js_grammar.specs.Towers.{Link, link, linked_label, this, of_left, of_right, Around}
+use Rattle.js_grammar.specs.Chains.{is_member, members}
 use Rattle.js_grammar.proofs.Looks.{covers}
 use Rattle.js_grammar.proofs.FirstClaims.{firsts}
-use Rattle.js_grammar.proofs.Towers.{Link, link, linked_label, this, of_left, of_right, OneOf, head, later}
-use Rattle.js_grammar.proofs.Loops.{Around, chain_step_by, beginning}
-use Rattle.js_grammar.proofs.Chains.{is_member, climbs, member_links, members}
+use Rattle.js_grammar.proofs.Towers.{OneOf, head, later}
+use Rattle.js_grammar.proofs.Loops.{chain_step_by, beginning}
+use Rattle.js_grammar.proofs.Chains.{climbs, member_links}
 
 -- of a member so much was read
 abbrev pub OfMember : (ℕ → Lexeme → Type 0) → Flags → ℕ → ℕ → Label → Slots → ℕ → Way → Type 0

@@ -1,5 +1,5 @@
 -- The longest front of a class is one alone.
-use Rattle.std.proofs.Common.{◌≡◌, ℕ, Bool, true, false, List, [], ◌∷◌, ◌++◌, refl, sym, ap, subst, not, ◌&&◌, append_assoc, ◌⊎◌, inl, inr}
+use Rattle.std.proofs.Common.{◌≡◌, ℕ, Bool, true, false, List, [], ◌∷◌, ◌++◌, refl, sym, subst, not, ◌&&◌, append_assoc, ◌⊎◌, inl, inr}
 pub use Rattle.std.proofs.lemmas.Bool.{not-true}
 use Rattle.js_grammar.specs.Longest.{Class, longest, none_longer}
 
@@ -13,10 +13,6 @@ both-right false b h = cc
 
 pub both : (a b : Bool) → a ≡ true → b ≡ true → (a && b) ≡ true
 both a b h k = rw (h, k) refl
-
-pub append-nil : (w : List ℕ) → w ++ [] ≡ w
-append-nil [] = refl
-append-nil (c ∷ w) = ap (λ v. c ∷ v) (append-nil w)
 
 -- no longer front is of the class
 pub none_longer-at : (class : Class) (w : List ℕ) (c : ℕ) (x more : List ℕ) → none_longer class w (c ∷ x ++ more) ≡ true → class (w ++ c ∷ x) more ≡ false

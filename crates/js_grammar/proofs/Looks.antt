@@ -2,9 +2,10 @@
 use Rattle.std.proofs.Common.{◌≡◌, Bool, true, false, not, ◌&&◌, ◌||◌, refl, sym, ◌∙◌, subst}
 use Rattle.std.proofs.lemmas.Bool.{and_parts, or_left, or_right, false≢true, eq-eqb}
 use Rattle.js_base.specs.declared.kind.Kind.{Kind}
-use Rattle.js_base.specs.Kinds.{code, kinds, same_kind}
-use Rattle.js_base.proofs.KindLemmas.{all_of, at_each}
+use Rattle.js_base.specs.Kinds.{code, kinds, same_kind, every_kind}
+use Rattle.js_base.proofs.KindLemmas.{at_each}
 use Rattle.js_grammar.specs.Grammar.{Look}
+use Rattle.js_grammar.proofs.Finding.{implied}
 pub use Rattle.js_grammar.specs.Parsing.{full}
 
 abbrev pub none : Look
@@ -25,17 +26,12 @@ four_at g false false h = (and_parts (g false true) (g false false) (and_parts (
 -- what p admits, q admits
 unfoldable pub covers : Look → Look → Bool
 unfolding kinds
-covers p q = all_of (λ k. four (λ w e. q k w e || not (p k w e))) kinds
+covers p q = every_kind (λ k. four (λ w e. q k w e || not (p k w e))) kinds
 
 -- nothing is admitted by both
 unfoldable pub apart : Look → Look → Bool
 unfolding kinds
-apart p q = all_of (λ k. four (λ w e. not (q k w e && p k w e))) kinds
-
-implied : (a b : Bool) → (b || not a) ≡ true → a ≡ true → b ≡ true
-implied a true h e = refl
-implied true false h e = absurd (false≢true h)
-implied false false h e = e
+apart p q = every_kind (λ k. four (λ w e. not (q k w e && p k w e))) kinds
 
 refuted : (a b : Bool) → not (a && b) ≡ true → a ≡ true → b ≡ true → ⊥
 refuted true true h e f = false≢true h

@@ -9,16 +9,10 @@ use Rattle.js_grammar.specs.Grammar.{Lexeme, Lexemes, here, Look, seen, Grammar,
 use Rattle.js_grammar.specs.Lexed.{Lexes}
 use Rattle.js_grammar.proofs.Looks.{none, either, covers, covered, some_of, some_at}
 use Rattle.js_grammar.proofs.First.{FirstSets, starts, starting}
-use Rattle.js_grammar.specs.Parsing.{always, full, Reaches, Way, joined, Passes, Test, plain, Admits, Reads, Fails}
+use Rattle.js_grammar.specs.Parsing.{always, full, Reaches, Way, joined, Test, plain, Admits, Reads, Fails}
+use Rattle.js_grammar.specs.Towers.{Link, link, linked_label, Among, of_left, of_right, Tower, Tail, tail_none, tail_more, chain, Around}
 use Rattle.js_grammar.proofs.Calculus.{label_is, slots_are, Heads, Within, On, weaken_fails, fails_never, here_at, a_far, b_far, passes_both}
-use Rattle.js_grammar.proofs.Towers.{Link, link, linked_label, Among, of_left, of_right, Links, one, two, guarded, none_at_all, Tower, Foot, topmost, of_level, Tail, tail_none, tail_more, an_link, under, unroll, roll, on_foot, foot_high, foot_low, Same, chain, level_tower, branches, operation, operation_link, of_operations, to_operations, OneOf, head, later}
-
--- Of the symbol of the level m, read from s on, where X stands behind it, a node of the level c has been read, up to s'; what remains is the parts behind it. The symbol's first lexeme begins at `from`.
-pub record Around {N : Type 0} {rule : N → Grammar N} (Lex : ℕ → Lexeme → Type 0) (X : Test) (w : Tower rule) (m s from c : ℕ) (l : Label) (cs : Slots) (s' : ℕ) (way : Way) : Type 0 where
-  pub passes : Passes Lex s s' way.pass
-  pub sound : (m' : Label) (ds : Slots) (k : ℕ) (ls' rest : Lexemes) → Lexes Lex s' ls' → Reaches way.reach s' ls' → Tail w m from c l cs s' ls' m' ds k rest → Takes rule (w.operand m) end (tree m' ds end) s (way.pass ls') end k rest
-  pub only : (m' : Label) (ds : Slots) (k : ℕ) (ls rest : Lexemes) → Lexes Lex s ls → Takes rule (w.operand m) end (tree m' ds end) s ls end k rest → Admits X (tree m' ds end) (here rest) → (ls' : Lexemes) × Lexes Lex s' ls' × Tail w m from c l cs s' ls' m' ds k rest × (ls ≡ way.pass ls')
-  pub begins : (y : Lexeme) → Lex s y → y.from ≡ from
+use Rattle.js_grammar.proofs.Towers.{Links, one, two, guarded, none_at_all, Foot, topmost, of_level, an_link, under, unroll, roll, on_foot, foot_high, foot_low, Same, level_tower, operation_link, of_operations, to_operations, OneOf, head, later, Lawful, chain_lawful}
 
 -- a link that may go around a node of the level c
 abbrev pub Step : {N : Type 0} {rule : N → Grammar N} → Tower rule → ℕ → ℕ → ℕ → Link N → Type 0
@@ -122,11 +116,11 @@ module _ {N : Type 0} {rule : N → Grammar N} (C : FirstSets rule) where
 
   module _ {Lex : ℕ → Lexeme → Type 0} {w : Tower rule} {m : ℕ} {X : Test} where
     -- a foot was read
-    pub start_at : {X' : Test} {s from s' c : ℕ} {g : Grammar N} {rn : Way} {l : Label} {cs : Slots} → m ≤ w.top + 1 → Foot w m c g → Reads rule Lex X' end g s s' (tree l cs) rn → OtherFeet Lex w m X' s c g → Within X X' → Follows C.first w m (w.top + 1) X' → ((y : Lexeme) → Lex s y → y.from ≡ from) → Around Lex X w m s from c l cs s' rn
-    start_at {X'} {s} {from} {s'} {c} {g} {rn} {l} {cs} h t r o p f b = record {
+    pub start_at : {X' : Test} {s from s' c : ℕ} {g : Grammar N} {rn : Way} {l : Label} {cs : Slots} → Lawful w → m ≤ w.top + 1 → Foot w m c g → Reads rule Lex X' end g s s' (tree l cs) rn → OtherFeet Lex w m X' s c g → Within X X' → Follows C.first w m (w.top + 1) X' → ((y : Lexeme) → Lex s y → y.from ≡ from) → Around Lex X w m s from c l cs s' rn
+    start_at {X'} {s} {from} {s'} {c} {g} {rn} {l} {cs} law h t r o p f b = record {
       passes = r.passes;
-      sound = λ m' ds k ls' rest i n u. roll w (on_foot w t (r.sound end end s' ls' ls' i n is_nothing)) (foot_high w h t) (foot_low w t) (renamed (sym (b (here (rn.pass ls')) (here_at Lex (rn.pass ls') (r.passes.lexed ls' i)))) refl refl u);
-      only = λ m' ds k ls rest i d e. let y = unroll w m' ds m s k ls rest h d in by_foot y.0 y.1 y.2 y.3 y.4 y.5 m' ds k ls rest (o y.4 y.5 y.6) (foot_low w y.6) i y.7 y.8 e;
+      sound = λ m' ds k ls' rest i n u. roll w law (on_foot w law t (r.sound end end s' ls' ls' i n is_nothing)) (foot_high w h t) (foot_low w t) (renamed (sym (b (here (rn.pass ls')) (here_at Lex (rn.pass ls') (r.passes.lexed ls' i)))) refl refl u);
+      only = λ m' ds k ls rest i d e. let y = unroll w law m' ds m s k ls rest h d in by_foot y.0 y.1 y.2 y.3 y.4 y.5 m' ds k ls rest (o y.4 y.5 y.6) (foot_low w y.6) i y.7 y.8 e;
       begins = b;
     }
       where
@@ -138,17 +132,17 @@ module _ {N : Type 0} {rule : N → Grammar N} (C : FirstSets rule) where
         by_foot l' cs' j mid c' g' m' ds k ls rest (inr n) v i d u e = absurd (n.no (tree l' cs' end) end j ls mid i d (starting_tail X X' (tree l' cs' end) u e (follows_less v f) (p (tree l' cs' end) (here mid))))
 
     -- no foot can be read
-    pub start_fails_at : {n : N} {X' : Test} {ks : Slots} {s : ℕ} → w.operand m ≡ such n always → m ≤ w.top + 1 → ((c : ℕ) (g : Grammar N) → Foot w m c g → Fails rule Lex X' end g s) → Heads X X → Within X X' → Follows C.first w m (w.top + 1) X' → Fails rule Lex X ks (such n always) s
-    start_fails_at {n} {X'} {ks} {s} o h r a g f = record {
-      no = λ ts vs k ls rest i d e. let z = as_tree d in let y = unroll w z.0 z.1 m s k ls rest h (subst (λ v. Takes rule v end (tree z.0 z.1 end) s ls end k rest) (sym o) z.3) in
+    pub start_fails_at : {n : N} {X' : Test} {ks : Slots} {s : ℕ} → Lawful w → w.operand m ≡ such n always → m ≤ w.top + 1 → ((c : ℕ) (g : Grammar N) → Foot w m c g → Fails rule Lex X' end g s) → Heads X X → Within X X' → Follows C.first w m (w.top + 1) X' → Fails rule Lex X ks (such n always) s
+    start_fails_at {n} {X'} {ks} {s} law o h r a g f = record {
+      no = λ ts vs k ls rest i d e. let z = as_tree d in let y = unroll w law z.0 z.1 m s k ls rest h (subst (λ v. Takes rule v end (tree z.0 z.1 end) s ls end k rest) (sym o) z.3) in
           (r y.4 y.5 y.6).no (tree y.0 y.1 end) end y.2 ls y.3 i y.7 (starting_tail X X' (tree y.0 y.1 end) y.8 (a z.0 z.1 vs (here rest) (at_tree X (here rest) e z.2)) (follows_less (foot_low w y.6) f) (g (tree y.0 y.1 end) (here y.3)));
     }
 
-    pub start : {X' : Test} {s from s' : ℕ} {rn : Way} {l : Label} {cs : Slots} → ((q : ℕ) → q ≤ w.top → w.feet q ≡ never) → m ≤ w.top + 1 → Reads rule Lex X' end (w.operand (w.top + 1)) s s' (tree l cs) rn → Within X X' → Follows C.first w m (w.top + 1) X' → ((y : Lexeme) → Lex s y → y.from ≡ from) → Around Lex X w m s from (w.top + 1) l cs s' rn
-    start n h r p f b = start_at h topmost r (alone_on_top n) p f b
+    pub start : {X' : Test} {s from s' : ℕ} {rn : Way} {l : Label} {cs : Slots} → Lawful w → ((q : ℕ) → q ≤ w.top → w.feet q ≡ never) → m ≤ w.top + 1 → Reads rule Lex X' end (w.operand (w.top + 1)) s s' (tree l cs) rn → Within X X' → Follows C.first w m (w.top + 1) X' → ((y : Lexeme) → Lex s y → y.from ≡ from) → Around Lex X w m s from (w.top + 1) l cs s' rn
+    start law n h r p f b = start_at law h topmost r (alone_on_top n) p f b
 
-    pub start_fails : {n : N} {X' : Test} {ks : Slots} {s : ℕ} → ((q : ℕ) → q ≤ w.top → w.feet q ≡ never) → w.operand m ≡ such n always → m ≤ w.top + 1 → Fails rule Lex X' end (w.operand (w.top + 1)) s → Heads X X → Within X X' → Follows C.first w m (w.top + 1) X' → Fails rule Lex X ks (such n always) s
-    start_fails {n} {X'} {ks} {s} z o h r a p f = start_fails_at o h each a p f
+    pub start_fails : {n : N} {X' : Test} {ks : Slots} {s : ℕ} → Lawful w → ((q : ℕ) → q ≤ w.top → w.feet q ≡ never) → w.operand m ≡ such n always → m ≤ w.top + 1 → Fails rule Lex X' end (w.operand (w.top + 1)) s → Heads X X → Within X X' → Follows C.first w m (w.top + 1) X' → Fails rule Lex X ks (such n always) s
+    start_fails {n} {X'} {ks} {s} law z o h r a p f = start_fails_at law o h each a p f
       where
         each : (c : ℕ) (g : Grammar N) → Foot w m c g → Fails rule Lex X' end g s
         each c g topmost = r
@@ -212,21 +206,20 @@ module _ {N : Type 0} {rule : N → Grammar N} (C : FirstSets rule) where
     }
 
   -- The rules of operators, for any table of levels, where each operator stands at one level.
-  module _ (level : ℕ → N) (top : ℕ) (kind : ℕ → NodeKind) (feet : ℕ → Grammar N) (ops : ℕ → List Kind)
-      (climbs : (p : ℕ) → p ≤ top → Same rule (rule (level p)) (alt (alt (such (level (p + 1)) always) (feet p)) (branches (ops p) (operation level kind p)))) where
+  module _ (level : ℕ → N) (top : ℕ) (kind : ℕ → NodeKind) (feet : ℕ → Grammar N) (ops : ℕ → List Kind) where
     -- the next lexeme tells the part
-    pub part_at : (m c q : ℕ) (x : Link N) → Step (level_tower level top kind feet ops climbs) m c q x → (k : Kind) (w e : Bool) → starts C.first x.part full k w e ≡ true → OneOf k (ops q) × (x ≡ operation_link level kind q k)
+    pub part_at : (m c q : ℕ) (x : Link N) → Step (level_tower level top kind feet ops) m c q x → (k : Kind) (w e : Bool) → starts C.first x.part full k w e ≡ true → OneOf k (ops q) × (x ≡ operation_link level kind q k)
     part_at m c q x a k w e h =
         let y = of_operations level kind q (ops q) a.3 in
         let same : y.0 ≡ k = kind_of_same y.0 k (and_parts _ _ (subst (λ v. starts C.first v.part full k w e ≡ true) y.2 h)).0 in
         (subst (λ v. OneOf v (ops q)) same y.1, y.2 ∙ ap (λ v. operation_link level kind q v) same)
 
-    pub operators_follow : {m c : ℕ} {X' : Test} → ((q : ℕ) (ts : Slots) (y : Lexeme) → OneOf y.kind (ops q) → m ≤ q → q ≤ c → q ≤ top → Admits X' ts y) → Follows C.first (level_tower level top kind feet ops climbs) m c X'
+    pub operators_follow : {m c : ℕ} {X' : Test} → ((q : ℕ) (ts : Slots) (y : Lexeme) → OneOf y.kind (ops q) → m ≤ q → q ≤ c → q ≤ top → Admits X' ts y) → Follows C.first (level_tower level top kind feet ops) m c X'
     operators_follow {m} {c} i = record { goes = λ q x a ts y t. i q ts y (part_at m c q x a y.kind y.newline y.escaped t).0 a.0 a.1 a.2 }
 
     -- the operator here stands at one level
     pub one_operator : {Lex : ℕ → Lexeme → Type 0} {X : Test} {m c s q : ℕ} {l : Label} {cs : Slots} (k : Kind) → ((y : Lexeme) → Lex s y → y.kind ≡ k) → m ≤ q → q ≤ c → q ≤ top → OneOf k (ops q) → ((q' : ℕ) → OneOf k (ops q') → q' ≡ q) → ((y : Lexeme) → Lex s y → Admits X (tree l cs end) y → ⊥)
-        → Alone Lex X (level_tower level top kind feet ops climbs) m c s q (operation_link level kind q k) l cs
+        → Alone Lex X (level_tower level top kind feet ops) m c s q (operation_link level kind q k) l cs
     one_operator {Lex} {X} {m} {c} {s} {q} {l} {cs} k z a b d i u g = record {
       step = (a, b, d, to_operations level kind q (ops q) i);
       other = λ q' x' st y n t. let r = part_at m c q' x' st y.kind y.newline y.escaped t in let same = z y n in let v = u q' (subst (λ a. OneOf a (ops q')) same r.0) in inl (v, r.1 ∙ (ap (λ a. operation_link level kind q' a) same ∙ ap (λ a. operation_link level kind a k) v));
@@ -234,7 +227,7 @@ module _ {N : Type 0} {rule : N → Grammar N} (C : FirstSets rule) where
     }
 
     -- no operator of the levels between may stand here
-    pub operators_end : {Lex : ℕ → Lexeme → Type 0} {X X' : Test} {ks : Slots} {m c s from s' : ℕ} {rn : Way} {l : Label} {cs : Slots} → Heads X' X → Around Lex X (level_tower level top kind feet ops climbs) m s from c l cs s' rn → ((q : ℕ) → m ≤ q → q ≤ c → (y : Lexeme) → Lex s' y → OneOf y.kind (ops q) → ⊥) → Reads rule Lex X' ks (such (level m) always) s s' (tree l cs) rn
+    pub operators_end : {Lex : ℕ → Lexeme → Type 0} {X X' : Test} {ks : Slots} {m c s from s' : ℕ} {rn : Way} {l : Label} {cs : Slots} → Heads X' X → Around Lex X (level_tower level top kind feet ops) m s from c l cs s' rn → ((q : ℕ) → m ≤ q → q ≤ c → (y : Lexeme) → Lex s' y → OneOf y.kind (ops q) → ⊥) → Reads rule Lex X' ks (such (level m) always) s s' (tree l cs) rn
     operators_end {m = m} {c = c} g a n = finish refl g a (λ q x st y l t. let r = part_at m c q x st y.kind y.newline y.escaped t in n q st.0 st.1 y l r.0)
 
   -- the links that may begin with a lexeme of this kind
@@ -268,21 +261,21 @@ module _ {N : Type 0} {rule : N → Grammar N} (C : FirstSets rule) where
   -- The rules of a chain: a symbol n that is base, or a link behind itself.
   module _ {n : N} {base g : Grammar N} (e : Same rule (rule n) (alt base g)) (lk : Links n g) where
     abbrev pub Chained : (ℕ → Lexeme → Type 0) → Test → ℕ → ℕ → Label → Slots → ℕ → Way → Type 0
-    Chained Lex X s from l cs s' way = Around Lex X (chain n base g e lk) 0 s from 1 l cs s' way
+    Chained Lex X s from l cs s' way = Around Lex X (chain n base g) 0 s from 1 l cs s' way
 
-    of_step : (c q : ℕ) (x : Link N) → Step (chain n base g e lk) 0 c q x → (q ≡ 0) × Among n g x
+    of_step : (c q : ℕ) (x : Link N) → Step (chain n base g) 0 c q x → (q ≡ 0) × Among n g x
     of_step c q x a = (zero_only a.2, a.3)
 
-    follows : {c : ℕ} {F' : Look} → all_links lk (λ x. covers (starts C.first x.part full) F') ≡ true → Follows C.first (chain n base g e lk) 0 c (plain F')
+    follows : {c : ℕ} {F' : Look} → all_links lk (λ x. covers (starts C.first x.part full) F') ≡ true → Follows C.first (chain n base g) 0 c (plain F')
     follows {c} {F'} i = record { goes = λ q x a ts y t. (covered (starts C.first x.part full) F' (each_link lk (λ x. covers (starts C.first x.part full) F') i x (of_step c q x a).1) y.kind y.newline y.escaped t, refl) }
 
     pub chain_start : {Lex : ℕ → Lexeme → Type 0} {X : Test} {F' : Look} {s from s' : ℕ} {rn : Way} {l : Label} {cs : Slots} → Reads rule Lex (plain F') end base s s' (tree l cs) rn → covers X.base F' ≡ true → all_links lk (λ x. covers (starts C.first x.part full) F') ≡ true → ((y : Lexeme) → Lex s y → y.from ≡ from) → Chained Lex X s from l cs s' rn
-    chain_start {Lex} {X} {F'} r h i b = start {Lex = Lex} {w = chain n base g e lk} {m = 0} {X = X} {X' = plain F'} (λ q h. refl) (omega arith) r (λ ts y p. (covered X.base F' h _ _ _ p.0, refl)) (follows i) b
+    chain_start {Lex} {X} {F'} r h i b = start {Lex = Lex} {w = chain n base g} {m = 0} {X = X} {X' = plain F'} (chain_lawful n base g e lk) (λ q h. refl) (omega arith) r (λ ts y p. (covered X.base F' h _ _ _ p.0, refl)) (follows i) b
 
     pub chain_start_fails : {Lex : ℕ → Lexeme → Type 0} {X : Test} {F' : Look} {ks : Slots} {s : ℕ} → Fails rule Lex (plain F') end base s → covers X.base F' ≡ true → all_links lk (λ x. covers (starts C.first x.part full) F') ≡ true → Fails rule Lex X ks (such n always) s
-    chain_start_fails {Lex} {X} {F'} r h i = weaken_fails (start_fails {Lex = Lex} {w = chain n base g e lk} {m = 0} {X = plain X.base} {X' = plain F'} (λ q h. refl) refl (omega arith) r (λ l cs vs y p. p) (λ ts y p. (covered X.base F' h _ _ _ p.0, refl)) (follows i)) (λ ts y p. (p.0, refl))
+    chain_start_fails {Lex} {X} {F'} r h i = weaken_fails (start_fails {Lex = Lex} {w = chain n base g} {m = 0} {X = plain X.base} {X' = plain F'} (chain_lawful n base g e lk) (λ q h. refl) refl (omega arith) r (λ l cs vs y p. p) (λ ts y p. (covered X.base F' h _ _ _ p.0, refl)) (follows i)) (λ ts y p. (p.0, refl))
 
-    alone : {Lex : ℕ → Lexeme → Type 0} {X : Test} {s' : ℕ} {x : Link N} {l : Label} {cs : Slots} (k : Kind) → ((y : Lexeme) → Lex s' y → y.kind ≡ k) → Among n g x → ((x' : Link N) → OneOf x' (beginning lk k) → (x' ≡ x) ⊎ Fails rule Lex (plain full) end x'.part s') → ((y : Lexeme) → Lex s' y → Admits X (tree l cs end) y → ⊥) → Alone Lex X (chain n base g e lk) 0 1 s' 0 x l cs
+    alone : {Lex : ℕ → Lexeme → Type 0} {X : Test} {s' : ℕ} {x : Link N} {l : Label} {cs : Slots} (k : Kind) → ((y : Lexeme) → Lex s' y → y.kind ≡ k) → Among n g x → ((x' : Link N) → OneOf x' (beginning lk k) → (x' ≡ x) ⊎ Fails rule Lex (plain full) end x'.part s') → ((y : Lexeme) → Lex s' y → Admits X (tree l cs end) y → ⊥) → Alone Lex X (chain n base g) 0 1 s' 0 x l cs
     alone {Lex} {X} {s'} {x} {l} {cs} k h a b f = record {
       step = (omega arith, omega arith, omega arith, a);
       other = λ q' x' st y i t. let z = of_step 1 q' x' st in at_level q' x' z.0 (b x' (in_beginning lk k x' z.1 (subst (λ v. some_of (starts C.first x'.part full v) ≡ true) (h y i) (some_at (starts C.first x'.part full y.kind) y.newline y.escaped t))));

@@ -10,9 +10,9 @@ use Rattle.js_grammar.specs.TableLaws.{loosely}
 use Rattle.js_grammar.proofs.Renamed.{renamed}
 use Rattle.js_grammar.proofs.Wider.{Le, le_renamed, le_derives}
 
-abbrev is_property : Name → Bool
-is_property Property = true
-is_property _ = false
+abbrev pub is_property_line : Name → Bool
+is_property_line Property = true
+is_property_line _ = false
 
 -- the one of shorthands with an initialiser alone
 abbrev pub cover : Symbol → Symbol
@@ -59,21 +59,21 @@ loose_rule s = go (opens s.name) refl
     go true h = loose_opens s.name s.flags h
     go false h = subst (Le loosely (rule_of s.name s.flags)) (loose_same s.name s.flags h) (le_renamed loosely (rule_of s.name s.flags))
 
-cover_same : (n : Name) (f : Flags) → is_property n ≡ false → renamed cover (rule_of n f) ≡ rule_of n (record f { cover = true })
+cover_same : (n : Name) (f : Flags) → is_property_line n ≡ false → renamed cover (rule_of n f) ≡ rule_of n (record f { cover = true })
 unfolding rule_of
 cover_same Property f h = absurd (false≢true (sym h))
 cover_same n f h = refl
 
-cover_property : (n : Name) (f : Flags) → is_property n ≡ true → Le cover (rule_of n f) (rule_of n (record f { cover = true }))
+cover_property : (n : Name) (f : Flags) → is_property_line n ≡ true → Le cover (rule_of n f) (rule_of n (record f { cover = true }))
 unfolding rule_of
 cover_property Property f h = search rules
 cover_property n f h = absurd (false≢true h)
 
 cover_rule : (s : Symbol) → Le cover (rule s) (rule (cover s))
 unfolding rule
-cover_rule s = go (is_property s.name) refl
+cover_rule s = go (is_property_line s.name) refl
   where
-    go : (b : Bool) → is_property s.name ≡ b → Le cover (rule_of s.name s.flags) (rule_of s.name (record (s.flags) { cover = true }))
+    go : (b : Bool) → is_property_line s.name ≡ b → Le cover (rule_of s.name s.flags) (rule_of s.name (record (s.flags) { cover = true }))
     go true h = cover_property s.name s.flags h
     go false h = subst (Le cover (rule_of s.name s.flags)) (cover_same s.name s.flags h) (le_renamed cover (rule_of s.name s.flags))
 

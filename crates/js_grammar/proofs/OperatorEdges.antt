@@ -11,12 +11,13 @@ use Rattle.js_grammar.specs.Parsing.{Admits}
 use Rattle.js_grammar.specs.Table.{rule}
 use Rattle.js_grammar.specs.Levels.{binds, level_at, operators_of, operators_at, node_at}
 use Rattle.js_grammar.specs.Follow.{row_of, first_edge, tight, looser, follow, after}
+use Rattle.js_grammar.specs.RightEdges.{of_operand}
 use Rattle.js_grammar.proofs.Looks.{covers, covered, same_self}
 use Rattle.js_grammar.proofs.Calculus.{Within}
 use Rattle.js_grammar.proofs.Towers.{OneOf}
 use Rattle.js_grammar.proofs.Loops.{Edges, listed}
 use Rattle.js_grammar.proofs.Operators.{operates}
-use Rattle.js_grammar.proofs.RightEdges.{each_row, at_row, of_operand, first_row}
+use Rattle.js_grammar.proofs.RightEdges.{each_row, at_row, first_row}
 use Rattle.js_grammar.proofs.FollowLaws.{admits, looser_than}
 
 -- the test of a level is that of its number
@@ -38,7 +39,7 @@ pub tighter_level : (f : Flags) (m n : ℕ) → m ≤ n → n ≤ 10 → Within 
 tighter_level f m n h i ts y e = admits (level_at f n) ts y (level_looser f n ts y i ∙ looser_than (m + 5) (n + 5) f.in_ (first_row ts) y.kind y.newline y.escaped (omega arith) (sym (level_looser f m ts y (omega arith)) ∙ e.1))
 
 -- a level's node ends as its right operand does
-last_at : (q : ℕ) → edge_is_last (node_at q) ≡ true
+pub last_at : (q : ℕ) → edge_is_last (node_at q) ≡ true
 last_at zero = refl
 last_at (suc zero) = refl
 last_at (suc (suc q)) = refl
@@ -96,7 +97,7 @@ checked false (suc (suc (suc (suc (suc (suc (suc (suc zero)))))))) h = refl
 checked false (suc (suc (suc (suc (suc (suc (suc (suc (suc zero))))))))) h = refl
 checked b (suc (suc (suc (suc (suc (suc (suc (suc (suc (suc n)))))))))) h = absurd (omega arith)
 
-some_level : (b : Bool) (q : ℕ) {k : Kind} → OneOf k (operators_of b q) → q ≤ 9
+pub some_level : (b : Bool) (q : ℕ) {k : Kind} → OneOf k (operators_of b q) → q ≤ 9
 some_level b zero i = omega arith
 some_level b (suc zero) i = omega arith
 some_level b (suc (suc zero)) i = omega arith

@@ -11,7 +11,8 @@ use Rattle.js_grammar.specs.Productions.{Flags, Symbol, G, at, Relational, Shift
 use Rattle.js_grammar.specs.Productions.{sym as symbol}
 use Rattle.js_grammar.specs.Table.{rule, rule_of}
 use Rattle.js_grammar.specs.Levels.{level_at, top_level, comparisons, operators_at, node_at, feet_at, private_in}
-use Rattle.js_grammar.proofs.Towers.{Same, without_feet, Tower, level_tower, branches, operation, operation_link, Link, OneOf, head, later}
+use Rattle.js_grammar.specs.Towers.{Link, Tower}
+use Rattle.js_grammar.proofs.Towers.{Same, without_feet, level_tower, branches, operation, operation_link, OneOf, head, later, Lawful, level_lawful}
 
 -- a choice among kinds is one of them
 pub chosen : {N : Type 0} {rules : N → Grammar N} (g : Kind → Grammar N) (ks : List Kind) {us vs ts : Slots} {i j : ℕ} {ls rest : Lexemes} → Takes rules (branches ks g) ts us i ls vs j rest → (k : Kind) × OneOf k ks × Takes rules (g k) ts us i ls vs j rest
@@ -105,7 +106,10 @@ module _ (f : Flags) where
 
   -- The loop over all levels.
   abbrev pub levels : Tower rule
-  levels = level_tower (level_at f) top_level node_at (feet_at f) (operators_at f) climbs
+  levels = level_tower (level_at f) top_level node_at (feet_at f) (operators_at f)
+
+  pub levels_lawful : Lawful levels
+  levels_lawful = level_lawful (level_at f) top_level node_at (feet_at f) (operators_at f) climbs
 
   abbrev pub operates : ℕ → Kind → Link Symbol
   operates p o = operation_link (level_at f) node_at p o

@@ -154,7 +154,7 @@ tail_longer : (c : ℕ) (cs : List ℕ) (d : ℕ) (x more : List ℕ) → is_som
 tail_longer c cs d x more h = ap is_some (no_part c 125 TemplateTail TemplateMiddle (cs ++ d ∷ x) (part_longer false false cs d x h))
 
 -- a pattern that is closed, and more characters behind its flags
-pattern_longer : (b e : Bool) (xs ys fs : List ℕ) → behind_pattern b e xs ≡ Some fs → behind_pattern b e (xs ++ ys) ≡ Some (fs ++ ys)
+pub pattern_longer : (b e : Bool) (xs ys fs : List ℕ) → behind_pattern b e xs ≡ Some fs → behind_pattern b e (xs ++ ys) ≡ Some (fs ++ ys)
 pattern_longer b e [] ys fs h = cc
 pattern_longer b e (c ∷ xs) ys fs h = go (is_line_terminator c) (not e && (not b && (c == 47))) h (λ k. pattern_longer (elim e [ true ↦ b | false ↦ (b && not (c == 93)) || (c == 91) ]) (not e && (c == 92)) xs ys fs k)
   where

@@ -4,10 +4,12 @@ use Rattle.std.proofs.lemmas.Bool.{false≢true, or_left, or_right, and_parts, a
 use Rattle.js_grammar.specs.Trees.{Label, Slots, end, hole, tree, append}
 use Rattle.js_grammar.specs.Insertion.{Row, after_expression, after_postfix, after_body, after_yield, after_declarator, after_word, edge_is_last, own_row, empty_row, edge}
 use Rattle.js_grammar.specs.Grammar.{Lexemes, nothing, lexeme, look, text, empty_slot, seq, alt, when, commas, such, node, Takes, is_nothing, is_lexeme, is_look, is_text, is_ahead, is_empty_slot, is_seq, is_left, is_right, is_when, is_many, is_commas, is_such, is_marked, is_node, is_ended, is_keep, is_kept}
-use Rattle.js_grammar.specs.Productions.{Flags, Name, Symbol, G, Program, Body, Expression, Assignment, Yield, Conditional, Short, Coalesce, Or, And, BitOr, BitXor, BitAnd, Equality, Relational, Shift, Additive, Multiply, Exponent, Unary, Update, Arrow', Argument, LeftHandSide, New, Member, Call, Chain, Links, Super, Primary, Template, Object, FuncExpr, ClassExpr, IdentifierReference, SimpleTarget}
+use Rattle.js_grammar.specs.Productions.{Flags, Name, Symbol, G, Program}
 use Rattle.js_grammar.specs.Table.{rule, rule_of}
 use Rattle.js_grammar.specs.Follow.{row_of, first_edge}
+use Rattle.js_grammar.specs.RightEdges.{same_row, may_end}
 use Rattle.js_grammar.proofs.Frame.{puts}
+use Rattle.js_grammar.proofs.Finding.{implied}
 
 -- a check at each row
 abbrev pub each_row : (Row → Bool) → Bool
@@ -21,15 +23,6 @@ at_row t h after_yield = let h = (and_parts (t after_expression) _ h).1 in let h
 at_row t h after_declarator = let h = (and_parts (t after_expression) _ h).1 in let h = (and_parts (t after_postfix) _ h).1 in let h = (and_parts (t after_body) _ h).1 in let h = (and_parts (t after_yield) _ h).1 in (and_parts (t after_declarator) _ h).0
 at_row t h after_word = let h = (and_parts (t after_expression) _ h).1 in let h = (and_parts (t after_postfix) _ h).1 in let h = (and_parts (t after_body) _ h).1 in let h = (and_parts (t after_yield) _ h).1 in (and_parts (t after_declarator) _ h).1
 
-abbrev pub same_row : Row → Row → Bool
-same_row after_expression after_expression = true
-same_row after_postfix after_postfix = true
-same_row after_body after_body = true
-same_row after_yield after_yield = true
-same_row after_declarator after_declarator = true
-same_row after_word after_word = true
-same_row _ _ = false
-
 same_self : (r : Row) → same_row r r ≡ true
 same_self after_expression = refl
 same_self after_postfix = refl
@@ -37,53 +30,6 @@ same_self after_body = refl
 same_self after_yield = refl
 same_self after_declarator = refl
 same_self after_word = refl
-
--- The rows that an operand may have, and those of an assignment.
-abbrev pub of_operand : Row → Bool
-of_operand r = same_row after_expression r || same_row after_postfix r
-
-abbrev pub of_assignment : Row → Bool
-of_assignment r = of_operand r || (same_row after_body r || same_row after_yield r)
-
--- Which rows the trees of each nonterminal may have; of those not named here nothing is claimed.
-abbrev pub may_end : Name → Row → Bool
-may_end LeftHandSide r = same_row after_expression r
-may_end New r = same_row after_expression r
-may_end Member r = same_row after_expression r
-may_end Call r = same_row after_expression r
-may_end Chain r = same_row after_expression r
-may_end Links r = same_row after_expression r
-may_end Super r = same_row after_expression r
-may_end Primary r = same_row after_expression r
-may_end Template r = same_row after_expression r
-may_end Object r = same_row after_expression r
-may_end FuncExpr r = same_row after_expression r
-may_end ClassExpr r = same_row after_expression r
-may_end IdentifierReference r = same_row after_expression r
-may_end SimpleTarget r = same_row after_expression r
-may_end Update r = of_operand r
-may_end Unary r = of_operand r
-may_end Exponent r = of_operand r
-may_end Multiply r = of_operand r
-may_end Additive r = of_operand r
-may_end Shift r = of_operand r
-may_end Relational r = of_operand r
-may_end Equality r = of_operand r
-may_end BitAnd r = of_operand r
-may_end BitXor r = of_operand r
-may_end BitOr r = of_operand r
-may_end And r = of_operand r
-may_end Or r = of_operand r
-may_end Coalesce r = of_operand r
-may_end Short r = of_operand r
-may_end Body r = same_row after_body r
-may_end Arrow' r = of_assignment r
-may_end Yield r = of_assignment r
-may_end Conditional r = of_assignment r
-may_end Assignment r = of_assignment r
-may_end Argument r = of_assignment r
-may_end Expression r = of_assignment r
-may_end _ r = true
 
 -- The edge of slots is that of the last ones.
 own_free : (a b none : Row) (us : Slots) → (edge a none (hole us) ≡ edge b none (hole us)) × ((l : Label) (cs : Slots) → edge a none (tree l cs us) ≡ edge b none (tree l cs us))
@@ -142,11 +88,6 @@ ends_at n f = refl
 ends_claim : (s : Symbol) → each_row (λ r. may_end s.name r || not (edges (rule s) r)) ≡ true
 unfolding rule
 ends_claim s = ends_at s.name s.flags
-
-pub implied : (a b : Bool) → (b || not a) ≡ true → a ≡ true → b ≡ true
-implied a true h e = refl
-implied true false h e = absurd (false≢true h)
-implied false false h e = e
 
 -- the row of the first slot
 abbrev pub first_row : Slots → Row

@@ -2,31 +2,8 @@
 use Rattle.std.proofs.Common.{ℕ, ◌⊎◌, inl, inr, Bool, true, false, cond}
 use Rattle.js_grammar.specs.Trees.{Slots, end, tree}
 use Rattle.js_grammar.specs.Grammar.{Lexemes, Make, label_of, Grammar, never, seq, alt, when, such, node, Takes, is_seq, is_left, is_right, is_when, is_node}
+use Rattle.js_grammar.specs.Chains.{other_heads, own_nodes, feet, links}
 use Rattle.js_grammar.proofs.Towers.{Same}
-
--- What begins a node, without the symbol itself.
-abbrev pub other_heads : {N : Type 0} → (N → Bool) → Grammar N → Grammar N
-other_heads own (such n c) = cond (own n) never (such n c)
-other_heads own (alt a b) = alt (other_heads own a) (other_heads own b)
-other_heads own g = g
-
--- The nodes that begin with it, of those that begin with h and go on with t.
-abbrev pub own_nodes : {N : Type 0} → (N → Bool) → Make → Grammar N → Grammar N → Grammar N
-own_nodes own m t (such n c) = cond (own n) (node m (seq (such n c) t)) never
-own_nodes own m t (alt a b) = alt (own_nodes own m t a) (own_nodes own m t b)
-own_nodes own m t g = never
-
-abbrev pub feet : {N : Type 0} → (N → Bool) → Grammar N → Grammar N
-feet own (alt a b) = alt (feet own a) (feet own b)
-feet own (when c a) = when c (feet own a)
-feet own (node m (seq h t)) = node m (seq (other_heads own h) t)
-feet own g = g
-
-abbrev pub links : {N : Type 0} → (N → Bool) → Grammar N → Grammar N
-links own (alt a b) = alt (links own a) (links own b)
-links own (when c a) = when c (links own a)
-links own (node m (seq h t)) = own_nodes own m t h
-links own g = never
 
 either_way : {A B C D : Type 0} → (A → C) → (B → D) → A ⊎ B → C ⊎ D
 either_way f g (inl x) = inl (f x)

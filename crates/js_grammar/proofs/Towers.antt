@@ -3,32 +3,9 @@ use Rattle.std.proofs.Common.{ℕ, zero, suc, ◌≡◌, ◌≤◌, ◌+◌, ◌
 use Rattle.js_grammar.proofs.Calculus.{label_is, slots_are}
 use Rattle.js_base.specs.declared.kind.Kind.{Kind}
 use Rattle.js_grammar.specs.Trees.{NodeKind, Op, of, Label, Slots, end, hole, tree}
-use Rattle.js_grammar.specs.Grammar.{here, Lexemes, Make, exact, Grammar, never, lexeme, is, seq, alt, when, such, node, Takes, is_seq, is_left, is_right, is_when, is_such, is_node}
+use Rattle.js_grammar.specs.Grammar.{here, Lexemes, Grammar, never, lexeme, is, seq, alt, when, such, node, Takes, is_seq, is_left, is_right, is_when, is_such, is_node}
 use Rattle.js_grammar.specs.Parsing.{always}
-
--- A link: a node around what stands before it, and the part that follows.
-pub record Link (N : Type 0) : Type 0 where
-  pub kind : NodeKind
-  pub op : Op
-  pub flags : ℕ
-  pub part : Grammar N
-
-abbrev pub link : {N : Type 0} → NodeKind → Op → ℕ → Grammar N → Link N
-link k o n a = record { kind = k; op = o; flags = n; part = a }
-
-abbrev pub make_of : NodeKind → Op → ℕ → Make
-make_of k o n = record { kind = k; op = o; flags = n; extent = exact }
-
--- the label of a link's node between two places
-abbrev pub linked_label : {N : Type 0} → Link N → ℕ → ℕ → Label
-linked_label x from to = record { kind = x.kind; op = x.op; flags = x.flags; span = record { from = from; to = to } }
-
--- A choice of the grammar is this link behind the symbol n.
-pub data Among {N : Type 0} (n : N) : Grammar N → Link N → Type 0 where
-  this : {k : NodeKind} {o : Op} {fl : ℕ} {a : Grammar N} → Among n (node (make_of k o fl) (seq (such n always) a)) (link k o fl a)
-  of_left : {a b : Grammar N} {x : Link N} → Among n a x → Among n (alt a b) x
-  of_right : {a b : Grammar N} {x : Link N} → Among n b x → Among n (alt a b) x
-  of_when : {c : Bool} {a : Grammar N} {x : Link N} → IsTrue c → Among n a x → Among n (when c a) x
+use Rattle.js_grammar.specs.Towers.{Link, link, make_of, linked_label, Among, this, of_left, of_right, of_when, Tower, Tail, tail_none, tail_more, chain}
 
 -- Each choice of the grammar is a link behind the symbol n.
 pub data Links {N : Type 0} (n : N) : Grammar N → Type 0 where
@@ -37,28 +14,17 @@ pub data Links {N : Type 0} (n : N) : Grammar N → Type 0 where
   guarded : {c : Bool} {a : Grammar N} → Links n a → Links n (when c a)
   none_at_all : Links n never
 
--- Symbols by levels, each of which takes what the operand of the next level takes, or what a foot of its own takes, or a link behind itself. Above the last stands any grammar.
-pub record Tower {N : Type 0} (rule : N → Grammar N) : Type 0 where
-  pub level : ℕ → N
-  pub top : ℕ
-  pub feet : ℕ → Grammar N
-  pub steps : ℕ → Grammar N
-  pub operand : ℕ → Grammar N
-  pub symbols : (p : ℕ) → p ≤ top → operand p ≡ such (level p) always
-  pub climbs : (p : ℕ) → p ≤ top → (ts us : Slots) (i j : ℕ) (ls rest : Lexemes) → Takes rule (rule (level p)) end ts i ls us j rest → Takes rule (alt (alt (operand (p + 1)) (feet p)) (steps p)) end ts i ls us j rest
-  pub falls : (p : ℕ) → p ≤ top → (ts us : Slots) (i j : ℕ) (ls rest : Lexemes) → Takes rule (alt (alt (operand (p + 1)) (feet p)) (steps p)) end ts i ls us j rest → Takes rule (rule (level p)) end ts i ls us j rest
-  pub linked : (p : ℕ) → p ≤ top → Links (level p) (steps p)
+-- Each level takes what the operand of the next level takes, or what a foot of its own takes, or a link behind itself.
+pub record Lawful {N : Type 0} {rule : N → Grammar N} (w : Tower rule) : Type 0 where
+  pub symbols : (p : ℕ) → p ≤ w.top → w.operand p ≡ such (w.level p) always
+  pub climbs : (p : ℕ) → p ≤ w.top → (ts us : Slots) (i j : ℕ) (ls rest : Lexemes) → Takes rule (rule (w.level p)) end ts i ls us j rest → Takes rule (alt (alt (w.operand (p + 1)) (w.feet p)) (w.steps p)) end ts i ls us j rest
+  pub falls : (p : ℕ) → p ≤ w.top → (ts us : Slots) (i j : ℕ) (ls rest : Lexemes) → Takes rule (alt (alt (w.operand (p + 1)) (w.feet p)) (w.steps p)) end ts i ls us j rest → Takes rule (rule (w.level p)) end ts i ls us j rest
+  pub linked : (p : ℕ) → p ≤ w.top → Links (w.level p) (w.steps p)
 
 -- What a loop for the level m may begin with, and the level of that: the topmost operand, or a foot of a level from m on.
 pub data Foot {N : Type 0} {rule : N → Grammar N} (w : Tower rule) (m : ℕ) : ℕ → Grammar N → Type 0 where
   topmost : Foot w m (w.top + 1) (w.operand (w.top + 1))
   of_level : {q : ℕ} → m ≤ q → q ≤ w.top → Foot w m q (w.feet q)
-
--- The postfix form: behind a node of the level c stand parts, each of which makes a node around what stands before it, of its own level, m at least; a node of the level m comes of it.
-pub data Tail {N : Type 0} {rule : N → Grammar N} (w : Tower rule) (m from : ℕ) : ℕ → Label → Slots → ℕ → Lexemes → Label → Slots → ℕ → Lexemes → Type 0 where
-  tail_none : {c : ℕ} {l : Label} {cs : Slots} {i : ℕ} {ls : Lexemes} → Tail w m from c l cs i ls l cs i ls
-  tail_more : {c q : ℕ} {x : Link N} {l l' : Label} {cs ds cs' : Slots} {i j k : ℕ} {ls mid rest : Lexemes} → m ≤ q → q ≤ c → q ≤ w.top → Among (w.level q) (w.steps q) x → Takes rule x.part end ds i ls end j mid
-      → Tail w m from q (linked_label x from j) (tree l cs ds) j mid l' cs' k rest → Tail w m from c l cs i ls l' cs' k rest
 
 module _ {N : Type 0} {rule : N → Grammar N} where
   -- the slots behind a symbol's node are any
@@ -108,12 +74,6 @@ module _ {N : Type 0} {rule : N → Grammar N} where
     foot_low topmost = omega arith
     foot_low (of_level a b) = omega arith
 
-    to_symbol : {m : ℕ} → m ≤ w.top → {ts us : Slots} {i j : ℕ} {ls rest : Lexemes} → Takes rule (w.operand m) end ts i ls us j rest → Takes rule (such (w.level m) always) end ts i ls us j rest
-    to_symbol {m} h {ts} {us} {i} {j} {ls} {rest} d = subst (λ v. Takes rule v end ts i ls us j rest) (w.symbols m h) d
-
-    of_symbol : {m : ℕ} → m ≤ w.top → {ts us : Slots} {i j : ℕ} {ls rest : Lexemes} → Takes rule (such (w.level m) always) end ts i ls us j rest → Takes rule (w.operand m) end ts i ls us j rest
-    of_symbol {m} h {ts} {us} {i} {j} {ls} {rest} d = subst (λ v. Takes rule v end ts i ls us j rest) (sym (w.symbols m h)) d
-
     abbrev pub Claim : Label → Slots → Type 0
     Claim l cs = (m i j : ℕ) (ls rest : Lexemes) → m ≤ w.top + 1 → Takes rule (w.operand m) end (tree l cs end) i ls end j rest → Postfix m l cs i ls j rest
 
@@ -122,58 +82,65 @@ module _ {N : Type 0} {rule : N → Grammar N} where
     Inner (hole us) = Unit {0}
     Inner (tree l cs us) = Claim l cs
 
-    -- a link behind the symbol itself
-    behind : {m i j : ℕ} {ls rest : Lexemes} (cs : Slots) → Inner cs → m ≤ w.top → {x : Link N} → Among (w.level m) (w.steps m) x → Takes rule (seq (such (w.level m) always) x.part) end cs i ls end j rest → Postfix m (linked_label x (here ls).from j) cs i ls j rest
-    behind {m} {i} {j} {ls} {rest} cs h t x (is_seq (is_such {l = l} {cs = ds} {us = us} d c) p) =
-        let y = h m i _ ls _ (omega arith) (of_symbol t (is_such d refl)) in
-        (y.0, y.1, y.2, y.3, y.4, y.5, y.6, y.7, one_more (foot_high (omega arith) y.6) t y.8 x p)
+    module _ (law : Lawful w) where
+      to_symbol : {m : ℕ} → m ≤ w.top → {ts us : Slots} {i j : ℕ} {ls rest : Lexemes} → Takes rule (w.operand m) end ts i ls us j rest → Takes rule (such (w.level m) always) end ts i ls us j rest
+      to_symbol {m} h {ts} {us} {i} {j} {ls} {rest} d = subst (λ v. Takes rule v end ts i ls us j rest) (law.symbols m h) d
 
-    by_choice : {m i j : ℕ} {ls rest : Lexemes} (l : Label) (cs : Slots) → Inner cs → m ≤ w.top → (Takes rule (w.operand (m + 1)) end (tree l cs end) i ls end j rest → Postfix (m + 1) l cs i ls j rest)
-        → Takes rule (alt (alt (w.operand (m + 1)) (w.feet m)) (w.steps m)) end (tree l cs end) i ls end j rest → Postfix m l cs i ls j rest
-    by_choice l cs h t up (is_left (is_left d)) = let y = up d in (y.0, y.1, y.2, y.3, y.4, y.5, lower_foot y.6, y.7, lower (omega arith) y.8)
-    by_choice {m} {i} {j} {ls} {rest} l cs h t up (is_left (is_right d)) = (l, cs, j, rest, m, w.feet m, of_level (omega arith) t, d, tail_none)
-    by_choice {m} {i} {j} {ls} {rest} l cs h t up (is_right d) =
-        let y = split (w.linked m t) d in
-        let q = sym (slots_are y.3) in
-        subst (λ v. Postfix m v cs i ls j rest) (sym (label_is y.3)) (behind cs h t y.2 (subst (λ v. Takes rule (seq (such (w.level m) always) y.0.part) end v i ls end j rest) q y.4))
+      of_symbol : {m : ℕ} → m ≤ w.top → {ts us : Slots} {i j : ℕ} {ls rest : Lexemes} → Takes rule (such (w.level m) always) end ts i ls us j rest → Takes rule (w.operand m) end ts i ls us j rest
+      of_symbol {m} h {ts} {us} {i} {j} {ls} {rest} d = subst (λ v. Takes rule v end ts i ls us j rest) (sym (law.symbols m h)) d
 
-    of_such : {n : N} {l : Label} {cs : Slots} {i j : ℕ} {ls rest : Lexemes} → Takes rule (such n always) end (tree l cs end) i ls end j rest → Takes rule (rule n) end (tree l cs end) i ls end j rest
-    of_such (is_such d c) = d
+      -- a link behind the symbol itself
+      behind : {m i j : ℕ} {ls rest : Lexemes} (cs : Slots) → Inner cs → m ≤ w.top → {x : Link N} → Among (w.level m) (w.steps m) x → Takes rule (seq (such (w.level m) always) x.part) end cs i ls end j rest → Postfix m (linked_label x (here ls).from j) cs i ls j rest
+      behind {m} {i} {j} {ls} {rest} cs h t x (is_seq (is_such {l = l} {cs = ds} {us = us} d c) p) =
+          let y = h m i _ ls _ (omega arith) (of_symbol t (is_such d refl)) in
+          (y.0, y.1, y.2, y.3, y.4, y.5, y.6, y.7, one_more (foot_high (omega arith) y.6) t y.8 x p)
 
-    climb : (l : Label) (cs : Slots) → Inner cs → (f m i j : ℕ) (ls rest : Lexemes) → f + m ≡ w.top + 1 → Takes rule (w.operand m) end (tree l cs end) i ls end j rest → Postfix m l cs i ls j rest
-    climb l cs h zero m i j ls rest e d = let same : m ≡ w.top + 1 = omega arith in (l, cs, j, rest, w.top + 1, w.operand (w.top + 1), topmost, subst (λ v. Takes rule (w.operand v) end (tree l cs end) i ls end j rest) same d, tail_none)
-    climb l cs h (suc f) m i j ls rest e d =
-        let t : m ≤ w.top = omega arith in
-        by_choice l cs h t (climb l cs h f (m + 1) i j ls rest (omega arith)) (w.climbs m t (tree l cs end) end i j ls rest (of_such (to_symbol t d)))
+      by_choice : {m i j : ℕ} {ls rest : Lexemes} (l : Label) (cs : Slots) → Inner cs → m ≤ w.top → (Takes rule (w.operand (m + 1)) end (tree l cs end) i ls end j rest → Postfix (m + 1) l cs i ls j rest)
+          → Takes rule (alt (alt (w.operand (m + 1)) (w.feet m)) (w.steps m)) end (tree l cs end) i ls end j rest → Postfix m l cs i ls j rest
+      by_choice l cs h t up (is_left (is_left d)) = let y = up d in (y.0, y.1, y.2, y.3, y.4, y.5, lower_foot y.6, y.7, lower (omega arith) y.8)
+      by_choice {m} {i} {j} {ls} {rest} l cs h t up (is_left (is_right d)) = (l, cs, j, rest, m, w.feet m, of_level (omega arith) t, d, tail_none)
+      by_choice {m} {i} {j} {ls} {rest} l cs h t up (is_right d) =
+          let y = split (law.linked m t) d in
+          let q = sym (slots_are y.3) in
+          subst (λ v. Postfix m v cs i ls j rest) (sym (label_is y.3)) (behind cs h t y.2 (subst (λ v. Takes rule (seq (such (w.level m) always) y.0.part) end v i ls end j rest) q y.4))
 
-    -- The left-recursive table takes no more than the postfix form.
-    pub unroll : (l : Label) (cs : Slots) → Claim l cs
-    unroll l end m i j ls rest b d = climb l end tt (w.top + 1 - m) m i j ls rest (omega arith) d
-    unroll l (hole us) m i j ls rest b d = climb l (hole us) tt (w.top + 1 - m) m i j ls rest (omega arith) d
-    unroll l (tree l' cs us) m i j ls rest b d = climb l (tree l' cs us) (unroll l' cs) (w.top + 1 - m) m i j ls rest (omega arith) d
+      of_such : {n : N} {l : Label} {cs : Slots} {i j : ℕ} {ls rest : Lexemes} → Takes rule (such n always) end (tree l cs end) i ls end j rest → Takes rule (rule n) end (tree l cs end) i ls end j rest
+      of_such (is_such d c) = d
 
-    up_one : {p : ℕ} {l : Label} {cs : Slots} {i j : ℕ} {ls rest : Lexemes} → p ≤ w.top → Takes rule (w.operand (p + 1)) end (tree l cs end) i ls end j rest → Takes rule (w.operand p) end (tree l cs end) i ls end j rest
-    up_one {p} {l} {cs} {i} {j} {ls} {rest} h d = of_symbol h (is_such (w.falls p h (tree l cs end) end i j ls rest (is_left (is_left d))) refl)
+      climb : (l : Label) (cs : Slots) → Inner cs → (f m i j : ℕ) (ls rest : Lexemes) → f + m ≡ w.top + 1 → Takes rule (w.operand m) end (tree l cs end) i ls end j rest → Postfix m l cs i ls j rest
+      climb l cs h zero m i j ls rest e d = let same : m ≡ w.top + 1 = omega arith in (l, cs, j, rest, w.top + 1, w.operand (w.top + 1), topmost, subst (λ v. Takes rule (w.operand v) end (tree l cs end) i ls end j rest) same d, tail_none)
+      climb l cs h (suc f) m i j ls rest e d =
+          let t : m ≤ w.top = omega arith in
+          by_choice l cs h t (climb l cs h f (m + 1) i j ls rest (omega arith)) (law.climbs m t (tree l cs end) end i j ls rest (of_such (to_symbol t d)))
 
-    down : (f : ℕ) {m c : ℕ} {l : Label} {cs : Slots} {i j : ℕ} {ls rest : Lexemes} → f + m ≡ c → c ≤ w.top + 1 → Takes rule (w.operand c) end (tree l cs end) i ls end j rest → Takes rule (w.operand m) end (tree l cs end) i ls end j rest
-    down zero {m} {c} {l} {cs} {i} {j} {ls} {rest} e b d = let same : c ≡ m = omega arith in subst (λ v. Takes rule (w.operand v) end (tree l cs end) i ls end j rest) same d
-    down (suc f) {m} {c} {l} {cs} {i} {j} {ls} {rest} e b d = up_one {p = m} (omega arith) (down f {m = m + 1} (omega arith) b d)
+      -- The left-recursive table takes no more than the postfix form.
+      pub unroll : (l : Label) (cs : Slots) → Claim l cs
+      unroll l end m i j ls rest b d = climb l end tt (w.top + 1 - m) m i j ls rest (omega arith) d
+      unroll l (hole us) m i j ls rest b d = climb l (hole us) tt (w.top + 1 - m) m i j ls rest (omega arith) d
+      unroll l (tree l' cs us) m i j ls rest b d = climb l (tree l' cs us) (unroll l' cs) (w.top + 1 - m) m i j ls rest (omega arith) d
 
-    -- The postfix form takes no more than the left-recursive table.
-    pub roll : {m s : ℕ} {start : Lexemes} {c : ℕ} {l l' : Label} {cs cs' : Slots} {i j : ℕ} {ls rest : Lexemes} → Takes rule (w.operand c) end (tree l cs end) s start end i ls → m ≤ c → c ≤ w.top + 1 → Tail w m (here start).from c l cs i ls l' cs' j rest
-        → Takes rule (w.operand m) end (tree l' cs' end) s start end j rest
-    roll {m} {s} {start} {c} d a b tail_none = down (c - m) (omega arith) b d
-    roll {m} {s} {start} {c} d a b (tail_more {q = q} {x = x} {l = l} {cs = cs} {ds = ds} {j = j} {mid = mid} mq qc qt y p t) =
-        roll (of_symbol qt (is_such (w.falls q qt (tree (linked_label x (here start).from j) (tree l cs ds) end) end s j start mid (is_right (join y (is_seq (reslot ds (to_symbol qt (down (c - q) (omega arith) b d))) p)))) refl)) mq (omega arith) t
+      up_one : {p : ℕ} {l : Label} {cs : Slots} {i j : ℕ} {ls rest : Lexemes} → p ≤ w.top → Takes rule (w.operand (p + 1)) end (tree l cs end) i ls end j rest → Takes rule (w.operand p) end (tree l cs end) i ls end j rest
+      up_one {p} {l} {cs} {i} {j} {ls} {rest} h d = of_symbol h (is_such (law.falls p h (tree l cs end) end i j ls rest (is_left (is_left d))) refl)
 
-    -- what a foot takes its level's operand takes
-    pub on_foot : {m c : ℕ} {g : Grammar N} {l : Label} {cs : Slots} {i j : ℕ} {ls rest : Lexemes} → Foot w m c g → Takes rule g end (tree l cs end) i ls end j rest → Takes rule (w.operand c) end (tree l cs end) i ls end j rest
-    on_foot topmost d = d
-    on_foot {l = l} {cs = cs} {i = i} {j = j} {ls = ls} {rest = rest} (of_level {q = q} a b) d = of_symbol b (is_such (w.falls q b (tree l cs end) end i j ls rest (is_left (is_right d))) refl)
+      down : (f : ℕ) {m c : ℕ} {l : Label} {cs : Slots} {i j : ℕ} {ls rest : Lexemes} → f + m ≡ c → c ≤ w.top + 1 → Takes rule (w.operand c) end (tree l cs end) i ls end j rest → Takes rule (w.operand m) end (tree l cs end) i ls end j rest
+      down zero {m} {c} {l} {cs} {i} {j} {ls} {rest} e b d = let same : c ≡ m = omega arith in subst (λ v. Takes rule (w.operand v) end (tree l cs end) i ls end j rest) same d
+      down (suc f) {m} {c} {l} {cs} {i} {j} {ls} {rest} e b d = up_one {p = m} (omega arith) (down f {m = m + 1} (omega arith) b d)
 
-    -- The left-recursive table takes what the postfix form takes.
-    pub is_postfix : {m : ℕ} {l : Label} {cs : Slots} {i j : ℕ} {ls rest : Lexemes} → m ≤ w.top + 1 → Takes rule (w.operand m) end (tree l cs end) i ls end j rest ↔ Postfix m l cs i ls j rest
-    is_postfix {m} {l} {cs} {i} {j} {ls} {rest} h = (λ d. unroll l cs m i j ls rest h d, λ y. roll (on_foot y.6 y.7) (foot_high h y.6) (foot_low y.6) y.8)
+      -- The postfix form takes no more than the left-recursive table.
+      pub roll : {m s : ℕ} {start : Lexemes} {c : ℕ} {l l' : Label} {cs cs' : Slots} {i j : ℕ} {ls rest : Lexemes} → Takes rule (w.operand c) end (tree l cs end) s start end i ls → m ≤ c → c ≤ w.top + 1 → Tail w m (here start).from c l cs i ls l' cs' j rest
+          → Takes rule (w.operand m) end (tree l' cs' end) s start end j rest
+      roll {m} {s} {start} {c} d a b tail_none = down (c - m) (omega arith) b d
+      roll {m} {s} {start} {c} d a b (tail_more {q = q} {x = x} {l = l} {cs = cs} {ds = ds} {j = j} {mid = mid} mq qc qt y p t) =
+          roll (of_symbol qt (is_such (law.falls q qt (tree (linked_label x (here start).from j) (tree l cs ds) end) end s j start mid (is_right (join y (is_seq (reslot ds (to_symbol qt (down (c - q) (omega arith) b d))) p)))) refl)) mq (omega arith) t
+
+      -- what a foot takes its level's operand takes
+      pub on_foot : {m c : ℕ} {g : Grammar N} {l : Label} {cs : Slots} {i j : ℕ} {ls rest : Lexemes} → Foot w m c g → Takes rule g end (tree l cs end) i ls end j rest → Takes rule (w.operand c) end (tree l cs end) i ls end j rest
+      on_foot topmost d = d
+      on_foot {l = l} {cs = cs} {i = i} {j = j} {ls = ls} {rest = rest} (of_level {q = q} a b) d = of_symbol b (is_such (law.falls q b (tree l cs end) end i j ls rest (is_left (is_right d))) refl)
+
+      -- The left-recursive table takes what the postfix form takes.
+      pub is_postfix : {m : ℕ} {l : Label} {cs : Slots} {i j : ℕ} {ls rest : Lexemes} → m ≤ w.top + 1 → Takes rule (w.operand m) end (tree l cs end) i ls end j rest ↔ Postfix m l cs i ls j rest
+      is_postfix {m} {l} {cs} {i} {j} {ls} {rest} h = (λ d. unroll l cs m i j ls rest h d, λ y. roll (on_foot y.6 y.7) (foot_high h y.6) (foot_low y.6) y.8)
 
 -- a member of a list
 pub data OneOf {A : Type 0} (x : A) : List A → Type 0 where
@@ -250,19 +217,17 @@ without_feet {N} {rule} {a} {b} = record { to = λ ts us i j ls rest d. go d; ba
     come (is_right d) = is_right d
 
 -- Any number of levels of operators, some of which have feet.
-abbrev pub level_tower : {N : Type 0} {rule : N → Grammar N} (level : ℕ → N) (top : ℕ) (kind : ℕ → NodeKind) (feet : ℕ → Grammar N) (ops : ℕ → List Kind)
-    → ((p : ℕ) → p ≤ top → Same rule (rule (level p)) (alt (alt (such (level (p + 1)) always) (feet p)) (branches (ops p) (operation level kind p)))) → Tower rule
-level_tower level top kind feet ops e = record { level = level; top = top; feet = feet; steps = λ p. branches (ops p) (operation level kind p); operand = λ p. such (level p) always; symbols = λ p h. refl; climbs = λ p h. (e p h).to; falls = λ p h. (e p h).back; linked = λ p h. operations_linked level kind p (ops p) }
+abbrev pub level_tower : {N : Type 0} {rule : N → Grammar N} → (ℕ → N) → ℕ → (ℕ → NodeKind) → (ℕ → Grammar N) → (ℕ → List Kind) → Tower rule
+level_tower level top kind feet ops = record { level = level; top = top; feet = feet; steps = λ p. branches (ops p) (operation level kind p); operand = λ p. such (level p) always }
+
+pub level_lawful : {N : Type 0} {rule : N → Grammar N} (level : ℕ → N) (top : ℕ) (kind : ℕ → NodeKind) (feet : ℕ → Grammar N) (ops : ℕ → List Kind)
+    → ((p : ℕ) → p ≤ top → Same rule (rule (level p)) (alt (alt (such (level (p + 1)) always) (feet p)) (branches (ops p) (operation level kind p)))) → Lawful {rule = rule} (level_tower level top kind feet ops)
+level_lawful level top kind feet ops e = record { symbols = λ p h. refl; climbs = λ p h. (e p h).to; falls = λ p h. (e p h).back; linked = λ p h. operations_linked level kind p (ops p) }
 
 -- One symbol with links behind it, any number of them, over any grammar.
-module _ {N : Type 0} {rule : N → Grammar N} (n : N) (base g : Grammar N) (e : Same rule (rule n) (alt base g)) where
-  abbrev pub chain : Links n g → Tower rule
-  chain lk = record {
-    level = λ p. n;
-    top = 0;
-    feet = λ p. never;
-    steps = λ p. g;
-    operand = λ p. cond (nat_eq p 0) (such n always) base;
+module _ {N : Type 0} {rule : N → Grammar N} (n : N) (base g : Grammar N) where
+  pub chain_lawful : Same rule (rule n) (alt base g) → Links n g → Lawful {rule = rule} (chain n base g)
+  chain_lawful e lk = record {
     symbols = λ p h. let z : 0 ≡ p = omega arith in subst (λ v. cond (nat_eq v 0) (such n always) base ≡ such n always) z refl;
     climbs = λ p h ts us i j ls rest d. let z : 0 ≡ p = omega arith in subst (λ v. Takes rule (alt (alt (cond (nat_eq (v + 1) 0) (such n always) base) never) g) end ts i ls us j rest) z (without_feet.to ts us i j ls rest (e.to ts us i j ls rest d));
     falls = λ p h ts us i j ls rest d. let z : p ≡ 0 = omega arith in e.back ts us i j ls rest (without_feet.back ts us i j ls rest (subst (λ v. Takes rule (alt (alt (cond (nat_eq (v + 1) 0) (such n always) base) never) g) end ts i ls us j rest) z d));
@@ -270,6 +235,6 @@ module _ {N : Type 0} {rule : N → Grammar N} (n : N) (base g : Grammar N) (e :
   }
 
   -- the loop of a chain begins with what its links stand behind
-  pub chain_foot : {lk : Links n g} {m c : ℕ} {h : Grammar N} → Foot (chain lk) m c h → {ts us : Slots} {i j : ℕ} {ls rest : Lexemes} → Takes rule h end ts i ls us j rest → Takes rule base end ts i ls us j rest
+  pub chain_foot : {m c : ℕ} {h : Grammar N} → Foot {rule = rule} (chain n base g) m c h → {ts us : Slots} {i j : ℕ} {ls rest : Lexemes} → Takes rule h end ts i ls us j rest → Takes rule base end ts i ls us j rest
   chain_foot topmost d = d
   chain_foot (of_level a b) d = elim d [ ]

@@ -2,6 +2,7 @@
 use Rattle.std.proofs.Common.{ℕ, ◌+◌, ◌-◌, ◌==◌, ◌≡◌, Bool, true, false, not, ◌&&◌, ◌||◌, List, [], ◌∷◌, ◌++◌, Some, None, Option, ap, sym, subst, arith}
 use Rattle.std.proofs.lemmas.Bool.{and_parts, false≢true}
 use Rattle.std.proofs.lemmas.Slice.Eq.{bytes_eq-Decides}
+use Rattle.std.proofs.lemmas.List.{append-nil}
 use Rattle.std.specs.Prelude.{bytes_eq, encode_utf8_all, is_some}
 use Rattle.std.specs.Str.{all_scalars}
 use Rattle.js_base.specs.declared.kind.Kind.{Kind}
@@ -20,7 +21,7 @@ use Rattle.js_grammar.specs.Options.{program_flags}
 use Rattle.js_grammar.specs.Productions.{Symbol, Program, Expression, at}
 use Rattle.js_grammar.specs.Readings.{IsDerived}
 use Rattle.js_grammar.specs.Table.{whole}
-use Rattle.js_grammar.proofs.LongestLemmas.{both, append-nil}
+use Rattle.js_grammar.proofs.LongestLemmas.{both}
 use Rattle.js_grammar.proofs.Places.{At, at-chars, at-behind}
 use Rattle.js_grammar.proofs.Standing.{lexeme_of, stand}
 use Rattle.js_grammar.proofs.QuickLexemes.{none_goes_on, none_goes_on-is, trivia_stands, trivia_stands-is}

@@ -1,5 +1,6 @@
 -- A text of spaces alone, however many: one lexeme, the end, and a Program without a child.
 use Rattle.std.proofs.Common.{ℕ, zero, suc, ◌≡◌, Bool, true, false, ◌&&◌, List, [], ◌∷◌, ◌++◌, refl, sym, ap, subst, arith}
+use Rattle.std.proofs.lemmas.List.{append-nil}
 use Rattle.std.specs.Prelude.{encode_utf8_all, replicate}
 use Rattle.std.specs.Str.{all_scalars}
 use Rattle.js_base.specs.declared.kind.Kind.TheVariants.{Eof}
@@ -12,7 +13,6 @@ use Rattle.js_grammar.specs.Lexed.{in_script}
 use Rattle.js_grammar.specs.Settings.{script}
 use Rattle.js_grammar.specs.Readings.{IsDerived}
 use Rattle.js_grammar.specs.Table.{rule_of, whole}
-use Rattle.js_grammar.proofs.LongestLemmas.{append-nil}
 use Rattle.js_grammar.proofs.Places.{At}
 use Rattle.js_grammar.proofs.QuickLexemes.{trivia_stands}
 use Rattle.js_grammar.proofs.Worked.{Written, lexeme, lexeme_at, label, program_at, stands, stands_right}

@@ -1,6 +1,6 @@
 -- Shorthands with an initialiser (CoverInitializedName, ECMA-262, 13.2.5) in trees of the cover grammar. A strict tree has none (13.2.5.1).
 use Rattle.std.specs.Prelude.{ℕ, ◌≡◌, Bool, true, false, cond, ◌&&◌, List, [], ◌∷◌, ◌++◌, nat_eq}
-use Rattle.js_grammar.specs.Trees.{NodeKind, object_property, Label, Span, Slots, end, hole, tree, Tree, put}
+use Rattle.js_grammar.specs.Trees.{NodeKind, object_property, Label, Span, Slots, end, hole, tree, Tree, put, after_first}
 use Rattle.js_grammar.specs.Grammar.{Lexemes, Derives}
 use Rattle.js_grammar.specs.Productions.{Flags, at, shorthand_flag, Program}
 use Rattle.js_grammar.specs.Table.{rule}
@@ -12,11 +12,6 @@ is_property _ = false
 -- a property that is written as a shorthand
 abbrev pub is_shorthand : Label → Bool
 is_shorthand l = is_property l.kind && nat_eq l.flags shorthand_flag
-
-abbrev pub after_first : Slots → Slots
-after_first end = end
-after_first (hole us) = us
-after_first (tree l cs us) = us
 
 abbrev pub has_one : Slots → Bool
 has_one end = false

@@ -75,7 +75,7 @@ past tag = tagged
 past p = p
 
 -- each part has a cooked text
-abbrev parts_cooked : List ℕ → Slots → Bool
+abbrev pub parts_cooked : List ℕ → Slots → Bool
 parts_cooked text end = true
 parts_cooked text (hole us) = parts_cooked text us
 parts_cooked text (tree l cs us) = of_kind l.kind && parts_cooked text us

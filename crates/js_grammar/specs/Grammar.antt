@@ -103,8 +103,15 @@ a ◇ b = alt a b
 abbrev pub many_once : {N : Type 0} → Grammar N → Grammar N
 many_once a = a ▸ many a ◇ nothing
 
+-- behind the comma of an item, where the list may end with one, and behind the item
+abbrev pub after_comma : {N : Type 0} → Bool → Grammar N → Grammar N
+after_comma b a = cond b (commas b a ◇ nothing) (commas b a)
+
+abbrev pub after_item : {N : Type 0} → Bool → Grammar N → Grammar N
+after_item b a = lexeme (is Comma) ▸ after_comma b a ◇ nothing
+
 abbrev pub commas_once : {N : Type 0} → Bool → Grammar N → Grammar N
-commas_once b a = a ▸ (lexeme (is Comma) ▸ cond b (commas b a ◇ nothing) (commas b a) ◇ nothing)
+commas_once b a = a ▸ after_item b a
 
 abbrev pub semicolon : {N : Type 0} → Look → Grammar N
 semicolon goes_on = lexeme (is Semicolon) ◇ look (may_omit goes_on)

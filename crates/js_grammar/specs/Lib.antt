@@ -8,7 +8,10 @@ pub mod Table
 pub mod FirstSets
 pub mod Levels
 pub mod Follow
+pub mod RightEdges
 pub mod Parsing
+pub mod Towers
+pub mod Chains
 pub mod Lines
 pub mod BoundNames
 pub mod Settings

@@ -10,7 +10,7 @@ use Rattle.js_grammar.specs.BoundNames.{bound_names}
 use Rattle.js_grammar.specs.NodeNames.{name_at, string_by, span_of}
 pub use Rattle.js_grammar.specs.ExportedNames.{behind}
 use Rattle.js_grammar.specs.ModuleRecords.{NameSpan, ImportImportName, imported, namespace_object, imported_default, ImportEntry, taken, all, all_but_default, no_import, exported, exported_default, no_export, ExportLocalName, local, local_default, no_local, ExportEntry, ModuleRecord, Request, Part, nothing, record_of_parts, errors_of_parts, default_places}
-use Rattle.js_grammar.specs.Trees.{NodeKind, import_declaration, import_namespace_specifier, import_default_specifier, export_all_declaration, export_from_declaration, export_named_declaration, export_declaration, export_default_declaration, import_expression, import_meta, identifier_reference, function_declaration, class_declaration, Label, Slots, end, hole, tree, Tree}
+use Rattle.js_grammar.specs.Trees.{NodeKind, import_declaration, import_namespace_specifier, import_default_specifier, export_all_declaration, export_from_declaration, export_named_declaration, export_declaration, export_default_declaration, import_expression, import_meta, identifier_reference, function_declaration, class_declaration, Label, Slots, end, hole, tree, Tree, after_first}
 
 -- a name, decoded, and its place
 abbrev pub named : List ℕ → Label → NameSpan
@@ -26,7 +26,7 @@ first_name text (hole us) = no_name
 first_name text (tree l cs us) = named text l
 
 abbrev pub second_name : List ℕ → Slots → NameSpan
-second_name text us = first_name text (behind us)
+second_name text us = first_name text (after_first us)
 
 -- a module specifier, a string literal, decoded; none where it has a lone surrogate
 abbrev pub placed : Span → Option (List ℕ) → Option NameSpan
@@ -169,7 +169,7 @@ optional_name text (hole us) = []
 optional_name text (tree l cs us) = named text l ∷ []
 
 abbrev pub import_part : List ℕ → Label → Slots → Part
-import_part text l (tree source cs us) = of_import (span_of l) (specifier text source) (λ r. import_entries text (span_of l) r (behind us))
+import_part text l (tree source cs us) = of_import (span_of l) (specifier text source) (λ r. import_entries text (span_of l) r (after_first us))
 import_part text l (hole us) = syntax
 import_part text l end = syntax
 
@@ -177,7 +177,7 @@ abbrev pub export_named_part : List ℕ → Label → Slots → Part
 export_named_part text l us = of_export_named (own_entries text (span_of l) us) (exported_names text us)
 
 abbrev pub export_from_part : List ℕ → Label → Slots → Part
-export_from_part text l (tree source cs us) = of_export_from (span_of l) (specifier text source) (λ r. from_entries text (span_of l) r (behind us)) (exported_names text (behind us))
+export_from_part text l (tree source cs us) = of_export_from (span_of l) (specifier text source) (λ r. from_entries text (span_of l) r (after_first us)) (exported_names text (after_first us))
 export_from_part text l (hole us) = syntax
 export_from_part text l end = syntax
 
@@ -187,7 +187,7 @@ export_all_by text l names (hole us) = syntax
 export_all_by text l names end = syntax
 
 abbrev pub export_all_part : List ℕ → Label → Slots → Part
-export_all_part text l us = export_all_by text l (optional_name text us) (behind us)
+export_all_part text l us = export_all_by text l (optional_name text us) (after_first us)
 
 abbrev pub export_declaration_part : List ℕ → Label → Slots → Part
 export_declaration_part text l (tree d ds us) = of_export_declaration (span_of l) (span_of d) (map (named text) (bound_names d ds))

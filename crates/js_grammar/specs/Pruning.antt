@@ -1,6 +1,7 @@
 -- A grammar on texts that hold lexemes of some kinds alone, none with an escape: what needs another one falls away.
 use Rattle.std.specs.Prelude.{Bool, List, [], cond, false, true, ◌&&◌, ◌||◌, ◌∷◌}
 use Rattle.js_base.specs.declared.kind.Kind.{Kind}
+use Rattle.js_base.specs.Kinds.{every_kind}
 use Rattle.js_grammar.specs.Grammar.{Grammar, Look, ahead, alt, commas, empty_slot, ended, keep, kept, lexeme, look, many, marked, never, node, nothing, seq, such, text, when}
 
 abbrev pub is_never : {N : Type 0} → Grammar N → Bool
@@ -14,10 +15,6 @@ is_nothing _ = false
 abbrev pub some_kind : (Kind → Bool) → List Kind → Bool
 some_kind p [] = false
 some_kind p (k ∷ ks) = p k || some_kind p ks
-
-abbrev pub every_kind : (Kind → Bool) → List Kind → Bool
-every_kind p [] = true
-every_kind p (k ∷ ks) = p k && every_kind p ks
 
 abbrev pub if_some : {N : Type 0} → Grammar N → Grammar N → Grammar N
 if_some a g = cond (is_never a) never g

@@ -26,6 +26,11 @@ no_span l = record l { span = record { from = 0; to = 0 } }
 abbrev pub forget_spans : Tree → Tree
 forget_spans = relabelled no_span
 
+-- no slots
+abbrev pub are_none : Slots → Bool
+are_none end = true
+are_none _ = false
+
 abbrev pub is_parenthesized : NodeKind → Bool
 is_parenthesized parenthesized_expression = true
 is_parenthesized _ = false

@@ -49,6 +49,12 @@ pub record Tree : Type 0 where
 abbrev pub put : Tree → Slots → Slots
 put t rest = tree t.label t.slots rest
 
+-- the slots behind the first
+abbrev pub after_first : Slots → Slots
+after_first end = end
+after_first (hole us) = us
+after_first (tree l cs us) = us
+
 abbrev pub append : Slots → Slots → Slots
 append end us = us
 append (hole ts) us = hole (append ts us)

@@ -2,6 +2,7 @@
 use Rattle.std.proofs.Common.{◌≡◌, ◌≢◌, ℕ, Bool, true, false, cond, List, [], ◌∷◌, refl, sym, ap, ◌∙◌, subst, ◌⊎◌, inl, inr, true≢false}
 use Rattle.std.specs.Prelude.{ℕ, ◌==◌, ◌&&◌, Contains, fold}
 use Rattle.std.proofs.lemmas.Bool.Decides.{Decides-eqb}
+use Rattle.std.proofs.lemmas.Bool.{and_parts}
 use Rattle.std.proofs.lemmas.Slice.Eq.{bytes_eq-Decides}
 use Rattle.js_graph.proofs.PathLemmas.{none_in, in_first}
 use Rattle.std.proofs.lemmas.List.Elements.{Contains-append_left, Contains-append_right, Contains-push}
@@ -35,13 +36,9 @@ name_itself (named.Name x) = (bytes_eq-Decides x x).1 refl
 name_itself named.Default = refl
 name_itself named.Namespace = refl
 
-both : (a b : Bool) → (a && b) ≡ true → (a ≡ true) × (b ≡ true)
-both true b e = (refl, e)
-both false b e = absurd (true≢false (sym e))
-
 binding_same : (a b : Binding) → binding_eq a b ≡ true → a ≡ b
 binding_same a b e =
-    let parts = both (a.module == b.module) (name_eq a.name b.name) e in
+    let parts = and_parts (a.module == b.module) (name_eq a.name b.name) e in
     let first : a.module ≡ b.module = (Decides-eqb a.module b.module).0 parts.0 in
     let second : a.name ≡ b.name = name_same a.name b.name parts.1 in
     ap (λ v. with_module v a.name) first ∙ ap (with_module b.module) second

@@ -5,7 +5,7 @@ use Rattle.std.specs.List.{flat_map}
 use Rattle.std.proofs.lemmas.Bool.Decides.{Decides-eqb}
 use Rattle.std.proofs.lemmas.Slice.Eq.{bytes_eq-Decides}
 use Rattle.std.proofs.lemmas.Grind.{flat_map-append}
-use Rattle.std.proofs.lemmas.List.{take_all}
+use Rattle.std.proofs.lemmas.List.{take_all, append-nil}
 use Rattle.std.proofs.lemmas.List.Elements.{All-head, All-tail, All-take, Contains-append_left, Contains-append_right, Contains-append_cases, Contains-push}
 use Rattle.js_graph.specs.declared.resolution.Binding.{Binding}
 use Rattle.js_graph.specs.declared.resolution.Resolution.{Resolution}
@@ -46,10 +46,6 @@ pair_same p q e =
 fold-append : {A B : Type 0} (f : B → A → B) (b : B) (xs ys : List A) → fold f b (xs ++ ys) ≡ fold f (fold f b xs) ys
 fold-append f b [] ys = refl
 fold-append f b (x ∷ xs) ys = fold-append f (f b x) xs ys
-
-append-nil : {A : Type 0} (xs : List A) → xs ++ [] ≡ xs
-append-nil [] = refl
-append-nil (x ∷ xs) = ap (λ v. x ∷ v) (append-nil xs)
 
 pub none_walked : (g : List Module) (start : Pair) → IsWalked g start (start ∷ []) 0 answer.Null
 none_walked g start = record { followed = none_followed (next_of g) start; found = refl }

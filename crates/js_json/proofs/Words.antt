@@ -10,6 +10,7 @@ use Rattle.js_base.specs.Kinds.{kinds, same_kind}
 use Rattle.js_base.specs.Texts.{text_of}
 use Rattle.js_grammar.specs.Trees.{NodeKind, program, hashbang, directive, block_statement, empty_statement, expression_statement, variable_declaration, variable_declarator, if_statement, do_while_statement, while_statement, with_statement, for_statement, for_in_statement, for_of_statement, continue_statement, break_statement, return_statement, throw_statement, switch_statement, switch_case, try_statement, catch_clause, catch_parameter, debugger_statement, labeled_statement, function_declaration, function_expression, formal_parameters, formal_parameter, formal_parameter_rest, binding_rest_element, function_body, arrow_function_expression, class_declaration, class_expression, class_body, method_definition, property_definition, accessor_property, static_block, decorator, object_expression, object_property, spread_element, sequence_expression, assignment_expression, yield_expression, conditional_expression, logical_expression, binary_expression, private_in_expression, unary_expression, await_expression, update_expression, new_expression, static_member_expression, computed_member_expression, private_field_expression, tagged_template_expression, new_target_expression, import_meta, call_expression, import_expression, chain_expression, super_expression, this_expression, null_literal, boolean_literal, numeric_literal, big_int_literal, string_literal, reg_exp_literal, array_expression, elision, parenthesized_expression, v8_intrinsic_expression, template_literal, template_element, identifier_reference, binding_identifier, label_identifier, identifier_name, private_identifier, array_assignment_target, object_assignment_target, assignment_target_rest, assignment_target_with_default, assignment_target_property_identifier, assignment_target_property_property, array_pattern, object_pattern, binding_property, assignment_pattern, import_declaration, import_default_specifier, import_namespace_specifier, import_specifier, with_clause, import_attribute, export_all_declaration, export_from_declaration, export_named_declaration, export_declaration, export_default_declaration, export_specifier, Op, no_op, init, method_op, constructor_op, exponential, of}
 use Rattle.js_grammar.specs.Lines.{kind_text, flag_words}
+use Rattle.js_grammar.proofs.Finding.{contrary}
 use Rattle.js_json.specs.Json.{string_or_null, word_of, words_set, list}
 use Rattle.js_json.specs.Laws.{is_own_word}
 
@@ -69,10 +70,6 @@ abbrev distinct : List (List ℕ) → Bool
 distinct [] = true
 distinct (w ∷ ws) = absent w ws && distinct ws
 
-differ : (b : Bool) → not b ≡ true → b ≡ true → ⊥
-differ true h e = false≢true h
-differ false h e = false≢true e
-
 pub head_same : (a b : Data) (as' bs : List Data) → a ∷ as' ≡ b ∷ bs → a ≡ b
 head_same a b as' bs e = cc
 
@@ -91,7 +88,7 @@ not_first w [] n more h e = no_list (string w) more e
 not_first w (v ∷ vs) n more h e = by (nat_eq (n % 2) 1) (not_first w vs (n / 2) more (and_parts (not (bytes_eq w v)) _ h).1) e
   where
     by : (b : Bool) → (string w ∷ more ≡ words_set vs (n / 2) → ⊥) → string w ∷ more ≡ cond b (string v ∷ []) [] ++ words_set vs (n / 2) → ⊥
-    by true f e = differ (bytes_eq w v) (and_parts (not (bytes_eq w v)) _ h).0 ((bytes_eq-Decides w v).1 (text_same w v (head_same (string w) (string v) more (words_set vs (n / 2)) e)))
+    by true f e = contrary (bytes_eq w v) (and_parts (not (bytes_eq w v)) _ h).0 ((bytes_eq-Decides w v).1 (text_same w v (head_same (string w) (string v) more (words_set vs (n / 2)) e)))
     by false f e = f e
 
 -- the numbers that so many flags make

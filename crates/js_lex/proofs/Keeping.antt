@@ -18,7 +18,7 @@ keeps old new a b c d = record { comments = []; blanks = []; tokens = []; faults
 pub grown : {old new : LexerOutput} {cs : List Comment} {ws : List Span} {ts : List Token} {ds : List Diagnostic} → Grows old new cs ws ts ds → Extends old new
 grown {cs = cs} {ws = ws} {ts = ts} {ds = ds} g = record { comments = cs; blanks = ws; tokens = ts; faults = ds; grows = g }
 
-twice : {X : Type 0} (a b c x y : List X) → b ≡ a ++ x → c ≡ b ++ y → c ≡ a ++ (x ++ y)
+pub twice : {X : Type 0} (a b c x y : List X) → b ≡ a ++ x → c ≡ b ++ y → c ≡ a ++ (x ++ y)
 twice a b c x y e f = f ∙ ap (λ l. l ++ y) e ∙ append_assoc a x y
 
 -- to grow and to grow on

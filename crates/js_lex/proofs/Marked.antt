@@ -2,7 +2,7 @@
 use Rattle.std.proofs.Common.{◌≡◌, ◌+◌, ◌-◌, ◌≤◌, ◌<◌, ◌==◌, ℕ, Bool, true, false, List, [], ◌∷◌, refl, sym, ap, ◌∙◌, ◌&&◌, ◌||◌, arith, length, take, get_or}
 use Rattle.std.specs.Prelude.{chars, slice_range, IsCharBoundary}
 use Rattle.std.specs.List.{Any}
-use Rattle.std.proofs.lemmas.Bool.{eqb-true}
+use Rattle.std.proofs.lemmas.Bool.{eqb-true, or_right}
 use Rattle.std.proofs.lemmas.List.{get_or-take, take_all}
 use Rattle.std.proofs.lemmas.List.Folds.{list_any_more, Any-from_list_any}
 use Rattle.part_words.specs.js_grammar.CoreTexts.{starts, occurs}
@@ -15,10 +15,6 @@ use Rattle.part_words.specs.Places.{Word}
 or-false : (a b : Bool) → b ≡ false → (a || b) ≡ a
 or-false true b e = refl
 or-false false b e = e
-
-or-true : (a b : Bool) → b ≡ true → (a || b) ≡ true
-or-true true b e = refl
-or-true false b e = e
 
 -- the comments before a number tell it
 pub record Looked (sort : List ℕ → Bool) (text : List ℕ) (place : ℕ) (cs : List Comment) (left : ℕ) : Type 0 where
@@ -42,7 +38,7 @@ looked_on {sort = sort} {text = text} {place = place} {cs = cs} {left = left} c 
 
 pub looked_found : {sort : List ℕ → Bool} {text : List ℕ} {place : ℕ} {cs : List Comment} {left : ℕ} (c : Comment) → Looked sort text place cs left → 0 < left → c ≡ get_or cs (left - 1) c → is_before sort text place c ≡ true → true ≡ has_before sort text place cs
 looked_found {sort = sort} {text = text} {place = place} {cs = cs} {left = left} c k l e n =
-    sym (k.same ∙ one_more sort text place cs left c l k.within ∙ or-true (has_before sort text place (take (left - 1) cs)) (is_before sort text place (get_or cs (left - 1) c)) (ap (is_before sort text place) (sym e) ∙ n))
+    sym (k.same ∙ one_more sort text place cs left c l k.within ∙ or_right (has_before sort text place (take (left - 1) cs)) (is_before sort text place (get_or cs (left - 1) c)) (ap (is_before sort text place) (sym e) ∙ n))
 
 pub looked_all : {sort : List ℕ → Bool} {text : List ℕ} {place : ℕ} {cs : List Comment} {left : ℕ} → Looked sort text place cs left → left ≤ 0 → false ≡ has_before sort text place cs
 looked_all {sort = sort} {text = text} {place = place} {cs = cs} {left = left} k l = let z : left ≡ 0 = omega arith in sym (k.same ∙ ap (λ (n : ℕ). has_before sort text place (take n cs)) z)

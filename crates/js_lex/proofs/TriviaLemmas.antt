@@ -11,7 +11,7 @@ use Rattle.part_words.specs.js_grammar.Longest.{longest, none_longer, none_begin
 use Rattle.part_words.specs.js_grammar.Trivia.{after, within_line, closes_comment, is_blank, is_single_line_comment, is_multi_line_comment, is_html_open, is_html_close, is_html_comment, is_trivia_piece}
 use Rattle.part_words.specs.js_grammar.CoreTexts.{starts}
 use Rattle.part_words.specs.js_grammar.LexicalFaults.{behind}
-use Rattle.part_words.proofs.js_grammar.LongestLemmas.{both-left, both-right, both, not-true, none_longer-at}
+use Rattle.part_words.proofs.js_grammar.LongestLemmas.{both-left, both-right, both, not-true}
 use Rattle.part_words.proofs.js_grammar.Finding.{neither, neither-left, neither-right}
 use Rattle.part_words.proofs.js_grammar.CoreFirst.{lt-true}
 use Rattle.js_base.specs.part_text.Characters.{one_of}
@@ -39,6 +39,8 @@ use Rattle.js_base.specs.Texts.{text_of, punctuators}
 use Rattle.part_words.specs.ByteClasses.{is_letter_class}
 use Rattle.part_words.specs.declared.byte_class.ByteClass.TheVariants.{Letter}
 use Rattle.part_words.proofs.js_grammar.CoreNames.{ascii}
+use Rattle.part_words.proofs.js_grammar.Alike.{no_empty_piece}
+use Rattle.part_words.proofs.js_grammar.CoreTrivia.{not_after}
 use Rattle.std.proofs.lemmas.Bool.Decides.{nat_tests}
 
 -- ---- lines
@@ -214,19 +216,6 @@ lone_slash first rest h k = none_longer-from (is_trivia_piece first) [] (47 ∷ 
         let b : (42 == d) ≡ false = sym (and-true (42 == d)) ∙ (subst (λ (v : List ℕ). starts (codes "/*") (47 ∷ v) ≡ false) u k) in
         subst (λ (z : ℕ). is_trivia_piece first (z ∷ d ∷ x) more ≡ false) s (rw (a, b) (and-false first))
 
--- a beginning of a beginning
-after-starts : (a w more : List ℕ) (p : List ℕ → Bool) → after a p w ≡ true → starts a (w ++ more) ≡ true
-after-starts [] w more p h = refl
-after-starts (x ∷ a) [] more p h = cc
-after-starts (x ∷ a) (c ∷ w) more p h = both (x == c) (starts a (w ++ more)) (both-left (x == c) (after a p w) h) (after-starts a w more p (both-right (x == c) (after a p w) h))
-
-not_after : (a w more rest : List ℕ) (p : List ℕ → Bool) → rest ≡ w ++ more → starts a rest ≡ false → after a p w ≡ false
-not_after a w more rest p e n = go (after a p w) refl
-  where
-    go : (b : Bool) → after a p w ≡ b → after a p w ≡ false
-    go false f = f
-    go true f = let s = after-starts a w more p f in let t : starts a (w ++ more) ≡ false = subst (λ (v : List ℕ). starts a v ≡ false) e n in cc
-
 -- a less-than sign that begins no comment
 pub lone_less : (first : Bool) (rest : List ℕ) → starts (codes "<!--") (60 ∷ rest) ≡ false → none_begins (is_trivia_piece first) (60 ∷ rest) ≡ true
 lone_less first rest h = none_longer-from (is_trivia_piece first) [] (60 ∷ rest) (λ c x more e. by c x more e)
@@ -322,10 +311,6 @@ apart a c b l n (inr h) k = omega arith
 
 pub some_width : (c : ℕ) (w : List ℕ) → 0 < width (c ∷ w)
 some_width c w = let b = (len_utf8_bounds c).0 in omega arith
-
-no_empty_piece : (first : Bool) (rest : List ℕ) → is_trivia_piece first [] rest ≡ false
-no_empty_piece true rest = refl
-no_empty_piece false rest = refl
 
 pub piece_moves : {first : Bool} {text : List ℕ} {i : ℕ} {p : Piece} → IsPiece first text i p → i < p.end × (p.end ≤ length text)
 piece_moves {first = first} {text = text} {i = i} {p = p} h = (by h.word h.stands.end (both-left (is_trivia_piece first h.word (behind text p.end)) (none_longer (is_trivia_piece first) h.word (behind text p.end)) h.longest), h.stands.boundary.0)

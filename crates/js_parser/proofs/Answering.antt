@@ -24,7 +24,7 @@ use Rattle.js_base.specs.declared.token.Token.{Token}
 use Rattle.js_cursor.specs.js_lex.Kept.{LieIn}
 use Rattle.js_cursor.specs.js_lex.declared.comment.Comment.{Comment}
 use Rattle.js_cursor.specs.js_lex.declared.output.LexerOutput.{LexerOutput}
-use Rattle.js_core.proofs.Lists.{first_empty, second_empty}
+use Rattle.js_core.proofs.Lists.{first_empty}
 use Rattle.js_core.specs.Readings.{HasNoReading, HasNoReadingBy, IsOnlyReadingBy, AreOf}
 use Rattle.js_parser.specs.Broken.{told_in}
 use Rattle.js_parser.specs.declared.early.Position.TheVariants.{Anywhere}
@@ -47,6 +47,7 @@ use Rattle.js_cursor.specs.declared.stop.Stop.TheVariants.{Fatal}
 use Rattle.js_core.specs.laws_shared.Classes.{IsEarly}
 use Rattle.js_core.specs.laws_shared.States.{NodesLie}
 use Rattle.js_core.proofs.laws_shared.Kept.{none_of_two}
+use Rattle.js_core.proofs.laws_shared.Verdicts.{ending}
 
 span_is : (sp : Span) {a b : ℕ} → sp.start ≡ a → sp.end ≡ b → sp ≡ record { start = a; end = b }
 span_is sp x y = λ i. record { start = x i; end = y i }
@@ -106,7 +107,7 @@ module _ {text : List ℕ} {s : SourceType} {p : Parser} (t : IsOf text s p) whe
 by_found : (text : List ℕ) (s : SourceType) (o : ParseOptions) (p : Parser) (cs : Slots) (found : List Diagnostic) → found ≡ p.lexer.kept.errors ++ p.errors → ReadOrNot text s o p cs
     → (found ≡ [] → IsOnlyReadingBy true text (goal_of s) (options_of o) (program_tree (record { start = 0; end = p.token.span.end }) cs)) × ((found ≡ [] → ⊥) → HasNoReadingBy true text (goal_of s) (options_of o))
 by_found text s o p cs found e (inl (z, r)) = (λ x. r, λ n. absurd (n (e ∙ none_of_two p.lexer.kept.errors p.errors z.faults z.errors)))
-by_found text s o p cs found e (inr (z, r)) = (λ x. absurd (z (let k = sym e ∙ x in record { faults = first_empty p.lexer.kept.errors p.errors k; errors = second_empty p.lexer.kept.errors p.errors k })), λ n. r)
+by_found text s o p cs found e (inr (z, r)) = (λ x. absurd (z (let k = sym e ∙ x in record { faults = first_empty p.lexer.kept.errors p.errors k; errors = ending p.lexer.kept.errors p.errors k })), λ n. r)
 
 one_at_least : (d : Diagnostic) (ds : List Diagnostic) → d ∷ ds ≡ [] → ⊥
 one_at_least d ds e = cc
@@ -213,7 +214,7 @@ taken_kept {text} {s} {o} {asks} {p} out kept early covers e same h = record {
   unasked = λ a. ap (λ (x : LexerOutput). x.tokens) e ∙ (ap (λ (x : LexerOutput). x.tokens) same ∙ h.unasked a);
   kept = λ z t r.
       let none = none_before (p.lexer.kept.errors ++ p.errors) early covers (sym (ap (λ (x : LexerOutput). x.errors) e) ∙ z) in
-      let k = h.kept (record { faults = first_empty p.lexer.kept.errors p.errors none; errors = second_empty p.lexer.kept.errors p.errors none }) t (covered r.strict) in
+      let k = h.kept (record { faults = first_empty p.lexer.kept.errors p.errors none; errors = ending p.lexer.kept.errors p.errors none }) t (covered r.strict) in
       record {
         comments = ap (λ (x : LexerOutput). x.comments) e ∙ (ap (λ (x : LexerOutput). x.comments) same ∙ k.comments);
         blanks = ap (λ (x : LexerOutput). x.irregular_whitespaces) e ∙ (ap (λ (x : LexerOutput). x.irregular_whitespaces) same ∙ k.blanks);
@@ -270,7 +271,7 @@ refused_answer {text} {s} {o} {p} {ids} ns span nodes told out kept f a b k z t 
     are_faults = subst (λ (ds : List Diagnostic). All (IsFault (goal_of s) text) ds) (sym k) (all_without_last (IsFault (goal_of s) text) f p.lexer.kept.errors (faults h.is_of))
 
     some : out.errors ≡ [] → ⊥
-    some y = h.some (second_empty told p.errors (sym (ap (λ (x : LexerOutput). x.errors) e) ∙ y))
+    some y = h.some (ending told p.errors (sym (ap (λ (x : LexerOutput). x.errors) e) ∙ y))
 
 pub overlong_answer : {found old : List Diagnostic} {comments : List Comment} {blanks : List Span} {tokens : List Token} {ids : List (Option NodeId)} (span : Span) (nodes ns : List Node) → old ≡ [] → found ≡ old ++ record { kind = OverlongSource; span = span; first = None; second = None } ∷ [] → comments ≡ [] → blanks ≡ [] → tokens ≡ [] → span.start ≡ 0 → span.end ≡ 0 → ids ≡ [] → ns ≡ empty_program ∷ [] → nodes ≡ with_program (program_node span ids) ns → IsOverlong nodes (record { comments = comments; irregular_whitespaces = blanks; tokens = tokens; errors = found }) true
 overlong_answer {found} {old} {comments} {blanks} {tokens} {ids} span nodes ns o e c w k a b z n t = record {
@@ -287,11 +288,6 @@ overlong_answer {found} {old} {comments} {blanks} {tokens} {ids} span nodes ns o
   where
     at_start : span ≡ record { start = 0; end = 0 }
     at_start = span_is span a b
-
--- what follows of an answer
-pub if_ok : {V E : Type 0} {P Q : V → Type 0} (r : Result V E) → ((v : V) → P v → Q v) → IfOk r P → IfOk r Q
-if_ok (Ok v) f h = f v h
-if_ok (Err e) f h = h
 
 pub both_ok : {V E : Type 0} {P Q R : V → Type 0} (r : Result V E) → ((v : V) → P v → Q v → R v) → IfOk r P → IfOk r Q → IfOk r R
 both_ok (Ok v) f h k = f v h k

@@ -1,5 +1,5 @@
 -- The trees that the productions that are built derive: which early errors they can't have, that they add nothing to the record of a module, and that none of their nodes is marked as pure.
-use Rattle.std.proofs.Common.{ℕ, ◌≡◌, ◌+◌, ◌/◌, ◌%◌, ◌-◌, ◌++◌, ◌∷◌, Bool, true, false, not, cond, ◌&&◌, ◌||◌, List, [], map, refl, sym, subst, ap, ◌∙◌, rules, arith, nat_eq, IsTrue}
+use Rattle.std.proofs.Common.{ℕ, ◌≡◌, ◌+◌, ◌/◌, ◌%◌, ◌-◌, ◌++◌, ◌∷◌, Bool, true, false, not, cond, ◌&&◌, ◌||◌, List, [], map, refl, sym, subst, ap, ◌∙◌, rules, IsTrue}
 use Rattle.std.proofs.lemmas.Bool.{false≢true, not-true, and_parts, and_from}
 use Rattle.js_grammar.specs.Trees.{NodeKind, switch_statement, switch_case, try_statement, template_literal, with_clause, method_definition, property_definition, accessor_property, import_declaration, export_all_declaration, export_from_declaration, export_named_declaration, export_declaration, export_default_declaration, import_expression, import_meta, function_expression, arrow_function_expression, Op, no_op, Label, Span, Slots, end, hole, tree, Tree, append}
 use Rattle.js_grammar.specs.Grammar.{Make, Lexemes, ◌▸◌, ◌◇◌, empty_slot, ahead, seq, alt, when, many, commas, such, marked, node, ended, keep, label_of, Takes, Derives, is_nothing, is_lexeme, is_look, is_text, is_ahead, is_empty_slot, is_seq, is_left, is_right, is_when, is_many, is_commas, is_such, is_marked, is_node, is_ended, is_keep, is_kept}
@@ -13,6 +13,7 @@ use Rattle.js_grammar.specs.Modules.{adds, found_in, record_errors, in_order_of_
 use Rattle.js_grammar.specs.ModuleRecords.{errors_of_parts}
 use Rattle.js_grammar.proofs.CoverInitialisers.{line_marked}
 use Rattle.js_grammar.proofs.Renamed.{remarked, first_of, second_of, mark_of}
+use Rattle.js_grammar.proofs.CoreTrees.{pife_apart}
 use Rattle.js_grammar.specs.TreeForms.{with_labels, not_pure, without_pure}
 
 -- nonterminals that no production that is built leads to
@@ -316,10 +317,6 @@ node_fine m a h {ks} {cs} {i} {j} {ls} {rest} x s = go (shaped m.kind) refl h
     go : (b : Bool) → shaped m.kind ≡ b → Either b (Shape m a) (plain m.kind m.flags ≡ true) → fine_label (record { kind = m.kind; op = m.op; flags = m.flags; span = s }) cs ≡ true
     go true e h = h ks cs i j ls rest x s
     go false e h = unshaped_fine m.kind m.op m.flags s cs e h
-
--- a mark on functions in parentheses is another one
-pife_apart : (n : ℕ) → has_flag pure_flag (n + 8192) ≡ has_flag pure_flag n
-pife_apart n = ap (λ (m : ℕ). nat_eq m 1) (let k : (n + 8192) / 4096 % 2 ≡ n / 4096 % 2 = omega arith in k)
 
 pife_fine : (k : NodeKind) (o : Op) (n : ℕ) (s : Span) (cs : Slots) → fine_label (record { kind = k; op = o; flags = n; span = s }) cs ≡ true → fine_label (with_pife (record { kind = k; op = o; flags = n; span = s })) cs ≡ true
 pife_fine function_expression o n s cs h = subst (λ (b : Bool). (not b && true) ≡ true) (sym (pife_apart n)) h

@@ -1,15 +1,16 @@
 -- A core text has no lexical fault.
-use Rattle.std.proofs.Common.{◌≡◌, ℕ, ◌+◌, ◌==◌, Bool, true, false, List, [], ◌∷◌, ◌++◌, refl, sym, ap, subst, ◌∙◌, not, ◌&&◌, ◌||◌, Option, Some, None, inl, inr, nat_le}
-use Rattle.std.specs.Prelude.{chars, codes, IsUtf8, is_some, bytes_eq}
+use Rattle.std.proofs.Common.{◌≡◌, ℕ, ◌+◌, ◌==◌, Bool, true, false, List, [], ◌∷◌, ◌++◌, refl, sym, ap, subst, ◌∙◌, not, ◌&&◌, ◌||◌, Option, Some, None, inl, inr}
+use Rattle.std.specs.Prelude.{codes, IsUtf8, is_some, bytes_eq}
 use Rattle.std.specs.List.{list_all}
-use Rattle.std.proofs.lemmas.Bool.{eqb-true}
+use Rattle.std.proofs.lemmas.Bool.{eqb-true, or_cases}
+use Rattle.std.proofs.lemmas.List.{append-nil}
 use Rattle.js_base.specs.declared.diagnostic.DiagnosticKind.{DiagnosticKind}
 use Rattle.js_base.specs.declared.diagnostic.DiagnosticKind.TheVariants as fault
 use Rattle.js_base.specs.declared.kind.Kind.{Kind}
-use Rattle.js_base.specs.declared.kind.Kind.TheVariants.{Eof, RegExp, Str, Decimal, Float, Hex, HexBigInt, Octal, OctalBigInt, Binary, BinaryBigInt, DecimalBigInt, PositiveExponential, NegativeExponential}
+use Rattle.js_base.specs.declared.kind.Kind.TheVariants.{Eof, RegExp, Str}
 use Rattle.js_base.specs.Kinds.{code}
 use Rattle.js_base.specs.Texts.{text_of}
-use Rattle.js_base.specs.part_text.Characters.{one_of, is_decimal, is_octal, is_binary, is_hex}
+use Rattle.js_base.specs.part_text.Characters.{one_of, is_decimal}
 use Rattle.js_base.specs.part_text.Escapes.{line_feeds}
 use Rattle.js_base.specs.part_text.Decoding.{string_points}
 use Rattle.js_grammar.specs.Grammar.{Lexeme, Lexemes, last, next}
@@ -17,26 +18,28 @@ use Rattle.js_grammar.specs.Characters.{width, begins}
 use Rattle.js_grammar.specs.Longest.{longest, none_longer, none_begins, joined}
 use Rattle.js_grammar.specs.Lexed.{Lexes, Lex, Stands, all_faults, end_of}
 use Rattle.js_grammar.specs.Lexemes.{a_number, a_string, division, lexemes_in, may_precede, opening}
-use Rattle.js_grammar.specs.Numbers.{Rest, number_kind, suffix, digits, signed, exponent, fraction, decimal_rest, integer_rest, legacy, zero_rest, is_number, stops_number}
+use Rattle.js_grammar.specs.Numbers.{number_kind, digits, is_number, stops_number}
 use Rattle.js_grammar.specs.Settings.{Goal}
 use Rattle.js_grammar.specs.Strings.{closes_string, nothing_left, string_inside, string_kind}
-use Rattle.js_grammar.specs.Trivia.{are_trivia, is_html_comment, lack_html_comments}
+use Rattle.js_grammar.specs.Trivia.{is_html_comment, lack_html_comments}
 use Rattle.js_grammar.specs.CoreTexts.{CoreSource, are_core, closes_core_string, core_punctuators, ends_in_glue, occurs}
 use Rattle.js_grammar.specs.LexicalFaults.{behind, Due, Reached, FaultyBehind, Condition, InvalidCharacter, InvalidNameEscape, InvalidNumber, InvalidStringEscape, BinaryFile, Unterminated, is_closed_string, is_number_word, is_open_comment, is_open_part, is_open_pattern, is_open_regular_expression, is_open_string, is_part, is_comment, lacks_line_end}
 use Rattle.js_grammar.specs.Lexemes.{regular_expression}
 use Rattle.js_grammar.proofs.Alike.{stands-same}
 use Rattle.js_grammar.proofs.CoreFirst.{is_core_first, punctuator_mark, Sort, blank, name, number, string, punctuator, decimal-ascii}
-use Rattle.js_grammar.proofs.CoreLemmas.{none_longer-from, opens, opens-same, plain_of}
-use Rattle.js_grammar.proofs.CoreLexed.{at_end, at_word}
+use Rattle.js_grammar.proofs.CoreLemmas.{none_longer-from, plain_of}
+use Rattle.js_grammar.proofs.CoreLexed.{at_end, at_word, stands_of, at_along}
 use Rattle.js_grammar.proofs.CoreNames.{ascii, IsPlain, name_no_backslash}
 use Rattle.js_grammar.proofs.CoreNumbers.{nothing-nil, number-opens}
 use Rattle.js_grammar.proofs.CorePlain.{no_backslash}
 use Rattle.js_grammar.proofs.CoreStrings.{body_of, plain_in}
 use Rattle.js_grammar.proofs.CoreTrivia.{ahead, Ahead, blanks, ends, word, lacks-behind, Lacks, piece_of, split}
-use Rattle.js_grammar.proofs.Finding.{all-append, all-mono, either, found-all, member, neither-left, neither-right}
-use Rattle.js_grammar.proofs.LongestLemmas.{append-nil, both, both-left, both-right, none_longer-at, not-true}
+use Rattle.js_grammar.proofs.Finding.{all-append, all-mono, found-all, member, neither-left, neither-right}
+use Rattle.js_grammar.proofs.LongestLemmas.{both, both-left, both-right, none_longer-at, not-true}
 use Rattle.js_grammar.proofs.Places.{At, at-behind, at-chars, at-start}
 use Rattle.js_grammar.proofs.Standing.{none_stands}
+use Rattle.js_grammar.proofs.Quotations.{quote_opens}
+use Rattle.js_grammar.proofs.NumberKinds.{kind_numeric}
 use Rattle.js_core.proofs.laws_shared.Paths.{unless}
 
 -- what passes in all passes in those further on
@@ -92,19 +95,13 @@ record Place (text : List ℕ) (s : ℕ) : Type 0 where
   pub lacks : Lacks (joined pieces)
   pub at : At text s (joined pieces)
 
-along : {text : List ℕ} {s : ℕ} {cs ds : List ℕ} → cs ≡ ds → At text s cs → At text s ds
-along {text = text} {s = s} e a = subst (λ (v : List ℕ). At text s v) e a
-
-stands_by : {text : List ℕ} {s : ℕ} {cs : List ℕ} (qs : List (List ℕ)) (w rest : List ℕ) → At text s cs → cs ≡ joined qs ++ (w ++ rest) → are_trivia (s == 0) qs (w ++ rest) ≡ true → Stands text s qs w rest
-stands_by qs w rest a e t = record { within = a.within; splits = at-chars a ∙ e; trivia = t }
-
 at_first : {text : List ℕ} → IsUtf8 text → CoreSource text → Place text 0
 at_first {text} u c = record {
   glued = false;
   pieces = c.pieces;
   core = c.core;
   lacks = subst (λ (v : List ℕ). Lacks v) c.splits (record { open_mark = not-true (occurs (codes "<!--") (chars text)) c.lacks_open; close_mark = not-true (occurs (codes "-->") (chars text)) c.lacks_close });
-  at = along c.splits (at-start text u);
+  at = at_along c.splits (at-start text u);
 }
 
 -- which lexeme stands there, and that it is no regular expression
@@ -117,8 +114,8 @@ stood {text} {s} p y l = go (ahead (s == 0) p.glued p.pieces p.core p.lacks)
   where
     go : Ahead (s == 0) p.pieces → Stood text s y
     go (ends qs e t h) =
-        let same = (at_end text s qs (stands_by qs [] [] p.at e t) h).only all_faults y l in
-        let a : At text (s + width (joined qs) + width []) [] = at-behind [] [] (at-behind (joined qs) [] (along e p.at)) in
+        let same = (at_end text s qs (stands_of qs [] [] p.at e t) h).only all_faults y l in
+        let a : At text (s + width (joined qs) + width []) [] = at-behind [] [] (at-behind (joined qs) [] (at_along e p.at)) in
         record {
           behind = subst (λ (x : Lexeme). Place text x.to) (sym same) (record { glued = false; pieces = []; core = refl; lacks = lacks-behind (joined qs) [] (subst (λ (v : List ℕ). Lacks v) e p.lacks); at = a });
           plain = λ k. let z : Eof ≡ RegExp = sym (ap (λ (x : Lexeme). x.kind) same) ∙ k in cc;
@@ -126,8 +123,8 @@ stood {text} {s} p y l = go (ahead (s == 0) p.glued p.pieces p.core p.lacks)
     go (word qs c cs later e t h f i k m) =
         let inside = not-true (one_of (code Eof ∷ code RegExp ∷ []) (code i.kind)) i.inside in
         let other = neither-left (code RegExp == code i.kind) false (neither-right (code Eof == code i.kind) (one_of (code RegExp ∷ []) (code i.kind)) inside) in
-        let same = (at_word text s qs c cs (joined later) (stands_by qs (c ∷ cs) (joined later) p.at e t) h f i other).only all_faults y l in
-        let a : At text (s + width (joined qs) + width (c ∷ cs)) (joined later) = at-behind (c ∷ cs) (joined later) (at-behind (joined qs) (c ∷ cs ++ joined later) (along e p.at)) in
+        let same = (at_word text s qs c cs (joined later) (stands_of qs (c ∷ cs) (joined later) p.at e t) h f i other).only all_faults y l in
+        let a : At text (s + width (joined qs) + width (c ∷ cs)) (joined later) = at-behind (c ∷ cs) (joined later) (at-behind (joined qs) (c ∷ cs ++ joined later) (at_along e p.at)) in
         record {
           behind = subst (λ (x : Lexeme). Place text x.to) (sym same) (record { glued = ends_in_glue (c ∷ cs); pieces = later; core = k; lacks = lacks-behind (c ∷ cs) (joined later) (lacks-behind (joined qs) (c ∷ cs ++ joined later) (subst (λ (v : List ℕ). Lacks v) e p.lacks)); at = a });
           plain = λ z. let n : (code RegExp == code RegExp) ≡ false = subst (λ (a : Kind). (code RegExp == code a) ≡ false) (sym (ap (λ (x : Lexeme). x.kind) same) ∙ z) other in cc;
@@ -151,15 +148,15 @@ met : {text : List ℕ} {s i : ℕ} → Place text s → Due text s i → Met (b
 met {text} {s} {i} p d = go (ahead (s == 0) p.glued p.pieces p.core p.lacks)
   where
     go : Ahead (s == 0) p.pieces → Met (behind text i)
-    go (ends qs e t h) = nothing (stands-same d.stands (stands_by qs [] [] p.at e t)).back
-    go (word qs c cs later e t h f j k m) = something c cs (joined later) (stands-same d.stands (stands_by qs (c ∷ cs) (joined later) p.at e t)).back f j
+    go (ends qs e t h) = nothing (stands-same d.stands (stands_of qs [] [] p.at e t)).back
+    go (word qs c cs later e t h f j k m) = something c cs (joined later) (stands-same d.stands (stands_of qs (c ∷ cs) (joined later) p.at e t)).back f j
 
 lacking : {text : List ℕ} {s : ℕ} {qs : List (List ℕ)} {rest : List ℕ} → Place text s → Stands text s qs [] rest → lack_html_comments qs ≡ true
 lacking {text} {s} {qs} p st = go (ahead (s == 0) p.glued p.pieces p.core p.lacks)
   where
     go : Ahead (s == 0) p.pieces → lack_html_comments qs ≡ true
-    go (ends os e t h) = subst (λ (v : List (List ℕ)). lack_html_comments v ≡ true) (sym (stands-same st (stands_by os [] [] p.at e t)).pieces) h
-    go (word os c cs later e t h f j k m) = subst (λ (v : List (List ℕ)). lack_html_comments v ≡ true) (sym (stands-same st (stands_by os (c ∷ cs) (joined later) p.at e t)).pieces) h
+    go (ends os e t h) = subst (λ (v : List (List ℕ)). lack_html_comments v ≡ true) (sym (stands-same st (stands_of os [] [] p.at e t)).pieces) h
+    go (word os c cs later e t h f j k m) = subst (λ (v : List (List ℕ)). lack_html_comments v ≡ true) (sym (stands-same st (stands_of os (c ∷ cs) (joined later) p.at e t)).pieces) h
 
 due_plain : {text : List ℕ} {s i : ℕ} → Place text s → Due text s i → list_all no_backslash (behind text i) ≡ true
 due_plain {text} {s} {i} p d = all_back no_backslash (joined d.pieces) (behind text i) (subst (λ (v : List ℕ). list_all no_backslash v ≡ true) (sym (at-chars p.at) ∙ d.stands.splits) (pieces_plain p.glued p.pieces p.core))
@@ -211,10 +208,6 @@ no_comment {text} {i} m x = go x.word x.rest x.here (both-left (is_open_comment 
         no_first c 47 (s ∙ sym (eqb-true 47 d (both-left (47 == d) _ o))) f refl
 
 -- a string is closed
-quote_opens : (q : ℕ) (digit : Bool) → one_of (34 ∷ 39 ∷ []) q ≡ true → opening q digit ≡ a_string
-quote_opens q true h = opens-same _ _ (member (λ c. opens (opening c true) a_string) (34 ∷ 39 ∷ []) q h refl)
-quote_opens q false h = opens-same _ _ (member (λ c. opens (opening c false) a_string) (34 ∷ 39 ∷ []) q h refl)
-
 closed : (q : ℕ) (cs : List ℕ) (k : Kind) → string_kind (q ∷ cs) ≡ Some k → (one_of (34 ∷ 39 ∷ []) q && closes_string q false (line_feeds cs)) ≡ true
 closed q cs k e = go (one_of (34 ∷ 39 ∷ []) q) (closes_string q false (line_feeds cs)) (is_some (string_points (string_inside (q ∷ cs)))) e
   where
@@ -250,70 +243,6 @@ no_string_escape {text} {i} h x =
     let b = all_back no_backslash (x.quote ∷ x.inside) (92 ∷ x.rest) (subst (λ (v : List ℕ). list_all no_backslash v ≡ true) x.here h) in
     cc
 
--- each reading of a number gives a kind of a number
-abbrev numeric : Option Kind → Bool
-numeric None = true
-numeric (Some k) = is_number k
-
-by_test : (b : Bool) (x y : Option Kind) → numeric x ≡ true → numeric y ≡ true → numeric (elim b [ true ↦ x | false ↦ y ]) ≡ true
-by_test true x y h k = h
-by_test false x y h k = k
-
-abbrev Numeric : Rest → Type 0
-Numeric r = (v : List ℕ) → numeric (r v) ≡ true
-
-numeric_end : (k : Kind) → is_number k ≡ true → Numeric (Rattle.js_grammar.specs.Numbers.ends k)
-numeric_end k h [] = h
-numeric_end k h (c ∷ v) = refl
-
-numeric_suffix : (k big : Kind) → is_number k ≡ true → is_number big ≡ true → Numeric (suffix k big)
-numeric_suffix k big h g [] = h
-numeric_suffix k big h g (c ∷ v) = by_test (c == 110) _ _ (numeric_end big g v) refl
-
-numeric_digits : (d : ℕ → Bool) (r : Rest) → Numeric r → (digit : Bool) → Numeric (digits d r digit)
-numeric_digits d r h digit [] = by_test digit _ _ (h []) refl
-numeric_digits d r h digit (c ∷ v) = by_test (d c) _ _ (numeric_digits d r h true v) (by_test digit _ _ (by_test (c == 95) _ _ (numeric_digits d r h false v) (h (c ∷ v))) refl)
-
-numeric_signed : Numeric signed
-numeric_signed [] = refl
-numeric_signed (c ∷ v) = by_test (c == 45) _ _ (numeric_digits is_decimal (Rattle.js_grammar.specs.Numbers.ends NegativeExponential) (numeric_end NegativeExponential refl) false v)
-    (by_test (c == 43) _ _ (numeric_digits is_decimal (Rattle.js_grammar.specs.Numbers.ends PositiveExponential) (numeric_end PositiveExponential refl) false v) (numeric_digits is_decimal (Rattle.js_grammar.specs.Numbers.ends PositiveExponential) (numeric_end PositiveExponential refl) false (c ∷ v)))
-
-numeric_exponent : (k : Kind) → is_number k ≡ true → Numeric (exponent k)
-numeric_exponent k h [] = h
-numeric_exponent k h (c ∷ v) = by_test (one_of (69 ∷ 101 ∷ []) c) _ _ (numeric_signed v) refl
-
-numeric_fraction : Numeric fraction
-numeric_fraction [] = refl
-numeric_fraction (c ∷ v) = by_test (is_decimal c) _ _ (numeric_digits is_decimal (exponent Float) (numeric_exponent Float refl) true v) (numeric_exponent Float refl (c ∷ v))
-
-numeric_decimal : Numeric decimal_rest
-numeric_decimal [] = refl
-numeric_decimal (c ∷ v) = by_test (c == 46) _ _ (numeric_fraction v) (numeric_exponent Decimal refl (c ∷ v))
-
-numeric_integer : Numeric integer_rest
-numeric_integer [] = refl
-numeric_integer (c ∷ v) = by_test (c == 110) _ _ (numeric_end DecimalBigInt refl v) (numeric_decimal (c ∷ v))
-
-numeric_legacy : (above : Bool) → Numeric (legacy above)
-numeric_legacy above [] = by_test above _ _ refl refl
-numeric_legacy above (c ∷ v) = by_test (is_decimal c) _ _ (numeric_legacy (above || nat_le 56 c) v) (by_test above _ _ (numeric_decimal (c ∷ v)) refl)
-
-numeric_zero : Numeric zero_rest
-numeric_zero [] = refl
-numeric_zero (c ∷ v) = by_test (is_decimal c) _ _ (numeric_legacy (nat_le 56 c) v)
-    (by_test (one_of (88 ∷ 120 ∷ []) c) _ _ (numeric_digits is_hex (suffix Hex HexBigInt) (numeric_suffix Hex HexBigInt refl refl) false v)
-    (by_test (one_of (79 ∷ 111 ∷ []) c) _ _ (numeric_digits is_octal (suffix Octal OctalBigInt) (numeric_suffix Octal OctalBigInt refl refl) false v)
-    (by_test (one_of (66 ∷ 98 ∷ []) c) _ _ (numeric_digits is_binary (suffix Binary BinaryBigInt) (numeric_suffix Binary BinaryBigInt refl refl) false v) (numeric_integer (c ∷ v)))))
-
-numeric_number : Numeric number_kind
-numeric_number [] = refl
-numeric_number (c ∷ v) = by_test (c == 46) _ _ (numeric_digits is_decimal (exponent Float) (numeric_exponent Float refl) false v)
-    (by_test (c == 48) _ _ (numeric_zero v) (by_test (is_decimal c) _ _ (numeric_digits is_decimal integer_rest numeric_integer true v) refl))
-
-kind_is : (w : List ℕ) (k : Kind) → number_kind w ≡ Some k → is_number k ≡ true
-kind_is w k e = subst (λ (o : Option Kind). numeric o ≡ true) e (numeric_number w)
-
 -- where a number opens, it is the longest one, and stops
 record Numbered (w rest : List ℕ) : Type 0 where
   pub long : longest is_number_word w rest ≡ true
@@ -327,7 +256,7 @@ numbered c cs rest j o =
       long = both (is_number_word (c ∷ cs) rest) (none_longer is_number_word (c ∷ cs) rest) (ap is_some k) (none_longer-from is_number_word (c ∷ cs) rest (λ d x more e.
           let n : lexemes_in division (c ∷ cs ++ d ∷ x) more ≡ false = none_longer-at (lexemes_in division) (c ∷ cs) d x more (subst (λ (v : List ℕ). none_longer (lexemes_in division) (c ∷ cs) v ≡ true) e (both-right (lexemes_in division (c ∷ cs) rest) (none_longer (lexemes_in division) (c ∷ cs) rest) j.longest)) in
           sym (ap is_some (plain_of a_number c (cs ++ d ∷ x) more (o (d ∷ x)))) ∙ n));
-      stops = unless (is_number j.kind) (stops_number rest) (kind_is (c ∷ cs) j.kind k) j.apart;
+      stops = unless (is_number j.kind) (stops_number rest) (kind_numeric (c ∷ cs) j.kind k) j.apart;
     }
 
 -- a dot and a digit are a number
@@ -336,7 +265,7 @@ dotted d rest h = ap is_some (plain_of a_number 46 (d ∷ []) rest (ap (λ (b : 
 
 no_number : {text : List ℕ} {i : ℕ} → Met (behind text i) → InvalidNumber text i → ⊥
 no_number (nothing e) x = let h = x.here in cc
-no_number {text} {i} (something c w rest e f j) x = elim (either (is_decimal x.first) ((x.first == 46) && begins is_decimal x.others) x.begun) [
+no_number {text} {i} (something c w rest e f j) x = elim (or_cases (is_decimal x.first) ((x.first == 46) && begins is_decimal x.others) x.begun) [
   | inl d ↦ by_none (numbered c w rest j (λ v. number-opens c (begins is_decimal (w ++ v)) (subst (λ (a : ℕ). is_decimal a ≡ true) (sym first) d)))
   | inr d ↦ by_dot (first ∙ eqb-true x.first 46 (both-left (x.first == 46) (begins is_decimal x.others) d)) (subst (λ (v : List ℕ). begins is_decimal v ≡ true) (sym others) (both-right (x.first == 46) (begins is_decimal x.others) d)) w j refl
 ]

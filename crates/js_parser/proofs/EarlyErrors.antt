@@ -7,11 +7,12 @@ use Rattle.js_base.specs.declared.diagnostic.Diagnostic.{Diagnostic}
 use Rattle.js_base.specs.declared.diagnostic.DiagnosticKind.{DiagnosticKind}
 use Rattle.js_base.specs.declared.diagnostic.DiagnosticKind.TheVariants.{RegExpFlagUAndV, TemplateLiteral}
 use Rattle.js_base.specs.declared.span.Span.{Span as PlacedSpan}
-use Rattle.js_grammar.specs.EarlyRules.{everywhere, not_u_and_v, cooked_at, Place, anywhere, tag, tagged}
+use Rattle.js_grammar.specs.EarlyRules.{everywhere, not_u_and_v, cooked_at, Place, anywhere, tag, tagged, parts_cooked}
 use Rattle.js_grammar.specs.NodeNames.{characters_at}
 use Rattle.js_grammar.specs.Trees.{NodeKind, reg_exp_literal, tagged_template_expression, template_literal, template_element, Label, Op, Span, Slots, end, hole, tree, Tree}
 use Rattle.js_tree.specs.Covering.{placed}
-use Rattle.js_core.proofs.Lists.{first_empty, second_empty}
+use Rattle.js_core.proofs.Lists.{first_empty}
+use Rattle.js_core.proofs.laws_shared.Verdicts.{ending}
 use Rattle.js_parser.specs.Broken.{past, within, broken_rule, told_rule, told_in}
 use Rattle.js_core.specs.EarlyErrors.{MeetsEarlyRules}
 use Rattle.js_parser.specs.FlagScans.{has_both}
@@ -24,23 +25,13 @@ place_of Tag = tag
 place_of Tagged = tagged
 place_of InTemplate = anywhere
 
--- each part among the slots has a cooked text
-abbrev all_cooked : List ℕ → Slots → Bool
-all_cooked text end = true
-all_cooked text (hole us) = all_cooked text us
-all_cooked text (tree l cs us) = of_kind l.kind && all_cooked text us
-  where
-    of_kind : NodeKind → Bool
-    of_kind template_element = is_some (cooked (characters_at text l))
-    of_kind _ = true
-
 -- what is asked of the slots there, beside what is asked of each template within
 abbrev in_template : Position → Bool
 in_template InTemplate = true
 in_template _ = false
 
 abbrev asked : List ℕ → Position → Slots → Bool
-asked text p us = not (in_template p) || all_cooked text us
+asked text p us = not (in_template p) || parts_cooked text us
 
 record Meets (text : List ℕ) (p : Position) (us : Slots) : Type 0 where
   flags : everywhere (not_u_and_v text) us ≡ true
@@ -120,10 +111,10 @@ meets text p (tree l cs us) e =
     let first = own text p l in
     let inner = told_in text (within p l.kind) cs in
     let behind = told_in text (past p) us in
-    let others = second_empty first (inner ++ behind) e in
+    let others = ending first (inner ++ behind) e in
     let none = first_empty first (inner ++ behind) e in
     let x = meets text (within p l.kind) cs (first_empty inner behind others) in
-    let y = meets text (past p) us (second_empty inner behind others) in
+    let y = meets text (past p) us (ending inner behind others) in
     record {
       flags = and_from _ _ (flags_right text p l.kind l.op l.flags l.span cs none) (and_from _ _ x.flags y.flags);
       cooked = at_node text p l.kind l.op l.flags l.span cs us ∙ and_from _ _ x.parts (and_from _ _ x.cooked y.cooked);

@@ -20,6 +20,7 @@ use Rattle.js_grammar.proofs.Behind.{lexed_behind}
 use Rattle.js_grammar.proofs.Looks.{covers, covered}
 use Rattle.js_grammar.proofs.CoverInitialisers.{Led, line_marked}
 use Rattle.js_grammar.proofs.Renamed.{remarked, first_of, second_of, mark_of}
+use Rattle.js_grammar.proofs.Finding.{holds_if}
 use Rattle.js_tree.specs.Covering.{placed}
 use Rattle.js_parser.specs.Broken.{past, within as inner, broken_rule, told_rule, told_in}
 use Rattle.js_parser.specs.FlagScans.{has_both}
@@ -132,12 +133,8 @@ module _ (Q : Span → Type 0) where
 
 -- of which it is so near each lexeme
 module _ (Q : Span → Type 0) (L : ℕ → Lexeme → Type 0) (told : (i : ℕ) (x : Lexeme) → L i x → (e : Extent) (p : Look) → is_near e p ≡ true → IsTrue (seen p x) → (ls : Lexemes) → Q (span_of e (next x ls) x.to ls)) where
-  near_of : (k e : Bool) → (not k || e) ≡ true → k ≡ true → e ≡ true
-  near_of true e h q = h
-  near_of false e h q = absurd (false≢true q)
-
   at_node : (m : Make) (a : G) → Fits (node m a) → {ks cs us : Slots} {i j : ℕ} {ls rest : Lexemes} → Takes rule a ks cs i ls us j rest → Lexes L i ls → is_lexical m.kind ≡ true → Q (label_of m ls j rest).span
-  at_node m (lexeme p) w {i = i} (is_lexeme {x = x} {ls = ls} h) l q = told i x l.0 m.extent p (near_of (is_lexical m.kind) (is_near m.extent p) w q) h ls
+  at_node m (lexeme p) w {i = i} (is_lexeme {x = x} {ls = ls} h) l q = told i x l.0 m.extent p (holds_if (is_lexical m.kind) (is_near m.extent p) w q) h ls
   at_node m a w d l q = absurd (false≢true (sym w.0 ∙ q))
 
   each_in : {g : G} {ks ts us : Slots} {i j : ℕ} {ls rest : Lexemes} → Takes rule g ks ts i ls us j rest → Fits g → Lexes L i ls → Each Q ks → Each Q us → Each Q ts

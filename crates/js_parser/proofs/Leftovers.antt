@@ -30,6 +30,7 @@ use Rattle.js_core.specs.laws_shared.Classes.{IsEarly}
 use Rattle.js_core.specs.laws_shared.Lexemes.{Faultless}
 use Rattle.js_core.specs.laws_shared.Told.{unrelated_at}
 use Rattle.js_core.proofs.laws_shared.Kept.{faults_aside}
+use Rattle.js_core.proofs.laws_shared.Verdicts.{ending}
 use Rattle.js_core.specs.Kept.{IsKeptOf}
 use Rattle.js_parser.specs.Broken.{past, within, broken_rule, told_rule, told_in}
 use Rattle.js_parser.specs.FlagScans.{has_both}
@@ -39,7 +40,7 @@ use Rattle.js_parser.specs.Leftover.{told_at, leftover, with_leftover}
 use Rattle.js_parser.specs.NodeSpans.{SlotsLie}
 use Rattle.js_core.specs.Readings.{parameters, AreRead, from_text_start, behind_a_hashbang, ReadingBy, IsOnlyReadingBy, HasNoReadingBy, IsOnlyReading, HasNoReading}
 use Rattle.js_parser.proofs.EarlyErrors.{none_broken, nothing_told}
-use Rattle.js_core.proofs.Lists.{first_empty, second_empty}
+use Rattle.js_core.proofs.Lists.{first_empty}
 use Rattle.js_parser.proofs.EarlyMarks.{told_marked}
 
 module _ {text : List ℕ} {goal : Goal} {o : Options} where
@@ -167,4 +168,4 @@ told_none kind [] e = refl
 told_none kind (s ∷ ss) e = absurd (cc)
 
 pub leftover_none : (early : List Diagnostic) (covers : List TreeSpan) → leftover early (map made covers) ≡ [] → (early ≡ []) × (covers ≡ [])
-leftover_none early covers e = (first_empty early (told_at CoverInitializedName (map made covers)) e, told_none CoverInitializedName covers (second_empty early (told_at CoverInitializedName (map made covers)) e))
+leftover_none early covers e = (first_empty early (told_at CoverInitializedName (map made covers)) e, told_none CoverInitializedName covers (ending early (told_at CoverInitializedName (map made covers)) e))

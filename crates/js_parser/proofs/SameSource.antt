@@ -17,6 +17,7 @@ use Rattle.js_grammar.specs.LexicalFaults.{behind}
 use Rattle.js_grammar.specs.CoverInitialisers.{with_cover}
 use Rattle.js_grammar.specs.Productions.{Flags, Name, Symbol, G, at, Program, with_pife}
 use Rattle.js_grammar.specs.Table.{rule, rule_of}
+use Rattle.js_grammar.specs.Marks.{is_part, closing_width}
 use Rattle.js_grammar.proofs.Behind.{lexed_behind}
 use Rattle.js_grammar.proofs.CoverInitialisers.{line_marked}
 use Rattle.js_grammar.proofs.Looks.{covers, covered}
@@ -27,7 +28,7 @@ use Rattle.js_cursor.proofs.js_lex.Again.{cancel}
 use Rattle.js_cursor.proofs.part_scan.StringPlaces.{front_word}
 use Rattle.js_core.specs.Readings.{parameters}
 use Rattle.js_parser.proofs.Validity.{all_plain}
-use Rattle.js_parser.specs.SameSource.{Source, one_lexeme, inside_part, any_source, source_of, IsOneLexeme, is_part, closing, HasSource, HaveSources, ReadingsHaveSources}
+use Rattle.js_parser.specs.SameSource.{Source, one_lexeme, inside_part, any_source, source_of, IsOneLexeme, HasSource, HaveSources, ReadingsHaveSources}
 
 -- ---- lexemes of a text stand there
 
@@ -64,7 +65,7 @@ all_stand p u s (next x ls) b l = let a = stands u b l.0 in (a, all_stand p u x.
 
 -- the part of a template that a lexeme of this kind is ends with so many characters
 abbrev ends_with : ℕ → Look
-ends_with c k w e = is_part k && nat_eq (closing k) c
+ends_with c k w e = is_part k && nat_eq (closing_width k) c
 
 abbrev passing : (Kind → Bool) → Look
 passing passes k w e = passes k
@@ -136,13 +137,13 @@ module _ (text : List ℕ) where
       let r = and_parts (nat_eq a 1) _ h in
       let k = and_parts (is_part x.kind) _ (covered p (ends_with c) r.1 x.kind x.newline x.escaped q) in
       let one : a ≡ 1 = eqb-true a 1 r.0 in
-      let close : closing x.kind ≡ c = eqb-true (closing x.kind) c k.1 in
+      let close : closing_width x.kind ≡ c = eqb-true (closing_width x.kind) c k.1 in
       record {
         start = x.from;
         stop = x.to;
         part = l.0.one is_part k.0;
         from_is = ap (λ (n : ℕ). x.from + n) one;
-        to_is = ap (λ (n : ℕ). x.to - n) (sym close ∙ sym (ap closing (l.0.same is_part k.0)));
+        to_is = ap (λ (n : ℕ). x.to - n) (sym close ∙ sym (ap closing_width (l.0.same is_part k.0)));
       }
   node_has any_source x a h d l = tt
   node_has s x a h d l = absurd (false≢true h)

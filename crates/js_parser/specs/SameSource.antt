@@ -1,13 +1,14 @@
 -- What a node of a tree has at its span in the text that the tree was read from, where more than the span is asked by what is read of the node: a name, a string, a big integer, a part of a template.
 use Rattle.std.specs.Prelude.{ℕ, ◌≡◌, ◌+◌, ◌-◌, Bool, List, [], ◌∷◌, chars, drop, slice_range, IsTrue, IsUtf8}
 use Rattle.js_base.specs.declared.kind.Kind.{Kind}
-use Rattle.js_base.specs.declared.kind.Kind.TheVariants.{PrivateIdentifier, Str, DecimalBigInt, BinaryBigInt, OctalBigInt, HexBigInt, NoSubstitutionTemplate, TemplateHead, TemplateMiddle, TemplateTail}
+use Rattle.js_base.specs.declared.kind.Kind.TheVariants.{PrivateIdentifier, Str, DecimalBigInt, BinaryBigInt, OctalBigInt, HexBigInt}
 use Rattle.js_base.specs.Kinds.{same_kind, one_of_kinds}
 use Rattle.js_grammar.specs.Lexed.{IsLexeme}
 use Rattle.js_grammar.specs.Lexemes.{LexicalGoal, is_word}
 use Rattle.js_grammar.specs.Trees.{NodeKind, identifier_reference, binding_identifier, label_identifier, identifier_name, private_identifier, string_literal, big_int_literal, template_element, Span, Slots, end, hole, tree, Tree}
 use Rattle.js_grammar.specs.Options.{Options}
 use Rattle.js_grammar.specs.Settings.{Goal}
+use Rattle.js_grammar.specs.Marks.{is_part, closing_width}
 use Rattle.js_core.specs.Readings.{ReadingBy}
 
 -- What stands at a node: one lexeme, of a kind that passes a test; the inside of a part of a template; or whatever is derived there.
@@ -35,22 +36,13 @@ pub record IsOneLexeme (text : List ℕ) (passes : Kind → Bool) (from to : ℕ
   pub is : IsLexeme goal from (chars (slice_range text from to)) (chars (drop to text)) kind
   pub passing : IsTrue (passes kind)
 
-abbrev pub is_part : Kind → Bool
-is_part = one_of_kinds (NoSubstitutionTemplate ∷ TemplateHead ∷ TemplateMiddle ∷ TemplateTail ∷ [])
-
--- how many characters end a part of a template: a backquote, or `${`
-abbrev pub closing : Kind → ℕ
-closing TemplateHead = 2
-closing TemplateMiddle = 2
-closing _ = 1
-
 -- The slice is that between the backquote or `}` that a part of a template begins with and the backquote or `${` that ends it.
 pub record IsInsidePart (text : List ℕ) (from to : ℕ) : Type 0 where
   pub start : ℕ
   pub stop : ℕ
   pub part : IsOneLexeme text is_part start stop
   pub from_is : from ≡ start + 1
-  pub to_is : to ≡ stop - closing part.kind
+  pub to_is : to ≡ stop - closing_width part.kind
 
 abbrev pub HasSource : List ℕ → Source → Span → Type 0
 HasSource text (one_lexeme passes) s = IsOneLexeme text passes s.from s.to

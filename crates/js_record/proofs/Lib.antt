@@ -7,5 +7,4 @@ pub mod LineLemmas
 pub mod KindLemmas
 pub mod ShownLemmas
 pub mod TreeLemmas
-pub mod ResultLemmas
 mod RecordExamples

@@ -1,13 +1,9 @@
 -- Lines of members, one after the other.
-use Rattle.std.proofs.Common.{◌≡◌, ℕ, ◌+◌, ◌<◌, ◌≤◌, List, [], ◌∷◌, ◌++◌, Some, None, take, length, get_or, slice_get, refl, sym, ap, ◌∙◌, append_assoc, is_some, true≢false, arith}
+use Rattle.std.proofs.Common.{◌≡◌, ℕ, ◌+◌, ◌<◌, ◌≤◌, List, [], ◌∷◌, ◌++◌, Some, None, take, length, get_or, slice_get, sym, ap, ◌∙◌, append_assoc, is_some, true≢false, arith}
 use Rattle.std.specs.List.{flat_map}
 use Rattle.std.proofs.lemmas.Grind.{flat_map-append}
-use Rattle.std.proofs.lemmas.List.{take_more, take_all}
+use Rattle.std.proofs.lemmas.List.{take_more, take_all, append-nil}
 use Rattle.std.proofs.lemmas.Option.{slice_get_within, get_or_from_slice_get, slice_get-get_or, slice_get_read}
-
-append_nil : {A : Type 0} (xs : List A) → xs ++ [] ≡ xs
-append_nil [] = refl
-append_nil (x ∷ xs) = ap (λ v. x ∷ v) (append_nil xs)
 
 module _ {E : Type 0} (f : E → List ℕ) (es : List E) (i : ℕ) where
   -- those of one member more
@@ -15,7 +11,7 @@ module _ {E : Type 0} (f : E → List ℕ) (es : List E) (i : ℕ) where
   next_lines e out mid new at m n =
       let more : take (i + 1) es ≡ take i es ++ e ∷ [] = take_more es i e (slice_get_within es i e at) ∙ ap (λ v. take i es ++ v ∷ []) (get_or_from_slice_get es i e e at) in
       n ∙ ap (λ v. v ++ f e) m ∙ append_assoc out (flat_map f (take i es)) (f e)
-      ∙ ap (λ v. out ++ (flat_map f (take i es) ++ v)) (sym (append_nil (f e)))
+      ∙ ap (λ v. out ++ (flat_map f (take i es) ++ v)) (sym (append-nil (f e)))
       ∙ ap (λ v. out ++ v) (sym (flat_map-append f (take i es) (e ∷ []))) ∙ ap (λ v. out ++ flat_map f v) (sym more)
 
 -- a place below the length has a member

@@ -6,9 +6,9 @@ use Rattle.std.proofs.lemmas.List.Elements.{All-from_recursion}
 use Rattle.js_base.specs.declared.span.Span.{Span}
 use Rattle.js_grammar.specs.BoundNames as bound
 use Rattle.js_grammar.specs.ModuleRecords.{NameSpan}
-use Rattle.js_grammar.specs.Modules.{named, first_name, second_name, behind, specifier, import_entry, import_entries, own_entry, own_entries, from_entry, from_entries, exported_names, optional_name, of_import, of_export_named, of_export_from, of_export_all, of_export_default, of_export_declaration, import_part, export_named_part, export_from_part, export_all_by, export_all_part, export_default_part, export_declaration_part, syntax, import_call_part}
+use Rattle.js_grammar.specs.Modules.{named, first_name, second_name, specifier, import_entry, import_entries, own_entry, own_entries, from_entry, from_entries, exported_names, optional_name, of_import, of_export_named, of_export_from, of_export_all, of_export_default, of_export_declaration, import_part, export_named_part, export_from_part, export_all_by, export_all_part, export_default_part, export_declaration_part, syntax, import_call_part}
 use Rattle.js_grammar.specs.NodeNames.{span_of, IsReadFrom, AreReadFrom}
-use Rattle.js_grammar.specs.Trees.{Label, Slots, end, hole, tree}
+use Rattle.js_grammar.specs.Trees.{Label, Slots, end, hole, tree, after_first}
 use Rattle.js_tree.specs.declared.id.NodeId.{NodeId}
 use Rattle.js_tree.specs.Nodes.{Node, label, node_at, empty_program}
 use Rattle.js_tree.specs.Holding.{Stands, stands, StandsAll, no_slots, next_child, next_hole}
@@ -48,13 +48,13 @@ module _ (ns : List Node) (text : List ℕ) where
   optional_tree b _ _ _ (next_child lt (stands i w all) more) = refl
   optional_tree b _ _ _ (next_hole more) = refl
 
-  behind_tree : (b : ℕ) (ids : List (Option NodeId)) (us : Slots) (rs : List ℕ) → StandsAll ns b ids us rs → (ss : List ℕ) × StandsAll ns b (rest_of ids) (behind us) ss
+  behind_tree : (b : ℕ) (ids : List (Option NodeId)) (us : Slots) (rs : List ℕ) → StandsAll ns b ids us rs → (ss : List ℕ) × StandsAll ns b (rest_of ids) (after_first us) ss
   behind_tree b _ _ _ no_slots = ([], no_slots)
   behind_tree b _ _ _ (next_child lt s more) = (_, more)
   behind_tree b _ _ _ (next_hole more) = (_, more)
 
   second_tree : (b : ℕ) (ids : List (Option NodeId)) (us : Slots) (rs : List ℕ) → StandsAll ns b ids us rs → second_shown ns text ids ≡ second_name text us
-  second_tree b ids us rs s = let m = behind_tree b ids us rs s in first_tree b (rest_of ids) (behind us) m.0 m.1
+  second_tree b ids us rs s = let m = behind_tree b ids us rs s in first_tree b (rest_of ids) (after_first us) m.0 m.1
 
   imports_tree : (st : Span) (q : NameSpan) (b : ℕ) (ids : List (Option NodeId)) (us : Slots) (rs : List ℕ) → StandsAll ns b ids us rs → flat_map (import_shown ns text st q) ids ≡ import_entries text st q us
   imports_tree st q b _ _ _ no_slots = refl
@@ -106,7 +106,7 @@ module _ (ns : List Node) (text : List ℕ) where
       go l st b _ _ _ e no_slots = refl
       go l st b _ _ _ e (next_child {id = c} {us = us} lt (stands i w all) more) =
           let m = behind_tree b _ _ _ more in
-          λ j. of_import (e j) (specifier text (label_at ns c)) (λ r. (imports_tree st r b _ _ m.0 m.1 ∙ ap (λ s. import_entries text s r (behind us)) e) j)
+          λ j. of_import (e j) (specifier text (label_at ns c)) (λ r. (imports_tree st r b _ _ m.0 m.1 ∙ ap (λ s. import_entries text s r (after_first us)) e) j)
       go l st b _ _ _ e (next_hole more) = refl
 
   pub export_named_is : (i : ℕ) (l : Label) (cs : Slots) (rs : List ℕ) → Stands ns i l cs rs → export_named_shown ns text (get_or ns i empty_program).span (get_or ns i empty_program).children ≡ export_named_part text l cs
@@ -119,7 +119,7 @@ module _ (ns : List Node) (text : List ℕ) where
       go l st b _ _ _ e no_slots = refl
       go l st b _ _ _ e (next_child {id = c} {us = us} lt (stands i w all) more) =
           let m = behind_tree b _ _ _ more in
-          λ j. of_export_from (e j) (specifier text (label_at ns c)) (λ r. (from_tree st r b _ _ m.0 m.1 ∙ ap (λ s. from_entries text s r (behind us)) e) j) (names_tree b _ _ m.0 m.1 j)
+          λ j. of_export_from (e j) (specifier text (label_at ns c)) (λ r. (from_tree st r b _ _ m.0 m.1 ∙ ap (λ s. from_entries text s r (after_first us)) e) j) (names_tree b _ _ m.0 m.1 j)
       go l st b _ _ _ e (next_hole more) = refl
 
   pub export_all_is : (i : ℕ) (l : Label) (cs : Slots) (rs : List ℕ) → Stands ns i l cs rs → export_all_shown ns text (get_or ns i empty_program).span (get_or ns i empty_program).children ≡ export_all_part text l cs

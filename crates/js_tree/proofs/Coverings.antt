@@ -2,6 +2,7 @@
 use Rattle.std.proofs.Common.{◌≡◌, ℕ, zero, suc, ◌+◌, ◌<◌, ◌≤◌, Bool, true, false, cond, ◌&&◌, ◌||◌, List, [], ◌∷◌, ◌++◌, length, take, set, Option, Some, None, nat_lt, get_or, refl, ap, sym, ◌∙◌, arith, inl, inr, lt-ltb, le-ltb, ltb-true, add-one, length-set}
 use Rattle.std.proofs.lemmas.Bool.{cases_lt, or_parts}
 use Rattle.std.proofs.lemmas.List.{get_or_append_left, get_or_push, length_push}
+use Rattle.std.proofs.Math.Bool.{or-false, or_assoc}
 use Rattle.js_base.specs.declared.span.Span.{Span}
 use Rattle.js_grammar.specs.Trees.{Label, Slots}
 use Rattle.js_grammar.specs.CoverInitialisers.{initialised_in, has_third, is_initialised, is_property}
@@ -34,16 +35,8 @@ pub none_known : (covers : List Bool) (below : ℕ) (slot : Option NodeId) → (
 none_known covers below None n = refl
 none_known covers below (Some id) n = absurd (n id refl)
 
-pub or_false : (b : Bool) → (b || false) ≡ b
-or_false true = refl
-or_false false = refl
-
-or_both : (a b c : Bool) → ((a || b) || c) ≡ (a || (b || c))
-or_both true b c = refl
-or_both false b c = refl
-
 pub child_known : (covers : List Bool) (below : ℕ) (slot : Option NodeId) (id : NodeId) → slot ≡ Some id → id.0 < below → covered_in covers below (slot ∷ []) ≡ get_or covers id.0 false
-child_known covers below slot id e b = rw (e, lt-ltb id.0 below b) (or_false (get_or covers id.0 false))
+child_known covers below slot id e b = rw (e, lt-ltb id.0 below b) (or-false (get_or covers id.0 false))
 
 pub beyond_known : (covers : List Bool) (below : ℕ) (slot : Option NodeId) (id : NodeId) → slot ≡ Some id → below ≤ id.0 → covered_in covers below (slot ∷ []) ≡ false
 beyond_known covers below slot id e b = rw (e, le-ltb id.0 below b) refl
@@ -53,11 +46,11 @@ one_more covers below [] i d w = absurd (omega arith)
 one_more covers below (None ∷ ids) zero d w = refl
 one_more covers below (Some id ∷ ids) zero d w = refl
 one_more covers below (None ∷ ids) (suc i) d w = one_more covers below ids i d (omega arith)
-one_more covers below (Some id ∷ ids) (suc i) d w = ap (λ (b : Bool). (nat_lt id.0 below && get_or covers id.0 false) || b) (one_more covers below ids i d (omega arith)) ∙ sym (or_both (nat_lt id.0 below && get_or covers id.0 false) (covered_in covers below (take i ids)) (covered_in covers below (get_or ids i d ∷ [])))
+one_more covers below (Some id ∷ ids) (suc i) d w = ap (λ (b : Bool). (nat_lt id.0 below && get_or covers id.0 false) || b) (one_more covers below ids i d (omega arith)) ∙ sym (or_assoc (nat_lt id.0 below && get_or covers id.0 false) (covered_in covers below (take i ids)) (covered_in covers below (get_or ids i d ∷ [])))
 
 -- so far as children were looked at
 pub known_next : (itself : Bool) (covers : List Bool) (below : ℕ) (ids : List (Option NodeId)) (i : ℕ) (d : Option NodeId) → i < length ids → (itself || covered_in covers below (take (i + 1) ids)) ≡ ((itself || covered_in covers below (take i ids)) || covered_in covers below (get_or ids i d ∷ []))
-known_next itself covers below ids i d w = rw add-one (ap (λ (b : Bool). itself || b) (one_more covers below ids i d w) ∙ sym (or_both itself (covered_in covers below (take i ids)) (covered_in covers below (get_or ids i d ∷ []))))
+known_next itself covers below ids i d w = rw add-one (ap (λ (b : Bool). itself || b) (one_more covers below ids i d w) ∙ sym (or_assoc itself (covered_in covers below (take i ids)) (covered_in covers below (get_or ids i d ∷ []))))
 
 pub AreCovers-new : AreCovers (empty_program ∷ []) (false ∷ [])
 AreCovers-new = record { one_each = refl; each = first }

@@ -108,7 +108,7 @@ Keeps-made {n} m = record { more = n ∷ []; whole = m.nodes }
 pub Keeps-longer : {ns ms : List Node} → Keeps ns ms → length ns ≤ length ms
 Keeps-longer {ns} k = let e = ap length k.whole in let l = length-append ns k.more in omega arith
 
-agree_kept : (ns more : List Node) (hi : ℕ) (rs : List ℕ) → AreWithin 0 hi rs → hi ≤ length ns → AgreeOn ns (ns ++ more) rs
+pub agree_kept : (ns more : List Node) (hi : ℕ) (rs : List ℕ) → AreWithin 0 hi rs → hi ≤ length ns → AgreeOn ns (ns ++ more) rs
 agree_kept ns more hi [] h w = tt
 agree_kept ns more hi (r ∷ rs) h w = (get_or_append_left ns more empty_program r (let a = h.1 in omega arith), agree_kept ns more hi rs h.2 w)
 
@@ -159,7 +159,7 @@ HoldsAll-one {ns} {lo} {hi} id {l} {cs} h = let r = Holds-range h in record {
 pub HoldsAll-one_hole : (ns : List Node) (lo hi : ℕ) → lo ≤ hi → HoldsAll ns lo hi (None ∷ []) (hole end)
 HoldsAll-one_hole ns lo hi w = record { order = w; numbers = []; stands = next_hole no_slots; within = tt; distinct = tt }
 
-StandsAll-append : {ns : List Node} {below : ℕ} {ids js : List (Option NodeId)} {us vs : Slots} {rs ss : List ℕ} → StandsAll ns below ids us rs → StandsAll ns below js vs ss → StandsAll ns below (ids ++ js) (append us vs) (rs ++ ss)
+pub StandsAll-append : {ns : List Node} {below : ℕ} {ids js : List (Option NodeId)} {us vs : Slots} {rs ss : List ℕ} → StandsAll ns below ids us rs → StandsAll ns below js vs ss → StandsAll ns below (ids ++ js) (append us vs) (rs ++ ss)
 StandsAll-append no_slots k = k
 StandsAll-append {ns} {below} {js = js} {vs = vs} {ss = ss} (next_child {id = id} {ids = ids} {l = l} {cs = cs} {us = us} {rs = ps} {ss = qs} b h a) k = subst (λ (xs : List ℕ). StandsAll ns below (Some id ∷ (ids ++ js)) (tree l cs (append us vs)) xs) (sym (append_assoc ps qs ss)) (next_child b h (StandsAll-append a k))
 StandsAll-append (next_hole a) k = next_hole (StandsAll-append a k)

@@ -1,6 +1,5 @@
 -- The text of a node, written part by part.
-use Rattle.std.proofs.Common.{◌≡◌, ℕ, List, [], ◌∷◌, ◌++◌, refl, ap, ◌∙◌, append_assoc, append-nil, Result, Ok, Err}
-use Rattle.std.specs.Prelude.{OnOk}
+use Rattle.std.proofs.Common.{◌≡◌, ℕ, List, [], ◌∷◌, ◌++◌, refl, ap, ◌∙◌, append_assoc, append-nil}
 use Rattle.js_grammar.specs.Trees.{Label}
 use Rattle.js_grammar.specs.Lines.{kind_text, places_text, op_text, words_of, flag_words, label_text}
 
@@ -13,7 +12,3 @@ pub label_without_flags : (l : Label) (out kind op : List ℕ) → kind ≡ out 
 label_without_flags l out kind op k o n =
     let none : words_of flag_words l.flags ≡ [] = ap (words_of flag_words) n in
     label_written l out kind op op k o (rw none (rw (append-nil op) refl))
-
-pub on_ok : {T E : Type 0} (r : Result T E) {P Q : Type 0} → (P → Q) → OnOk r P → OnOk r Q
-on_ok (Ok x) f h = f h
-on_ok (Err e) f h = h

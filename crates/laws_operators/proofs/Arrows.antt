@@ -23,7 +23,6 @@ use Rattle.js_grammar.specs.Table.{rule, rule_of, args}
 use Rattle.js_grammar.specs.Follow.{after, looser, row_of, widest}
 use Rattle.js_grammar.proofs.Heads.{One, the_last, and_more, begins_head, operand_taken, in_one, one_name}
 use Rattle.js_grammar.proofs.Looks.{covers, covered, apart, not_both}
-use Rattle.js_grammar.proofs.RightEdges.{may_end}
 use Rattle.js_grammar.proofs.Calculus.{On, Inside, inside_full, ◌▹◌, ◌▹✗◌, here_at, done, left, right, looks, part_fails, fails_node, fails_look, fails_alt, weaken_on}
 use Rattle.js_grammar.proofs.FollowLaws.{fails_by}
 use Rattle.js_base.specs.declared.token.Token.{Token}
@@ -33,7 +32,7 @@ use Rattle.js_grammar.specs.Productions.{BindingIdentifier}
 use Rattle.js_grammar.specs.Trees.{NodeKind, hole, formal_parameters, formal_parameter, binding_identifier}
 use Rattle.js_grammar.proofs.Calculus.{fails_rule, weaken_fails_on, reads_empty_slot}
 use Rattle.js_grammar.proofs.FollowLaws.{same_read}
-use Rattle.laws_shared.specs.js_lex.Reading.{cut, is_right_angle, GivesLexeme, GivesNone, LexemeBehind, Outcome as Given}
+use Rattle.laws_shared.specs.js_lex.Reading.{cut, is_right_angle, GivesLexeme, LexemeBehind}
 use Rattle.laws_shared.proofs.js_lex.Again.{cut_same}
 use Rattle.laws_shared.specs.js_lex.States.{goal_of}
 use Rattle.js_base.specs.declared.diagnostic.Diagnostic.{Diagnostic}
@@ -41,6 +40,7 @@ use Rattle.js_base.specs.declared.kind.Kind.TheVariants.{Undetermined}
 use Rattle.js_grammar.specs.Lexed.{Lex as StandsBehind, all_faults}
 use Rattle.js_grammar.specs.Lexemes.{is_escaped}
 use Rattle.js_grammar.specs.Marks.{Mark, a_lexeme}
+use Rattle.js_grammar.specs.RightEdges.{may_end}
 use Rattle.laws_shared.specs.js_cursor.Moves.{Peeks}
 use Rattle.laws_shared.specs.js_cursor.Moves.{Keeps as Keeps_one}
 use Rattle.js_base.specs.declared.diagnostic.DiagnosticKind.TheVariants.{LineterminatorBeforeArrow}
@@ -52,7 +52,6 @@ use Rattle.laws_shared.specs.js_tree.declared.op.Op.TheVariants as op_made
 use Rattle.laws_shared.specs.js_tree.Nodes.{Node}
 use Rattle.laws_shared.specs.js_tree.Holding.{Holds, Keeps}
 use Rattle.laws_shared.proofs.js_tree.HoldingLemmas.{Holds-wider, HoldsAll-one, HoldsAll-hole, Keeps-longer, Keeps-refl, Keeps-trans, Keeps-made}
-use Rattle.laws_shared.proofs.js_tree.Coverings.{or_false}
 use Rattle.laws_shared.specs.js_cursor.Checkpoints.{Remembers, GoesBack}
 use Rattle.laws_shared.specs.js_cursor.declared.checkpoint.ParserCheckpoint.{ParserCheckpoint}
 use Rattle.laws_shared.specs.js_cursor.declared.stop.Stop.{Stop}
@@ -72,7 +71,7 @@ use Rattle.laws_operators.specs.declared.forms.ArrowHead.{ArrowHead}
 use Rattle.laws_shared.specs.Heads.{NoHead, OnlyArrow}
 use Rattle.laws_operators.specs.Rests.{OnlyOperandHere}
 use Rattle.laws_operators.specs.Closings.{ArrowBehindOne}
-use Rattle.laws_operators.proofs.Closings.{closes_alike}
+use Rattle.laws_operators.proofs.Closings.{closes_alike, none_left}
 use Rattle.laws_operators.proofs.OnePlace.{calm, one_alone, one_move, one_told}
 use Rattle.laws_operators.proofs.ParenthesizedFronts.{no_arrow_admitted, args_one}
 use Rattle.laws_shared.specs.js_cursor.Tokens.{may_be_read_again}
@@ -94,6 +93,7 @@ use Rattle.laws_shared.proofs.Here.{angled, found, plainly, one_plain, newline_h
 use Rattle.laws_shared.proofs.MadeNodes.{leaf_held, node_held, two_held, one_lies, one_lies_in, LabelLies, from_start}
 use Rattle.laws_shared.proofs.Moving.{beside_nodes, flags_same, heads_kept, same_both, same_itself, same_with, standing_for, stops_behind, nodes_lie}
 use Rattle.laws_patterns.proofs.laws_primary.Operands.{by_path, by_such, name_signless}
+use Rattle.laws_patterns.proofs.laws_primary.AsyncWords.{given_behind}
 use Rattle.laws_patterns.proofs.Bindings.{bound_path, ended_by, then_any}
 use Rattle.laws_shared.proofs.Paths.{Path, ◌⟼◌, ◌⟶◌, ◌⟶✗◌, fails_at, not_here, token, last_called, noded, by_symbol_as, label_here, read_of, walked_both, walked_from, walked_one, flagged_here, flagged_by}
 use Rattle.laws_shared.proofs.Signs.{none_kept, plain_of}
@@ -104,11 +104,9 @@ use Rattle.laws_shared.specs.Classes.{IsEarly}
 use Rattle.laws_shared.proofs.Classes.{kept_early}
 use Rattle.laws_shared.proofs.PlainSigns.{arrow_plain}
 use Rattle.std.proofs.lemmas.List.Elements.{All-same}
+use Rattle.std.proofs.Math.Bool.{or-false}
 
 -- ---- what begins like a head, with `=>` behind it, is no operand
-
-none_open : {b : ℕ} {s : List ℕ} → Some [] ≡ Some (b ∷ s) → ⊥
-none_open e = cc
 
 -- each lexeme is neither a regular expression nor a sign that begins with a slash, up to where no bracket is open
 abbrev pub AllCalm : {st : List ℕ} {ls r : Lexemes} {e : ℕ} → One st ls e r → Type 0
@@ -118,8 +116,8 @@ AllCalm (and_more {x = x} p o) = (calm x.kind ≡ true) × AllCalm o
 -- two lists of lexemes from one place go on alike, where those of the first are so
 agree : (text : List ℕ) (s : ℕ) {st : List ℕ} {ls ls' r r' : Lexemes} {e e' : ℕ} → Lexes (Lex text) s ls → Lexes (Lex text) s ls' → (o : One st ls e r) → One st ls' e' r' → AllCalm o → (e ≡ e') × Lexes (Lex text) e r × Lexes (Lex text) e' r'
 agree text s {st = st} l m (the_last {x = x} p) (the_last {x = y} q) c = (ap (λ (z : Lexeme). z.to) (one_move st l.0 m.0 c p q), l.1, m.1)
-agree text s {st = st} l m (the_last {x = x} p) (and_more {x = y} q o) c = absurd (none_open (sym p ∙ (ap (λ (z : Lexeme). move (bracket z.kind) st) (one_move st l.0 m.0 c p q) ∙ q)))
-agree text s {st = st} l m (and_more {x = x} p o) (the_last {x = y} q) c = absurd (none_open (sym q ∙ (ap (λ (z : Lexeme). move (bracket z.kind) st) (sym (one_move st l.0 m.0 c.0 p q)) ∙ p)))
+agree text s {st = st} l m (the_last {x = x} p) (and_more {x = y} q o) c = absurd (none_left (sym p ∙ (ap (λ (z : Lexeme). move (bracket z.kind) st) (one_move st l.0 m.0 c p q) ∙ q)))
+agree text s {st = st} l m (and_more {x = x} p o) (the_last {x = y} q) c = absurd (none_left (sym q ∙ (ap (λ (z : Lexeme). move (bracket z.kind) st) (sym (one_move st l.0 m.0 c.0 p q)) ∙ p)))
 agree text s {st = st} {r' = r'} {e' = e'} l m (and_more {b = b} {s = t} {x = x} p o) (and_more {b = c} {s = u} {x = y} {ls = ls'} q o') d =
     let w : x ≡ y = one_move st l.0 m.0 d.0 p q in
     let v : Some (c ∷ u) ≡ Some (b ∷ t) = sym q ∙ (ap (λ (z : Lexeme). move (bracket z.kind) st) (sym w) ∙ p) in
@@ -214,7 +212,7 @@ both_lines f = refl
 
 -- without `async` the parameters are those around
 pub plain_head_flags : (f : Flags) → arrow_head false f ≡ f
-plain_head_flags f = ap (λ (b : Bool). record f { await_ = b }) (or_false f.await_)
+plain_head_flags f = ap (λ (b : Bool). record f { await_ = b }) (or-false f.await_)
 
 -- a head with `=>` behind it on its line
 abbrev on_line : Flags → G
@@ -287,7 +285,7 @@ calm_name k h = ap not (name_apart (RegExp ∷ slashes) refl k h)
 name_calm : {ls r : Lexemes} {e : ℕ} (o : One [] ls e r) → one_of_kinds binding_identifier_kinds (here ls).kind ≡ true → AllCalm o
 unfolding bracket move
 name_calm (the_last {x = x} m) h = calm_name x.kind h
-name_calm (and_more {b = b} {s = t} {x = x} m o) h = absurd (none_open (subst (λ (v : Bracket). move v [] ≡ Some (b ∷ t)) (name_no_bracket x.kind h) m))
+name_calm (and_more {b = b} {s = t} {x = x} m o) h = absurd (none_left (subst (λ (v : Bracket). move v [] ≡ Some (b ∷ t)) (name_no_bracket x.kind h) m))
 
 pub no_arrow_behind : {text : List ℕ} {f : Flags} {p : Parser} → At text f p → one_of_kinds binding_identifier_kinds p.token.kind ≡ true → ((y : Lexeme) → Lex text p.token.span.end y → y.kind ≡ Arrow → ⊥) → NoLine text f p.prev_token_end
 unfolding bracket move
@@ -298,7 +296,7 @@ no_arrow_behind {text} {f} {p} a k n = one_arrow (λ ls mid e l o q. go ls mid e
 
     go : (ls mid : Lexemes) (e : ℕ) → Lexes (Lex text) p.prev_token_end ls → One [] ls e mid → same_kind Arrow (here mid).kind ≡ true → ⊥
     go ls mid e l (the_last {x = x} m) q = n (here mid) (subst (λ (v : ℕ). Lex text v (here mid)) (sym (there x l.0).1) (here_at (Lex text) mid l.1)) (sym (kind_of_same Arrow (here mid).kind q))
-    go ls mid e l (and_more {b = b} {s = t} {x = x} m o) q = none_open (subst (λ (v : Bracket). move v [] ≡ Some (b ∷ t)) (there x l.0).0 m)
+    go ls mid e l (and_more {b = b} {s = t} {x = x} m o) q = none_left (subst (λ (v : Bracket). move v [] ≡ Some (b ∷ t)) (there x l.0).0 m)
 
 module _ {text : List ℕ} {f : Flags} {p : Parser} (a : At text f p) where
   name_only : {X : Test} → one_of_kinds binding_identifier_kinds p.token.kind ≡ true → Fails rule (Lex text) X end (symbol Params f) p.prev_token_end
@@ -345,25 +343,14 @@ module _ {text : List ℕ} {f : Flags} {p : Parser} (a : At text f p) where
 -- ---- what stands behind a name
 
 module _ {text : List ℕ} {f : Flags} {p : Parser} {t : Token} (a : At text f p) (h : Peeks p t) where
-  behind_it : Given division cut p.lexer.goal text p.token.span.end t [] h.next.faults
-  behind_it = subst (λ (v : List ℕ). Given division cut p.lexer.goal v p.token.span.end t [] h.next.faults) (a.at.reads ∙ a.text_is)
-      (subst (λ (v : ℕ). Given division cut p.lexer.goal p.lexer.text v t [] h.next.faults) a.at.last h.next.outcome)
-
-  pub given_behind : {A : Type 0} → ((d : Diagnostic) → t.kind ≡ Undetermined → GivesNone division p.lexer.goal text p.token.span.end t d → A) → (GivesLexeme division cut text p.token.span.end t → A) → A
-  given_behind {A} n g = go (same_kind Undetermined t.kind) refl behind_it
-    where
-      go : (r : Bool) → same_kind Undetermined t.kind ≡ r → elim r as (λ _. Type 0) [ true ↦ (d : Diagnostic) × (h.next.faults ≡ d ∷ []) × GivesNone division p.lexer.goal text p.token.span.end t d | false ↦ (h.next.faults ≡ []) × GivesLexeme division cut text p.token.span.end t ] → A
-      go true q x = n x.0 (sym (kind_of_same Undetermined t.kind q)) x.2
-      go false q x = g x.1
-
   -- an arrow is told where it stands
   pub arrow_peeked : (y : Lexeme) → Lex text p.token.span.end y → y.kind ≡ Arrow → t.kind ≡ Arrow
-  arrow_peeked y l k = given_behind
+  arrow_peeked y l k = given_behind a h
       (λ d u n. absurd (n.none y (record { lex = l.0; of_goal = plainly l.0 l.1 (ap (one_of_kinds other_goals) k) })))
       (λ x. x.tells.kind ∙ (ap (λ (z : Lexeme). z.kind) (cut_same x.lexeme (ap is_right_angle (ap (λ (z : Lexeme). z.kind) (sym (one_plain l (ap (one_of_kinds other_goals) k) x)) ∙ k))) ∙ (ap (λ (z : Lexeme). z.kind) (sym (one_plain l (ap (one_of_kinds other_goals) k) x)) ∙ k)))
 
   pub arrow_told : t.kind ≡ Arrow → (y : Lexeme) × Lex text p.token.span.end y × (y.kind ≡ Arrow)
-  arrow_told k = given_behind (λ d u n. let w : Arrow ≡ Undetermined = sym k ∙ u in absurd (cc)) (λ x. by x (is_right_angle x.lexeme.kind) refl)
+  arrow_told k = given_behind a h (λ d u n. let w : Arrow ≡ Undetermined = sym k ∙ u in absurd (cc)) (λ x. by x (is_right_angle x.lexeme.kind) refl)
     where
       by : (x : GivesLexeme division cut text p.token.span.end t) → (b : Bool) → is_right_angle x.lexeme.kind ≡ b → (y : Lexeme) × Lex text p.token.span.end y × (y.kind ≡ Arrow)
       by x true e = let w : RAngle ≡ Arrow = (let c : (cut x.lexeme).kind ≡ RAngle = rw (e, cut) refl in sym c ∙ (sym x.tells.kind ∙ k)) in absurd (cc)

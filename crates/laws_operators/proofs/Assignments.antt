@@ -1,5 +1,5 @@
 -- Answers of assignments (ECMA-262, 13.15).
-use Rattle.parse_targets.proofs.Refused.{no_target, short_follows}
+use Rattle.parse_targets.proofs.Refused.{no_target}
 use Rattle.std.proofs.Common.{ℕ, ◌≡◌, ◌⊎◌, inl, inr, List, [], ◌∷◌, length, Bool, true, false, not, ◌||◌, IsTrue, Option, Some, None, refl, sym, ap, subst, arith, ◌∙◌}
 use Rattle.std.specs.Prelude.{IsCharBoundary, is_some, if◌then◌else◌}
 use Rattle.std.proofs.lemmas.Bool.{false≢true, and_from}
@@ -40,7 +40,7 @@ use Rattle.laws_shared.specs.Moves.{Moved, MadeHere, Tightness, plain_label}
 use Rattle.parse_targets.specs.Taken.{no_target_at}
 use Rattle.laws_shared.specs.States.{At}
 use Rattle.parse_targets.specs.Targets.{target_of, TargetNode}
-use Rattle.parse_targets.proofs.Assigned.{an_assign, Assigns, assigns, assign_slots, assign_part, then_assign, not_target, assigned}
+use Rattle.parse_targets.proofs.Assigned.{an_assign, Assigns, assigns, assign_slots, assign_part, then_assign, not_target, assigned, assign_follows}
 use Rattle.laws_operators.proofs.Conditionals.{no_conditional}
 use Rattle.laws_shared.proofs.Signs.{other_kind}
 use Rattle.parse_targets.proofs.ArraysBeforeSigns.{is_cover, no_array, no_array_there, no_object_there, target_no_literal}
@@ -199,7 +199,7 @@ assign_marked {text} {f} {p} {q} a x c u b e start d k = subst (λ (v : List ℕ
     stood_sign = let m = subst (λ (v : Kind). one_of_kinds assign_operators v ≡ true) (sym stood.2) u in and_from _ _ m (ap not (read_listed assign_operators stood.0 stood.1 m refl))
 
     follows : (l : Label) (cs : Slots) (t : Tree) → target_of l cs ≡ Some t → IsTrue (seen (follow (at Short f) (edge_of l cs)) stood.0)
-    follows l cs t h = subst (λ (r : Row). IsTrue (seen (looser 4 f.in_ r) stood.0)) (sym (row_of_target l cs t h)) (covered an_assign (looser 4 f.in_ after_expression) (short_follows f.in_) stood.0.kind stood.0.newline stood.0.escaped stood_sign)
+    follows l cs t h = subst (λ (r : Row). IsTrue (seen (looser 4 f.in_ r) stood.0)) (sym (row_of_target l cs t h)) (covered an_assign (looser 4 f.in_ after_expression) (assign_follows f.in_) stood.0.kind stood.0.newline stood.0.escaped stood_sign)
 
     it : Mark (goal q) text (no_target_at start q.prev_token_end)
     it =

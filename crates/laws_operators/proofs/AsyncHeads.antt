@@ -17,12 +17,14 @@ use Rattle.js_grammar.specs.Parsing.{Fails, plain, full, always}
 use Rattle.js_grammar.specs.Productions.{Flags, Symbol, at, any_of, branches, Arrow', Assignment, Conditional, Params, Short, SimpleTarget, Target, ArrayTarget, ObjectTarget}
 use Rattle.js_grammar.specs.Productions.{sym as symbol}
 use Rattle.js_grammar.specs.Table.{rule, rule_of, args}
+use Rattle.js_grammar.specs.RightEdges.{of_operand}
 use Rattle.js_grammar.proofs.Behind.{lexed_behind}
 use Rattle.js_grammar.proofs.Calculus.{◌▹◌, ◌▹✗◌, here_at, left, right, fails_alt, fails_node, inside_full, weaken_fails_on}
 use Rattle.js_grammar.proofs.FollowLaws.{fails_by, row_claimed, same_read}
 use Rattle.js_grammar.proofs.Heads.{One, the_last, and_more, begins_head, of_operands, operand_taken}
 use Rattle.js_grammar.proofs.Looks.{apart, covers, covered, not_both}
-use Rattle.js_grammar.proofs.RightEdges.{first_row, of_operand}
+use Rattle.js_grammar.proofs.RightEdges.{first_row}
+use Rattle.js_grammar.proofs.Finding.{contrary}
 use Rattle.laws_shared.specs.js_tree.declared.id.NodeId.{NodeId}
 use Rattle.laws_shared.specs.js_tree.Holding.{Holds, Keeps}
 use Rattle.laws_shared.specs.js_tree.Nodes.{Node}
@@ -51,7 +53,6 @@ use Rattle.laws_shared.proofs.Verdicts.{grown_then}
 use Rattle.laws_patterns.proofs.laws_primary.Operands.{name_signless}
 use Rattle.parse_targets.proofs.ArraysBeforeSigns.{array_part, is_cover}
 use Rattle.parse_targets.proofs.Assigned.{arrow_passes, assign_part, assign_slots, no_branch, no_yield, only_arrow, to_choice}
-use Rattle.parse_targets.proofs.ArrayElements.{contrary}
 use Rattle.laws_operators.specs.Arrows.{AsyncHead, list_head, name_head, AsyncHeadBegins, AsyncPassed, AttemptsHead, BeforeArrow, led_head, told_led, BehindWord, FindsAnyHead, FindsAsyncHead, FindsHead, Head, HeadBehindAsync, read_clean, read_unclean, IsHeadBefore, IsHeadOf, NoAsyncHere, NoLed, NoLine, OnlyLed, PlainHead, a_head, told_head, SearchesHead, SearchesPlainHead, ToldHead, Unmoved, WentOn, lead_of, line_of}
 use Rattle.laws_operators.specs.declared.forms.ArrowHead.{ArrowHead}
 use Rattle.laws_operators.specs.HeadOperands.{NoTargetPart}

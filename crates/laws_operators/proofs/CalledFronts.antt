@@ -1,6 +1,6 @@
 -- An operand that begins with the name `async`, behind which a parenthesis or another name stands: it ends behind the word, or goes on with arguments; and behind those it ends, or goes on with something else than `=>` (CoverCallExpressionAndAsyncArrowHead, ECMA-262, 13.3).
 use Rattle.std.proofs.Common.{ℕ, ◌≡◌, ◌⊎◌, inl, inr, Bool, true, false, not, ◌&&◌, ◌||◌, IsTrue, refl, sym, ap, subst, ◌∙◌, rules}
-use Rattle.std.proofs.lemmas.Bool.{false≢true, and_parts, and_from, or_left, or_right, false_from_ne_true}
+use Rattle.std.proofs.lemmas.Bool.{false≢true, and_parts, and_from, or_left, or_right, false_from_ne_true, or_cases}
 use Rattle.js_base.specs.declared.kind.Kind.TheVariants.{Arrow, Async}
 use Rattle.js_base.specs.Kinds.{same_kind}
 use Rattle.js_grammar.specs.Trees.{Slots, end, tree, append}
@@ -10,13 +10,14 @@ use Rattle.js_grammar.specs.Insertion.{Row, after_expression, after_postfix, aft
 use Rattle.js_grammar.specs.Parsing.{full, always}
 use Rattle.js_grammar.specs.Productions.{G, Flags, Name, Symbol, Program, Short, Coalesce, Or, And, BitOr, BitXor, BitAnd, Equality, Relational, Shift, Additive, Multiply, Exponent, Unary, Update, LeftHandSide, New, Member, Call, Chain, Links, Argument, Primary, FuncExpr, IdentifierReference, SimpleTarget}
 use Rattle.js_grammar.specs.Table.{rule, rule_of, args}
+use Rattle.js_grammar.specs.RightEdges.{same_row}
 use Rattle.js_grammar.proofs.First.{starts, starting}
 use Rattle.js_grammar.proofs.FirstClaims.{firsts}
 use Rattle.js_grammar.proofs.Frame.{framed}
 use Rattle.js_grammar.proofs.Heads.{begins_head, of_operands}
 use Rattle.js_grammar.proofs.Looks.{apart, covered, not_both}
-use Rattle.js_grammar.proofs.RightEdges.{first_row, same_row}
-use Rattle.js_grammar.proofs.Finding.{either}
+use Rattle.js_grammar.proofs.RightEdges.{first_row}
+use Rattle.laws_operators.proofs.ParenthesizedFronts.{Same}
 
 abbrev the_word : Look
 the_word k w e = same_kind Async k
@@ -89,21 +90,16 @@ unfolding rule_of apart
 lines_call Program f = refl
 lines_call n f = refl
 
--- the parameters of the arguments, and of the operands, in a line under f
-abbrev Under : Bool → Flags → Flags → Type 0
-Under true f g = g ≡ f
-Under false f g = Unit {0}
-
-abbrev Same : Bool → Flags → G → Type 0
-Same true f b = b ≡ args f
-Same false f b = Unit {0}
+abbrev SameArguments : Bool → Flags → G → Type 0
+SameArguments true f b = b ≡ args f
+SameArguments false f b = Unit {0}
 
 abbrev Flagged : Flags → G → Type 0
-Flagged f (seq a b) = Flagged f a × Same (is_args b) f b
+Flagged f (seq a b) = Flagged f a × SameArguments (is_args b) f b
 Flagged f (alt a b) = Flagged f a × Flagged f b
 Flagged f (when c a) = Flagged f a
 Flagged f (node m a) = Flagged f a
-Flagged f (such n c) = Under (of_operands n.name) f n.flags
+Flagged f (such n c) = Same (of_operands n.name) f n.flags
 Flagged f _ = Unit {0}
 
 lines_flagged : (n : Name) (f : Flags) → of_operands n ≡ true → Flagged f (rule_of n f)
@@ -175,21 +171,21 @@ stayed (is_look q) h = (refl, refl)
 stayed _ h = absurd (false≢true h)
 
 -- behind the word
-behind_word : (f : Flags) (a : G) {b : G} {ts us vs : Slots} {j k : ℕ} {ls mid rest : Lexemes} (t : Bool) (x : Lexeme) → (t ≡ true → ⊥) → takes_one a ≡ true → ls ≡ next x mid → j ≡ x.to → Takes rule b end us j mid vs k rest → goes_behind b ≡ true → Same (is_args b) f b → Second ls → Called f (takes_one (seq a b)) t ts ls k rest
-behind_word f a {b} {ts} {us} {vs} {j} {k} {ls} {mid} {rest} t x n o q e d h u s = by (either (stays b) _ h)
+behind_word : (f : Flags) (a : G) {b : G} {ts us vs : Slots} {j k : ℕ} {ls mid rest : Lexemes} (t : Bool) (x : Lexeme) → (t ≡ true → ⊥) → takes_one a ≡ true → ls ≡ next x mid → j ≡ x.to → Takes rule b end us j mid vs k rest → goes_behind b ≡ true → SameArguments (is_args b) f b → Second ls → Called f (takes_one (seq a b)) t ts ls k rest
+behind_word f a {b} {ts} {us} {vs} {j} {k} {ls} {mid} {rest} t x n o q e d h u s = by (or_cases (stays b) _ h)
   where
     named : IsTrue (seen begins_head (here mid))
     named = subst Second q s
 
     here_args : (is_args b ≡ true) → Called f (takes_one (seq a b)) t ts ls k rest
     here_args i =
-        let c : b ≡ args f = subst (λ (v : Bool). Same v f b) i u in
+        let c : b ≡ args f = subst (λ (v : Bool). SameArguments v f b) i u in
         let z = framed (subst (λ (v : ℕ). Takes rule b end us v mid vs k rest) e d) in
         more x mid q (append z.0 end) k rest (subst (λ (g : G). Takes rule g end (append z.0 end) x.to mid end k rest) c (z.2 end)) (inl refl)
 
     by : (stays b ≡ true) ⊎ ((begins_otherwise an_arrow b && (is_args b || begins_otherwise begins_head b)) ≡ true) → Called f (takes_one (seq a b)) t ts ls k rest
     by (inl i) = let z = stayed d i in alone (and_from (takes_one a) (stays b) o i) x (q ∙ ap (next x) (sym z.0)) (z.1 ∙ e) (λ m. absurd (n m))
-    by (inr i) = elim (either (is_args b) _ (and_parts (begins_otherwise an_arrow b) _ i).1) [
+    by (inr i) = elim (or_cases (is_args b) _ (and_parts (begins_otherwise an_arrow b) _ i).1) [
       | inl c ↦ here_args c
       | inr c ↦ absurd (begun begins_head d c named)
     ]
@@ -197,14 +193,14 @@ behind_word f a {b} {ts} {us} {vs} {j} {k} {ls} {mid} {rest} t x n o q e d h u s
 -- behind arguments
 behind_arguments : {b : G} {us vs : Slots} {j k : ℕ} {mid r rest : Lexemes} → Takes rule b end us j mid vs k rest → goes_behind b ≡ true → (mid ≡ r) ⊎ NoArrow r → (rest ≡ r) ⊎ NoArrow r
 behind_arguments d h (inr n) = inr n
-behind_arguments {b} {mid = mid} {r = r} {rest = rest} d h (inl q) = by (either (stays b) _ h)
+behind_arguments {b} {mid = mid} {r = r} {rest = rest} d h (inl q) = by (or_cases (stays b) _ h)
   where
     by : (stays b ≡ true) ⊎ ((begins_otherwise an_arrow b && (is_args b || begins_otherwise begins_head b)) ≡ true) → (rest ≡ r) ⊎ NoArrow r
     by (inl i) = inl ((stayed d i).0 ∙ q)
     by (inr i) = inr (false_from_ne_true _ (λ k. begun an_arrow d (and_parts (begins_otherwise an_arrow b) _ i).0 (subst (λ (v : Lexemes). same_kind Arrow (here v).kind ≡ true) (sym q) k)))
 
 then_called : (f : Flags) {a b : G} {ts us vs : Slots} {i j k : ℕ} {ls mid rest : Lexemes} → Takes rule a end ts i ls us j mid → Takes rule b end us j mid vs k rest → calls (seq a b) ≡ true → Flagged f (seq a b) → IsTrue (seen the_word (here ls)) → Second ls → (calls a ≡ true → Called f (takes_one a) (is_tree a) ts ls j mid) → Called f (takes_one (seq a b)) (is_tree (seq a b)) ts ls k rest
-then_called f {a} {b} {ts} {us} {vs} {i} {j} {k} {ls} {mid} {rest} d e h u q s go = by (either (begins_otherwise the_word (seq a b)) _ h)
+then_called f {a} {b} {ts} {us} {vs} {i} {j} {k} {ls} {mid} {rest} d e h u q s go = by (or_cases (begins_otherwise the_word (seq a b)) _ h)
   where
     on : goes_behind b ≡ true → Called f (takes_one a) (is_tree a) ts ls j mid → Called f (takes_one (seq a b)) (is_tree (seq a b)) ts ls k rest
     on g (alone o x l m r) = behind_word f a (is_tree (seq a b)) x (λ n. begun the_word (is_seq d e) n q) o l m e g u.1 s
@@ -216,7 +212,7 @@ then_called f {a} {b} {ts} {us} {vs} {i} {j} {k} {ls} {mid} {rest} d e h u q s g
 
 -- a node of it
 noded_call : (f : Flags) (m : Make) (a : G) {cs us : Slots} {ls rest : Lexemes} {j : ℕ} → (named_edge m || not (takes_one a)) ≡ true → Called f (takes_one a) (is_tree a) cs ls j rest → Called f (takes_one a) true (tree (label_of m ls j rest) cs us) ls j rest
-noded_call f m a {cs} {us} {ls} {rest} {j} h (alone o x q e r) = alone o x q e (λ k. by (either (named_edge m) _ h))
+noded_call f m a {cs} {us} {ls} {rest} {j} h (alone o x q e r) = alone o x q e (λ k. by (or_cases (named_edge m) _ h))
   where
     row : (w : Row) → same_row after_expression w ≡ true → w ≡ after_expression
     row after_expression i = refl
@@ -236,15 +232,15 @@ noded_call f m a {cs} {us} {ls} {rest} {j} h (alone o x q e r) = alone o x q e (
 noded_call f m a h (more x mid q vs e r k o) = more x mid q vs e r k o
 
 -- a symbol of operands
-by_symbol : (f : Flags) (n : Symbol) {ts us : Slots} {ls rest : Lexemes} {j : ℕ} → first_row us ≡ first_row ts → (of_operands n.name || apart (first n) the_word) ≡ true → Under (of_operands n.name) f n.flags → IsTrue (seen (starts first (rule n) full) (here ls)) → IsTrue (seen the_word (here ls)) → (calls (rule n) ≡ true → Flagged n.flags (rule n) → Called n.flags (takes_one (rule n)) (is_tree (rule n)) ts ls j rest) → Called f true true us ls j rest
-by_symbol f n {ts} {us} {ls} {rest} {j} w h u s q go = by (either (of_operands n.name) _ h)
+by_symbol : (f : Flags) (n : Symbol) {ts us : Slots} {ls rest : Lexemes} {j : ℕ} → first_row us ≡ first_row ts → (of_operands n.name || apart (first n) the_word) ≡ true → Same (of_operands n.name) f n.flags → IsTrue (seen (starts first (rule n) full) (here ls)) → IsTrue (seen the_word (here ls)) → (calls (rule n) ≡ true → Flagged n.flags (rule n) → Called n.flags (takes_one (rule n)) (is_tree (rule n)) ts ls j rest) → Called f true true us ls j rest
+by_symbol f n {ts} {us} {ls} {rest} {j} w h u s q go = by (or_cases (of_operands n.name) _ h)
   where
     of_rule : (f : Flags) → is_tree (rule n) ≡ true → Called f (takes_one (rule n)) (is_tree (rule n)) ts ls j rest → Called f true true us ls j rest
     of_rule f t (alone o x l e r) = alone refl x l e (λ k. w ∙ r t)
     of_rule f t (more x mid l vs e r k o) = more x mid l vs e r k o
 
     by : (of_operands n.name ≡ true) ⊎ (apart (first n) the_word ≡ true) → Called f true true us ls j rest
-    by (inl e) = let z = line_calls n e in subst (λ (v : Flags). Called v true true us ls j rest) (subst (λ (b : Bool). Under b f n.flags) e u) (of_rule n.flags z.1 (go z.0 (line_flagged n e)))
+    by (inl e) = let z = line_calls n e in subst (λ (v : Flags). Called v true true us ls j rest) (subst (λ (b : Bool). Same b f n.flags) e u) (of_rule n.flags z.1 (go z.0 (line_flagged n e)))
     by (inr e) = absurd (not_both (first n) the_word e (here ls).kind (here ls).newline (here ls).escaped (covered (starts firsts.first (rule n) full) (first n) (firsts.claims n) _ _ _ s) q)
 
 called : (f : Flags) {g : G} {ts us : Slots} {i j : ℕ} {ls rest : Lexemes} → Takes rule g end ts i ls us j rest → calls g ≡ true → Flagged f g → IsTrue (seen the_word (here ls)) → Second ls → Called f (takes_one g) (is_tree g) ts ls j rest
@@ -275,7 +271,7 @@ pub data Front (f : Flags) (ts : Slots) (x : Lexeme) (mid rest : Lexemes) : Type
 pub word_front : (n : Symbol) → of_operands n.name ≡ true → {ts us : Slots} {i j : ℕ} {x : Lexeme} {mid rest : Lexemes} → Takes rule (such n always) end ts i (next x mid) us j rest → IsTrue (seen the_word x) → IsTrue (seen begins_head (here mid)) → Front n.flags ts x mid rest
 word_front n o {ts} {us} {i} {j} {x} {mid} {rest} d q s = go (called n.flags d (rw o refl) (itself (of_operands n.name)) q s)
   where
-    itself : (b : Bool) → Under b n.flags n.flags
+    itself : (b : Bool) → Same b n.flags n.flags
     itself true = refl
     itself false = tt
 

@@ -210,7 +210,7 @@ module _ {text : List ℕ} {start place : ℕ} {old : List OpenBracket} (new : L
 one_is : {text : List ℕ} {s : ℕ} {x y : Lexeme} (st : List ℕ) {u v : List ℕ} → Lex text s x → Settled text s y → move (bracket x.kind) st ≡ Some u → move (bracket y.kind) st ≡ Some v → x ≡ y
 one_is st l h p q = one_plain_move st l h.0 h.1 p q
 
-none_left : {b : ℕ} {s : List ℕ} → Some [] ≡ Some (b ∷ s) → ⊥
+pub none_left : {b : ℕ} {s : List ℕ} → Some [] ≡ Some (b ∷ s) → ⊥
 none_left e = cc
 
 pub closes_alike : (text : List ℕ) (s : ℕ) {st : List ℕ} {ls r : Lexemes} {e e' : ℕ} → Lexes (Lex text) s ls → One st ls e r → Closing text st s e' → (e ≡ e') × Lexes (Lex text) e r

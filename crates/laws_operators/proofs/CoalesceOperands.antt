@@ -19,12 +19,12 @@ use Rattle.js_grammar.specs.Productions.{Flags, at, Short, Or, BitOr}
 use Rattle.js_grammar.specs.Productions.{sym as symbol}
 use Rattle.js_grammar.specs.Table.{rule, rule_of}
 use Rattle.js_grammar.specs.Follow.{row_of, looser, after}
+use Rattle.js_grammar.specs.RightEdges.{of_operand}
+use Rattle.js_grammar.specs.Towers.{linked_label, tail_none}
 use Rattle.js_grammar.proofs.Calculus.{here_at, reaches_less, ◌▹◌, ◌▹✗◌}
 use Rattle.js_grammar.proofs.BuiltLines.{in_whole}
 use Rattle.js_grammar.proofs.Loose.{strict_is_loose}
 use Rattle.js_grammar.proofs.Looks.{covers, apart}
-use Rattle.js_grammar.proofs.RightEdges.{of_operand}
-use Rattle.js_grammar.proofs.Towers.{linked_label, tail_none}
 use Rattle.laws_shared.specs.js_tree.declared.id.NodeId.{NodeId}
 use Rattle.laws_shared.specs.js_tree.Nodes.{Node}
 use Rattle.laws_shared.specs.js_tree.Holding.{Holds, Keeps}

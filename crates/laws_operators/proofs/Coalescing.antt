@@ -11,16 +11,18 @@ use Rattle.js_grammar.specs.Table.{rule, rule_of}
 use Rattle.js_grammar.specs.FirstSets.{first}
 use Rattle.js_grammar.specs.Insertion.{Row, after_expression, after_postfix, after_body, after_yield, after_declarator, after_word}
 use Rattle.js_grammar.specs.Follow.{edge_of, row_of, first_edge, follow, after, widest, surest, looser}
+use Rattle.js_grammar.specs.RightEdges.{of_operand}
+use Rattle.js_grammar.specs.Towers.{Link, link, make_of, linked_label, Among, this, of_left, of_right}
+use Rattle.js_grammar.specs.Chains.{is_coalesce, base_of, links_of, coalesces}
 use Rattle.js_grammar.proofs.Looks.{covers, covered, apart, not_both}
 use Rattle.js_grammar.proofs.Calculus.{On, Inside, Within, here_at, ◌▹◌, ◌▹✗◌, stay, left, right, by_rule, fails_alt, fails_never, fails_node, part_fails, then_by, makes_by, weaken_on, weaken_fails_on}
-use Rattle.js_grammar.proofs.Chains.{is_coalesce, base_of, links_of, coalesces}
+use Rattle.js_grammar.proofs.Chains.{coalesces_lawful}
 use Rattle.js_grammar.proofs.First.{starts}
 use Rattle.js_grammar.proofs.FirstClaims.{firsts}
 use Rattle.js_grammar.proofs.FirstRules.{by_first, fails_here}
 use Rattle.js_grammar.proofs.FollowLaws.{admits, surely, looser_than, passes_on, same_read, fails_by}
 use Rattle.js_grammar.proofs.Loops.{Follows, Edges, Alone, start, start_fails, step, step_fails, finish, recap, rekept, unfollowed}
-use Rattle.js_grammar.proofs.RightEdges.{of_operand}
-use Rattle.js_grammar.proofs.Towers.{Among, Link, link, linked_label, make_of, this, of_left, of_right, an_link}
+use Rattle.js_grammar.proofs.Towers.{an_link}
 use Rattle.js_base.specs.declared.operator.AssignmentOperator.{AssignmentOperator}
 use Rattle.js_base.specs.declared.operator.AssignmentOperator.TheVariants as assignment
 use Rattle.js_base.specs.declared.operator.BinaryOperator.{BinaryOperator}
@@ -342,13 +344,13 @@ module _ {text : List ℕ} (f : Flags) where
   foot_there {X} {s} = subst (λ (g : G). Goes rule (Lex text) X end (base_of is_coalesce Coalesce f) s g s (λ us. us) (still 0)) (foot_is f) stay
 
   loop_fails : {s : ℕ} → Fails rule (Lex text) (after (at Or f)) end (foot f) s → NoCoalesce text f s
-  loop_fails n = start_fails firsts {w = coalesces f} {m = 0} {X = after (at Short f)} {X' = after (at Or f)} (λ q h. refl) refl (omega arith) (foot_there ▹✗ n) (λ l cs vs y e. e) (within_operand f) (sign_goes_on f 1)
+  loop_fails n = start_fails firsts {w = coalesces f} {m = 0} {X = after (at Short f)} {X' = after (at Or f)} (coalesces_lawful f) (λ q h. refl) refl (omega arith) (foot_there ▹✗ n) (λ l cs vs y e. e) (within_operand f) (sign_goes_on f 1)
 
   loop_start : {s s' s'' from : ℕ} {l r : Label} {cs ds : Slots} {pass more : Lexemes → Lexemes} → s' ≤ s'' → FirstReads text f s s' l cs pass → PartReads text f s' s'' r ds more → ((y : Lexeme) → Lex text s y → y.from ≡ from) → So text f s from (linked_label (coalesced f) from s'') (tree l cs (tree r ds end)) (λ ls. pass (more ls)) s''
   loop_start h x y b = record {
     reach = max 0 (max (max 0 x.reach) y.reach);
     near = let i = x.near in let j = y.near in omega arith;
-    around = start firsts {w = coalesces f} {m = 0} {X = after (at Short f)} {X' = after (at Or f)} (λ q h. refl) (omega arith) (foot_there ▹ foot_goes x y b) (within_operand f) (sign_goes_on f 1) b;
+    around = start firsts {w = coalesces f} {m = 0} {X = after (at Short f)} {X' = after (at Or f)} (coalesces_lawful f) (λ q h. refl) (omega arith) (foot_there ▹ foot_goes x y b) (within_operand f) (sign_goes_on f 1) b;
   }
 
   not_before_sign : {s' : ℕ} (l : Label) (cs : Slots) → of_operand (row_of l cs) ≡ true → AllSigns text f s' → (y : Lexeme) → Lex text s' y → Admits (after (at Short f)) (tree l cs end) y → ⊥

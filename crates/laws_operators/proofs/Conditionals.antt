@@ -21,7 +21,7 @@ use Rattle.js_grammar.proofs.Calculus.{On, Inside, inside_full, ◌▹✗◌, le
 use Rattle.js_grammar.proofs.FirstClaims.{firsts}
 use Rattle.js_grammar.proofs.FirstRules.{by_first}
 use Rattle.js_grammar.proofs.FollowLaws.{passes_on, surely, same_read, fails_by}
-use Rattle.js_grammar.proofs.RightEdges.{of_operand}
+use Rattle.js_grammar.proofs.Finding.{contrary}
 use Rattle.laws_shared.specs.js_tree.declared.id.NodeId.{NodeId}
 use Rattle.laws_shared.specs.js_tree.declared.kind.NodeKind.TheVariants as node
 use Rattle.laws_shared.specs.js_tree.declared.op.Op.TheVariants as op
@@ -37,6 +37,7 @@ use Rattle.js_base.specs.declared.source_type.SourceType.{SourceType}
 use Rattle.js_grammar.specs.LexicalFaults.{Reached}
 use Rattle.js_grammar.specs.Lexed.{Lex as StandsBehind, all_faults}
 use Rattle.js_grammar.specs.Marks.{Mark, LexemeAt, a_lexeme, of_kinds}
+use Rattle.js_grammar.specs.RightEdges.{of_operand}
 use Rattle.laws_shared.specs.js_lex.States.{goal_of}
 use Rattle.laws_shared.specs.js_cursor.Places.{IsAt, goal}
 use Rattle.laws_shared.proofs.js_cursor.Standing.{mark_here}
@@ -49,7 +50,6 @@ use Rattle.laws_shared.specs.States.{At, Same}
 use Rattle.laws_shared.specs.Moves.{Moved, MadeHere, plain_label}
 use Rattle.laws_shared.specs.Answers.{Underived, Answer, Numbered, Stops, beside}
 use Rattle.parse_targets.proofs.Assigned.{an_assign, unassigned, nothing_assigned, assign_plain}
-use Rattle.parse_targets.proofs.ArrayElements.{contrary}
 use Rattle.laws_shared.proofs.Here.{kind_here, told_plain}
 use Rattle.laws_shared.proofs.MadeNodes.{node_held, one_lies}
 use Rattle.laws_shared.proofs.Moving.{same_both}

@@ -12,6 +12,7 @@ use Rattle.js_grammar.specs.Productions.{G, Flags, Name, Symbol, at, Program, Pa
 use Rattle.js_grammar.specs.Table.{rule, rule_of}
 use Rattle.js_grammar.proofs.Related.{Like, like_itself}
 use Rattle.js_grammar.proofs.Renamed.{renamed, paired, alike}
+use Rattle.js_grammar.proofs.CoreParameters.{is_identifier}
 use Rattle.laws_shared.specs.Contexts.{arrow_head}
 
 -- the same value, or off in place of on
@@ -29,13 +30,6 @@ off_itself false = tt
 
 freer_itself : (s : Symbol) → Freer s s
 freer_itself s = (refl, refl, off_itself s.flags.await_)
-
--- the names: their tests of a lexeme alone are others
-abbrev is_identifier : Name → Bool
-is_identifier IdentifierReference = true
-is_identifier BindingIdentifier = true
-is_identifier LabelIdentifier = true
-is_identifier _ = false
 
 abbrev with_await : Bool → Flags → Flags
 with_await b f = record f { await_ = b }

@@ -16,6 +16,7 @@ use Rattle.js_grammar.specs.Productions.{Assignment, Flags, at, any_of, Short}
 use Rattle.js_grammar.specs.Table.{rule}
 use Rattle.js_grammar.proofs.Calculus.{ends, here_at, part_fails}
 use Rattle.js_grammar.proofs.Looks.{apart, covered, covers, not_both}
+use Rattle.js_grammar.proofs.Finding.{contrary}
 use Rattle.laws_shared.specs.js_tree.declared.id.NodeId.{NodeId}
 use Rattle.laws_shared.specs.js_tree.Holding.{Made, stands}
 use Rattle.laws_shared.specs.js_tree.declared.kind.NodeKind.TheVariants.{ParenthesizedExpression}
@@ -37,7 +38,6 @@ use Rattle.parse_targets.specs.Targets.{is_literal, target_of}
 use Rattle.parse_targets.proofs.ArraysBeforeSigns.{is_cover}
 use Rattle.parse_targets.proofs.HeadTargets.{before_these, none_before, none_unread}
 use Rattle.parse_targets.proofs.CoveredNodes.{label_at}
-use Rattle.parse_targets.proofs.ArrayElements.{contrary}
 use Rattle.laws_operators.specs.Arrows.{BeforeArrow, told_led, IsRefusedHead, NoOperandHere, Unmoved}
 use Rattle.laws_operators.specs.HeadOperands.{HeadOperand, IsNoTarget, NoTargetPart, NoTargetSeen, OperandOutcome, StaysOperand, no_target, operand}
 use Rattle.laws_operators.proofs.Arrows.{from_unmoved}

@@ -9,20 +9,21 @@ use Rattle.js_grammar.proofs.FirstClaims.{firsts}
 use Rattle.js_grammar.proofs.First.{starts}
 use Rattle.js_grammar.specs.Trees.{Label, Slots, end, tree}
 use Rattle.js_grammar.specs.Grammar.{Lexeme, Lexemes, next, seen, seq, such, nothing}
-use Rattle.js_grammar.specs.Insertion.{Row, edge_is_last}
+use Rattle.js_grammar.specs.Insertion.{Row}
 use Rattle.js_grammar.specs.Parsing.{Test, Goes, always, passing, full, Reads, Way}
 use Rattle.js_grammar.specs.Productions.{G, Flags, at, tok, Exponent, Symbol}
 use Rattle.js_grammar.specs.Table.{rule}
-use Rattle.js_grammar.specs.Levels.{level_at, node_at, operators_at, operators_of, top_level, feet_at}
+use Rattle.js_grammar.specs.Levels.{level_at, node_at, operators_at, top_level, feet_at}
 use Rattle.js_grammar.specs.Follow.{row_of, tight, looser, after}
+use Rattle.js_grammar.specs.RightEdges.{of_operand, may_end}
+use Rattle.js_grammar.specs.Towers.{Link, linked_label, Around}
 use Rattle.js_grammar.proofs.Calculus.{◌▹◌, ◌▹✗◌}
-use Rattle.js_grammar.proofs.Towers.{OneOf, head, later, linked_label, Link, of_operations}
-use Rattle.js_grammar.proofs.Loops.{Around, Step, finish, part_at}
-use Rattle.js_grammar.proofs.Operators.{levels, operates, climbs}
-use Rattle.js_grammar.proofs.OperatorEdges.{level_looser, operator_exactly, operator_level}
+use Rattle.js_grammar.proofs.Towers.{OneOf, head, later, of_operations}
+use Rattle.js_grammar.proofs.Loops.{Step, finish, part_at}
+use Rattle.js_grammar.proofs.Operators.{levels, operates}
+use Rattle.js_grammar.proofs.OperatorEdges.{level_looser, operator_exactly, operator_level, last_at, some_level}
 use Rattle.js_grammar.proofs.OperatorLoops.{loop_start, loop_start_fails}
 use Rattle.laws_operators.proofs.SlashOperators.{division_sign, operator_plain, slash_step, slash_step_fails}
-use Rattle.js_grammar.proofs.RightEdges.{of_operand, may_end}
 use Rattle.laws_shared.specs.js_tree.declared.id.NodeId.{NodeId}
 use Rattle.laws_shared.specs.js_tree.Nodes.{Node}
 use Rattle.laws_shared.specs.js_tree.Holding.{Holds, Keeps}
@@ -88,25 +89,6 @@ level_rows f (suc (suc (suc (suc (suc (suc (suc (suc (suc (suc n)))))))))) r = r
 none_listed : {k : Kind} {ks : List Kind} → OneOf k ks → ks ≡ [] → ⊥
 none_listed head e = cc
 none_listed (later i) e = cc
-
-listed_low : (b : Bool) (q : ℕ) {k : Kind} → OneOf k (operators_of b q) → q ≤ 9
-listed_low b zero i = omega arith
-listed_low b (suc zero) i = omega arith
-listed_low b (suc (suc zero)) i = omega arith
-listed_low b (suc (suc (suc zero))) i = omega arith
-listed_low b (suc (suc (suc (suc zero)))) i = omega arith
-listed_low b (suc (suc (suc (suc (suc zero))))) i = omega arith
-listed_low b (suc (suc (suc (suc (suc (suc zero)))))) i = omega arith
-listed_low b (suc (suc (suc (suc (suc (suc (suc zero))))))) i = omega arith
-listed_low b (suc (suc (suc (suc (suc (suc (suc (suc zero)))))))) i = omega arith
-listed_low b (suc (suc (suc (suc (suc (suc (suc (suc (suc zero))))))))) i = omega arith
-listed_low b (suc (suc (suc (suc (suc (suc (suc (suc (suc (suc n)))))))))) i = absurd (none_listed i refl)
-
--- the right edge of an operation is its right operand's
-edge_last : (q : ℕ) → edge_is_last (node_at q) ≡ true
-edge_last zero = refl
-edge_last (suc zero) = refl
-edge_last (suc (suc n)) = refl
 
 looser_or : (n m t : ℕ) (b : Bool) → n ≤ m → (nat_lt t n || b) ≡ true → (nat_lt t m || b) ≡ true
 looser_or n m t true h e = or_right (nat_lt t m) true refl
@@ -278,7 +260,7 @@ module _ {text : List ℕ} {f : Flags} where
         made_link {w} {made} e g n = subst (λ (l : Label). MadeHere l (Some id ∷ Some right ∷ []) v w made) (rw (e, g) link_is) n
 
         step_row : of_operand (row_of (link_label v.prev_token_end) (tree s.label s.slots (tree x.answer.label x.answer.slots end))) ≡ true
-        step_row = rw (edge_last it.level) (sym (level_rows f (it.level + 1) _) ∙ x.answer.row)
+        step_row = rw (last_at it.level) (sym (level_rows f (it.level + 1) _) ∙ x.answer.row)
 
         ring_step : (y : Stretch text (after (level_at f (it.level + 1))) (such (level_at f (it.level + 1)) always) r.prev_token_end nothing v.prev_token_end (tree x.answer.label x.answer.slots) x.answer.pass) → Ring text f m p.prev_token_end p.token.span.start s.cap s.label s.slots q.prev_token_end s.pass
             → Ring text f m p.prev_token_end p.token.span.start it.level (link_label v.prev_token_end) (tree s.label s.slots (tree x.answer.label x.answer.slots end)) v.prev_token_end (λ ls. s.pass (next d.lexeme (x.answer.pass ls)))
@@ -289,7 +271,7 @@ module _ {text : List ℕ} {f : Flags} where
         }
 
         step_stops : (y : Lexeme) → Plain text v.prev_token_end y → IsTrue (seen (looser (it.level + 6) f.in_ (row_of (link_label v.prev_token_end) (tree s.label s.slots (tree x.answer.label x.answer.slots end)))) y || seen beside y)
-        step_stops y l = rw (edge_last it.level) (subst (λ (n : ℕ). (seen (looser n f.in_ (row_of x.answer.label x.answer.slots)) y || seen beside y) ≡ true) (let z : it.level + 1 + 5 ≡ it.level + 6 = omega arith in z) (subst (λ b. (b || seen beside y) ≡ true) (level_looser f (it.level + 1) (tree x.answer.label x.answer.slots end) y (let h = it.top in omega arith)) (x.answer.stops y l)))
+        step_stops y l = rw (last_at it.level) (subst (λ (n : ℕ). (seen (looser n f.in_ (row_of x.answer.label x.answer.slots)) y || seen beside y) ≡ true) (let z : it.level + 1 + 5 ≡ it.level + 6 = omega arith in z) (subst (λ b. (b || seen beside y) ≡ true) (level_looser f (it.level + 1) (tree x.answer.label x.answer.slots end) y (let h = it.top in omega arith)) (x.answer.stops y l)))
 
         pub operand_step : {w : Parser} {made : NodeId} → MadeHere (link_label v.prev_token_end) (Some id ∷ Some right ∷ []) v w made → Operand text f m p w made
         operand_step {w} {made} n = subst (λ (z : Parser). Operand text f m p z made) (sym n.stays) (record {
@@ -320,7 +302,7 @@ module _ {text : List ℕ} {f : Flags} where
     no_operator : (q' : ℕ) → m ≤ q' → q' ≤ s.cap → (y : Lexeme) → Lex text q.prev_token_end y → y.escaped ≡ false → OneOf y.kind (operators_at f q') → ⊥
     no_operator q' a b y l e i =
         let h = operator_level f q' i in
-        let o = listed_low f.in_ q' i in
+        let o = some_level f.in_ q' i in
         let p : Plain text q.prev_token_end y = (l.0, plain_so y l.1 (operator_plain f q' i)) in
         let k = power_listed f.in_ y p.1 (omega arith) (omega arith) in
         let w : power_of f.in_ y.kind < m + 5 = subst (λ (b : Bool). cond b 0 (power_of f.in_ y.kind) < m + 5) e (weak y p) in absurd (omega arith)
@@ -336,7 +318,7 @@ module _ {text : List ℕ} {f : Flags} where
         not_true false i = refl
 
     operators_over : {ks : Slots} {l : Label} {cs : Slots} {from : ℕ} {way : Way} → Around (Lex text) (after (level_at f m)) (levels f) m p.prev_token_end from s.cap l cs q.prev_token_end way → Reads rule (Lex text) (after (level_at f m)) ks (such (level_at f m) always) p.prev_token_end q.prev_token_end (tree l cs) way
-    operators_over a = finish firsts refl (λ l cs vs y e. e) a (λ q' x st y l t. no_operator q' st.0 st.1 y l (part_plain q' x st y.kind y.newline y.escaped t) (part_at firsts (level_at f) top_level node_at (feet_at f) (operators_at f) (climbs f) m s.cap q' x st y.kind y.newline y.escaped t).0)
+    operators_over a = finish firsts refl (λ l cs vs y e. e) a (λ q' x st y l t. no_operator q' st.0 st.1 y l (part_plain q' x st y.kind y.newline y.escaped t) (part_at firsts (level_at f) top_level node_at (feet_at f) (operators_at f) m s.cap q' x st y.kind y.newline y.escaped t).0)
 
     pub operands_answer : m ≤ 10 → Numbered text f (level_at f m) p t id
     operands_answer h = record {

@@ -1,6 +1,6 @@
 -- An operand that begins with a parenthesis has parentheses in front that are derived as arguments (CoverParenthesizedExpressionAndArrowParameterList, ECMA-262, 13.2); behind these it ends, or goes on with something else than `=>`.
 use Rattle.std.proofs.Common.{ℕ, ◌≡◌, ◌⊎◌, inl, inr, Bool, true, false, not, ◌&&◌, ◌||◌, List, [], ◌∷◌, IsTrue, Some, refl, sym, ap, subst, ◌∙◌, rules}
-use Rattle.std.proofs.lemmas.Bool.{false≢true, and_parts, and_from, or_right}
+use Rattle.std.proofs.lemmas.Bool.{false≢true, and_parts, and_from, or_right, or_cases}
 use Rattle.js_base.specs.declared.kind.Kind.TheVariants.{LParen, RParen, Arrow}
 use Rattle.js_base.specs.Kinds.{same_kind}
 use Rattle.js_base.proofs.KindLemmas.{kind_of_same}
@@ -14,6 +14,7 @@ use Rattle.js_grammar.specs.Parsing.{Admits, full, always}
 use Rattle.js_grammar.specs.Productions.{G, Flags, Name, Symbol, at, plus_in, Program, Expression, Assignment, Short, Coalesce, Or, And, BitOr, BitXor, BitAnd, Equality, Relational, Shift, Additive, Multiply, Exponent, Unary, Update, LeftHandSide, New, Member, Call, Chain, Links, Argument, Primary, FuncExpr, IdentifierReference, SimpleTarget}
 use Rattle.js_grammar.specs.Productions.{sym as symbol}
 use Rattle.js_grammar.specs.Table.{rule, rule_of, args}
+use Rattle.js_grammar.specs.RightEdges.{of_operand}
 use Rattle.js_grammar.proofs.Behind.{lexed_behind}
 use Rattle.js_grammar.proofs.Calculus.{here_at}
 use Rattle.js_grammar.proofs.First.{starts, starting}
@@ -21,7 +22,8 @@ use Rattle.js_grammar.proofs.FirstClaims.{firsts}
 use Rattle.js_grammar.proofs.FollowLaws.{row_claimed}
 use Rattle.js_grammar.proofs.Heads.{One, the_last, and_more, in_one, of_operands, operand_taken}
 use Rattle.js_grammar.proofs.Looks.{apart, covers, covered, not_both}
-use Rattle.js_grammar.proofs.RightEdges.{of_operand, first_row}
+use Rattle.js_grammar.proofs.RightEdges.{first_row}
+use Rattle.js_grammar.proofs.Finding.{contrary}
 use Rattle.laws_shared.proofs.FreeOfIn.{any_in}
 use Rattle.laws_shared.proofs.Escapes.{read_plain}
 use Rattle.laws_shared.specs.Answers.{Underived}
@@ -54,7 +56,7 @@ of_target f {l} {cs} d = let x = target_left_hand_side (record { label = l; slot
 -- ---- where the parentheses stand
 
 -- the parameters of a nonterminal in a line under f
-abbrev Same : Bool → Flags → Flags → Type 0
+abbrev pub Same : Bool → Flags → Flags → Type 0
 Same true f g = g ≡ f
 Same false f g = Unit {0}
 
@@ -155,10 +157,6 @@ lines_flagged IdentifierReference f h = search rules
 lines_flagged SimpleTarget f h = search rules
 lines_flagged _ f h = absurd (false≢true h)
 
-either : (a b : Bool) → (a || b) ≡ true → (a ≡ true) ⊎ (b ≡ true)
-either true b h = inl refl
-either false b h = inr h
-
 line_fronted : (n : Symbol) → of_operands n.name ≡ true → has_front (rule n) ≡ true
 unfolding rule
 line_fronted n h = go (of_operands n.name) (has_front (rule_of n.name n.flags)) h (lines_fronted n.name n.flags)
@@ -223,7 +221,7 @@ seq_front f {a} {b} {i = i} {ls = ls} d h u q go = by (begins_otherwise (seq a b
     by false false m o h = go h
 
 by_symbol : (f : Flags) (n : Symbol) (i : ℕ) (ls : Lexemes) → (of_operands n.name || apart (first n) a_paren) ≡ true → Under f n.name n.flags → IsTrue (seen (starts first (rule n) full) (here ls)) → same_kind LParen (here ls).kind ≡ true → (has_front (rule n) ≡ true → Flagged n.flags (rule n) → Front n.flags i ls) → Front f i ls
-by_symbol f n i ls h u s q go = by (either (of_operands n.name) _ h)
+by_symbol f n i ls h u s q go = by (or_cases (of_operands n.name) _ h)
   where
     by : (of_operands n.name ≡ true) ⊎ (apart (first n) a_paren ≡ true) → Front f i ls
     by (inl e) = subst (λ (v : Flags). Front v i ls) (under_flags n.name f n.flags e u) (go (line_fronted n e) (line_flagged n e))
@@ -292,10 +290,6 @@ arrow_binds b after_body h = absurd (false≢true h)
 arrow_binds b after_yield h = absurd (false≢true h)
 arrow_binds b after_declarator h = absurd (false≢true h)
 arrow_binds b after_word h = absurd (false≢true h)
-
-pub contrary : (b : Bool) → not b ≡ true → b ≡ true → ⊥
-contrary true h e = false≢true h
-contrary false h e = false≢true e
 
 -- nor may it stand behind an operand
 pub no_arrow_admitted : (source : List ℕ) (f : Flags) (ts : Slots) {vs : Slots} {s j : ℕ} {ls rest : Lexemes} → Lexes (Lex source) s ls → Takes rule (such (at Short f) always) end ts s ls vs j rest → Admits (after (at Short f)) ts (here rest) → same_kind Arrow (here rest).kind ≡ true → ⊥

@@ -1,6 +1,6 @@
 -- The comma operator (ECMA-262, 13.16): what is left of an Expression behind each of its operands. The right edge of the node is that of its last operand, so each reading is of all operands up to the last one.
 use Rattle.std.proofs.Common.{ℕ, ◌≡◌, ◌≤◌, ◌<◌, max, Bool, true, false, not, ◌||◌, IsTrue, Option, Some, List, [], ◌∷◌, ◌++◌, length, refl, sym, ap, subst, arith, ◌∙◌, nat_lt}
-use Rattle.std.proofs.lemmas.Bool.{and_parts, and_from, or_left, ltb-true, lt-ltb}
+use Rattle.std.proofs.lemmas.Bool.{and_from, ltb-true, lt-ltb}
 use Rattle.js_base.specs.declared.diagnostic.Diagnostic.{Diagnostic}
 use Rattle.js_base.specs.declared.kind.Kind.{Kind}
 use Rattle.js_base.specs.declared.kind.Kind.TheVariants.{Comma}
@@ -16,10 +16,11 @@ use Rattle.js_grammar.specs.Productions.{sym as symbol}
 use Rattle.js_grammar.specs.Table.{rule, rule_of}
 use Rattle.js_base.specs.Texts.{words}
 use Rattle.js_grammar.specs.Follow.{after, looser, tight, row_of, surest}
+use Rattle.js_grammar.specs.RightEdges.{of_assignment}
 use Rattle.js_grammar.proofs.Looks.{covers, covered, apart, not_both}
 use Rattle.js_grammar.proofs.Calculus.{here_at, ends, passes_both, reaches_less, ◌▹◌, left, right, fails_alt, weaken_fails_on}
 use Rattle.js_grammar.proofs.FollowLaws.{admits, surely, same_read, fails_by}
-use Rattle.js_grammar.proofs.RightEdges.{of_assignment, edge_append}
+use Rattle.js_grammar.proofs.RightEdges.{edge_append}
 use Rattle.js_grammar.proofs.Frame.{append_assoc}
 use Rattle.laws_shared.specs.js_tree.declared.id.NodeId.{NodeId}
 use Rattle.laws_shared.specs.js_tree.declared.kind.NodeKind.TheVariants as node
@@ -34,17 +35,18 @@ use Rattle.laws_shared.specs.Moves.{Moved, MadeHere, plain_label}
 use Rattle.laws_shared.specs.Nesting.{room}
 use Rattle.laws_shared.specs.Answers.{Grown, Verdict, Stretch, Underived, Numbered, beside}
 use Rattle.laws_shared.proofs.Signs.{plain_sign, other_kind}
-use Rattle.laws_shared.proofs.Here.{begins_here, kind_here}
+use Rattle.laws_shared.proofs.Here.{begins_here}
 use Rattle.laws_shared.proofs.MadeNodes.{node_held, one_lies}
 use Rattle.laws_shared.proofs.Moving.{same_both}
 use Rattle.laws_shared.proofs.Nesting.{later_room}
 use Rattle.laws_patterns.proofs.laws_primary.Operands.{by_path}
-use Rattle.laws_shared.proofs.Paths.{Path, skips, not_here, walked_both, walked_one, label_here}
+use Rattle.laws_shared.proofs.Paths.{Path, skips, walked_both, walked_one, label_here}
 use Rattle.laws_shared.proofs.Phrases.{lift, narrow_operand, narrow_assignment}
 use Rattle.laws_shared.proofs.Escapes.{read_plain}
 use Rattle.laws_shared.proofs.Tight.{narrows, plain_lex}
 use Rattle.laws_shared.proofs.Verdicts.{verdict_of, either_way, and_then, behind_none, grown_then}
 use Rattle.laws_shared.proofs.Verdicts.{after as grown_behind}
+use Rattle.laws_shared.proofs.Commas.{comma_may_follow, commas_here, no_comma_here}
 
 abbrev item : Flags → G
 item f = symbol Assignment f
@@ -73,10 +75,6 @@ pub record Nothing (text : List ℕ) (f : Flags) (g : G) (s : ℕ) : Type 0 wher
   pub no : (ts : Slots) (k : ℕ) (ls rest : Lexemes) → Lexes (Lex text) s ls → Takes rule g end ts s ls end k rest → Ending f ts (here rest) → ⊥
 
 -- ---- what may stand behind operands
-
-comma_may_follow : covers (is Comma) (surest Assignment) ≡ true
-unfolding covers
-comma_may_follow = refl
 
 -- a comma may stand behind an operand
 at_comma : (f : Flags) (ts : Slots) (y : Lexeme) → IsTrue (seen (is Comma) y) → Admits (after (at Assignment f)) ts y
@@ -261,13 +259,6 @@ module _ {text : List ℕ} {f : Flags} where
           no_comma_behind f.in_ (row_of m ds) (here rest) (c (here rest) (here_at (Lex text) rest x.2)) e.1
 
 -- ---- what stands at a state
-
-commas_here : {text : List ℕ} {f : Flags} {q : Parser} → At text f q → q.token.kind ≡ Comma → (y : Lexeme) → Lex text q.prev_token_end y → IsTrue (seen (is Comma) y)
-commas_here a k y l = and_from _ _ (subst (λ (v : Kind). same_kind Comma v ≡ true) (sym (kind_here a k refl y l)) refl) (ap not (read_plain y l (kind_here a k refl y l) refl))
-
-no_comma_here : {text : List ℕ} {f : Flags} {q : Parser} → At text f q → (q.token.kind ≡ Comma → ⊥) → (y : Lexeme) → Lex text q.prev_token_end y → IsTrue (seen (is Comma) y) → ⊥
-unfolding apart
-no_comma_here {q = q} a n y l h = not_here a (Comma ∷ []) refl (other_kind Comma q.token.kind n) y l (or_left (same_kind Comma y.kind) false (and_parts (same_kind Comma y.kind) (not y.escaped) h).0)
 
 pub comma_plain : {text : List ℕ} {f : Flags} {p : Parser} → At text f p → p.token.kind ≡ Comma → p.token.escaped ≡ false
 unfolding words

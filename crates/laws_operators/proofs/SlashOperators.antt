@@ -14,15 +14,16 @@ use Rattle.js_grammar.specs.Table.{rule}
 use Rattle.js_grammar.specs.Levels.{feet_at, level_at, node_at, operators_at, operators_of, top_level}
 use Rattle.js_grammar.specs.Follow.{after, first_edge, follow, looser, row_of, tight}
 use Rattle.js_grammar.specs.FirstSets.{first}
+use Rattle.js_grammar.specs.RightEdges.{of_operand}
+use Rattle.js_grammar.specs.Towers.{Link, linked_label, Around}
 use Rattle.js_grammar.proofs.FirstClaims.{firsts}
 use Rattle.js_grammar.proofs.FollowLaws.{counts_as_slash}
 use Rattle.js_grammar.proofs.Looks.{apart, not_both, same_self}
-use Rattle.js_grammar.proofs.Loops.{Alone, Around, Step, listed, one_operator, part_at, step, step_fails}
+use Rattle.js_grammar.proofs.Loops.{Alone, Step, listed, one_operator, part_at, step, step_fails}
 use Rattle.js_grammar.proofs.OperatorEdges.{level_looser, one_level, operator_edges, operator_exactly}
 use Rattle.js_grammar.proofs.OperatorLoops.{operand_follow}
-use Rattle.js_grammar.proofs.Operators.{climbs, levels, operates}
-use Rattle.js_grammar.proofs.RightEdges.{of_operand}
-use Rattle.js_grammar.proofs.Towers.{Link, OneOf, linked_label}
+use Rattle.js_grammar.proofs.Operators.{levels, operates}
+use Rattle.js_grammar.proofs.Towers.{OneOf}
 use Rattle.laws_shared.specs.Lexemes.{Lex, Plain, other_goals, slashes}
 use Rattle.laws_shared.specs.Operators.{power_of}
 use Rattle.laws_shared.proofs.Escapes.{read_plain}
@@ -85,14 +86,14 @@ ends_not f {m} {q} {k} l cs a d i o y z e =
 module _ (f : Flags) {text : List ℕ} where
   module _ {m c s' q : ℕ} {k : Kind} {l : Label} {cs : Slots} (h : (y : Lexeme) → Plain text s' y → (y.kind ≡ k) × (y.escaped ≡ false)) (p : (y : Lexeme) → Lex text s' y → y.kind ≡ RegExp → k ≡ Slash) (a : m ≤ q) (b : q ≤ c) (d : q ≤ 9) (i : OneOf k (operators_at f q)) (o : of_operand (row_of l cs) ≡ true) where
     plainly_alone : Alone firsts (Plain text) (after (level_at f m)) (levels f) m c s' q (operates f q k) l cs
-    plainly_alone = one_operator firsts (level_at f) top_level node_at (feet_at f) (operators_at f) (climbs f) k (λ y z. (h y z).0) a b d i (λ q' j. one_level f q q' i j) (λ y z e. ends_not f l cs a d i o y (h y z) e.1)
+    plainly_alone = one_operator firsts (level_at f) top_level node_at (feet_at f) (operators_at f) k (λ y z. (h y z).0) a b d i (λ q' j. one_level f q q' i j) (λ y z e. ends_not f l cs a d i o y (h y z) e.1)
 
     alone : Alone firsts (Lex text) (after (level_at f m)) (levels f) m c s' q (operates f q k) l cs
     alone = record { step = plainly_alone.step; other = others; goes_on = goes_on }
       where
         others : (q' : ℕ) (x' : Link Symbol) → Step (levels f) m c q' x' → (y : Lexeme) → Lex text s' y → IsTrue (seen (starts first x'.part full) y) → ((q' ≡ q) × (x' ≡ operates f q k)) ⊎ Fails rule (Lex text) (plain full) end x'.part s'
         others q' x' st y n t =
-            let r = part_at firsts (level_at f) top_level node_at (feet_at f) (operators_at f) (climbs f) m c q' x' st y.kind y.newline y.escaped t in
+            let r = part_at firsts (level_at f) top_level node_at (feet_at f) (operators_at f) m c q' x' st y.kind y.newline y.escaped t in
             let same : y.kind ≡ k = (h y (n.0, plain_so y n.1 (operator_plain f q' r.0))).0 in
             let v : q' ≡ q = one_level f q q' i (subst (λ (a : Kind). OneOf a (operators_at f q')) same r.0) in
             inl (v, r.1 ∙ (ap (λ (a : Kind). operates f q' a) same ∙ ap (λ (a : ℕ). operates f a k) v))

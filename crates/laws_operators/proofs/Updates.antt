@@ -24,6 +24,7 @@ use Rattle.js_grammar.proofs.Calculus.{Inside, ◌▹◌, ◌▹✗◌, left, ri
 use Rattle.js_grammar.proofs.FirstClaims.{firsts}
 use Rattle.js_grammar.proofs.FirstRules.{then, fails_part, fails_here}
 use Rattle.js_grammar.proofs.FollowLaws.{admits, same_read, fails_by, passes_on}
+use Rattle.js_grammar.proofs.Finding.{contrary}
 use Rattle.laws_shared.specs.js_tree.declared.id.NodeId.{NodeId}
 use Rattle.laws_shared.specs.js_tree.declared.kind.NodeKind.TheVariants as node
 use Rattle.laws_shared.specs.js_tree.declared.op.Op.TheVariants as op_made
@@ -48,7 +49,6 @@ use Rattle.laws_patterns.proofs.laws_primary.Operands.{by_path}
 use Rattle.laws_shared.proofs.Paths.{reads, Path, ◌⟼◌, ◌⟶◌, ◌⟶✗◌, at_kind, fails_at, token, last_token, last_called, noded, flagged_by, flagged_here, label_here}
 use Rattle.laws_shared.proofs.Phrases.{lift, plain_row, primary_operand}
 use Rattle.parse_targets.proofs.Targets.{passes_itself, of_unary}
-use Rattle.parse_targets.proofs.ArrayElements.{contrary}
 use Rattle.laws_shared.proofs.Escapes.{read_plain, no_word_among}
 use Rattle.laws_shared.proofs.Tight.{plain_is_read, plain_lex}
 use Rattle.laws_shared.proofs.Verdicts.{verdict_of}

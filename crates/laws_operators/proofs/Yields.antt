@@ -20,7 +20,7 @@ use Rattle.js_grammar.proofs.First.{starts}
 use Rattle.js_grammar.proofs.FirstClaims.{firsts}
 use Rattle.js_grammar.proofs.FirstRules.{fails_here}
 use Rattle.js_grammar.proofs.Looks.{covers, covered, apart, not_both}
-use Rattle.js_grammar.proofs.Calculus.{Inside, On, here_at, inside_full, looks, ◌▹◌, ◌▹✗◌, left, right, where_true, part_fails, weaken_fails_on, fails_alt, fails_look, fails_node, fails_rule, reads_empty_slot}
+use Rattle.js_grammar.proofs.Calculus.{Inside, On, here_at, inside_full, ◌▹◌, ◌▹✗◌, left, right, where_true, weaken_fails_on, fails_alt, fails_node, fails_rule, reads_empty_slot}
 use Rattle.js_grammar.proofs.FollowLaws.{fails_by}
 use Rattle.laws_shared.specs.js_tree.declared.id.NodeId.{NodeId}
 use Rattle.laws_shared.specs.js_tree.declared.kind.NodeKind.TheVariants as node
@@ -33,7 +33,6 @@ use Rattle.laws_shared.specs.Answers.{Underived, Answer, Numbered}
 use Rattle.laws_shared.specs.Lexemes.{Lex, other_goals, slashes, template_tails}
 use Rattle.laws_shared.specs.Moves.{Moved, MadeHere, plain_label}
 use Rattle.laws_shared.specs.States.{At}
-use Rattle.laws_shared.proofs.Ahead.{pass_over}
 use Rattle.laws_shared.proofs.Here.{told_plain, angled, uncut, kind_here, newline_here, sign_here, slash_here}
 use Rattle.laws_shared.proofs.MadeNodes.{node_held, one_held, one_lies}
 use Rattle.laws_shared.proofs.Moving.{same_both}
@@ -43,6 +42,7 @@ use Rattle.laws_shared.proofs.Signs.{other_kind, plain_sign}
 use Rattle.laws_shared.proofs.Tight.{plain_lex}
 use Rattle.laws_shared.proofs.PlainSigns.{star_plain}
 use Rattle.laws_patterns.proofs.laws_primary.Operands.{by_path}
+use Rattle.laws_patterns.proofs.laws_primary.AsyncWords.{same_line, no_same_line}
 use Rattle.laws_operators.proofs.OnePlace.{brace_of, tail_of}
 use Rattle.laws_patterns.proofs.Bindings.{ended_by}
 use Rattle.parse_targets.specs.Taken.{NoTargetFrom, goes_through}
@@ -175,18 +175,14 @@ module _ {text : List ℕ} {f : Flags} {q : Parser} (b : At text f q) where
   no_argument : {X : Test} (g : G) → covers (λ k w e. starts first g X.base k w e && reads k w e) an_argument ≡ true → yields_argument q.token.kind ≡ false → Fails rule (Lex text) X end g q.prev_token_end
   no_argument {X} g c n = fails_here firsts (λ y l h. no_argument_there n y l (covered (λ k w e. starts first g X.base k w e && reads k w e) an_argument c y.kind y.newline y.escaped (and_from _ _ h l.1)))
 
-  -- nothing goes on behind a bare `yield`
-  on_new_line : {X : Test} {g : G} → q.token.is_on_new_line ≡ true → Fails rule (Lex text) X end (no_newline ▸ g) q.prev_token_end
-  on_new_line w = part_fails {X' = plain full} (fails_look (λ k w e. not w) (λ y l h. false≢true (sym (ap not (newline_here b y l ∙ w)) ∙ h))) (record { admits = λ ts us vs j k ls mid rest d e h. (refl, refl) })
-
   bare_argument : {X : Test} → Bare q → Fails rule (Lex text) X end (argument_of f) q.prev_token_end
   unfolding covers
-  bare_argument (inl w) = on_new_line w
+  bare_argument (inl w) = no_same_line b w
   bare_argument (inr n) = no_argument (argument_of f) refl n
 
   bare_delegate : {X : Test} → Bare q → Fails rule (Lex text) X end (no_newline ▸ tok Star ▸ symbol Assignment f) q.prev_token_end
   unfolding covers
-  bare_delegate (inl w) = on_new_line w
+  bare_delegate (inl w) = no_same_line b w
   bare_delegate (inr n) = no_argument (no_newline ▸ tok Star ▸ symbol Assignment f) refl n
 
   bare_loose : Bare q → (y : Lexeme) → Lex text q.prev_token_end y → IsTrue (seen (looser 2 f.in_ after_yield) y)
@@ -212,9 +208,6 @@ module _ {text : List ℕ} {f : Flags} {q : Parser} (b : At text f q) where
       go ts end {ls = ls} l is_empty_slot e = tight_there (here ls) (here_at (Lex text) ls l) e.1
       go ts (hole us) l is_empty_slot e = false≢true e.1
       go ts (tree m cs us) l is_empty_slot e = false≢true e.1
-
-  same_line : q.token.is_on_new_line ≡ false → {X : Test} {g : G} → Goes rule (Lex text) X end (no_newline ▸ g) q.prev_token_end g q.prev_token_end (λ us. us) (still 0)
-  same_line w = pass_over (looks (λ k w e. not w) (λ y l. ap not (newline_here b y l ∙ w)))
 
 -- ---- the whole
 

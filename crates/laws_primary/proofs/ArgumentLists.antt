@@ -8,14 +8,14 @@ use Rattle.js_base.specs.declared.kind.Kind.TheVariants.{RCurly, RAngle, LParen,
 use Rattle.js_base.specs.declared.span.Span.{Span}
 use Rattle.js_base.specs.Kinds.{same_kind, one_of_kinds}
 use Rattle.js_grammar.specs.Trees.{Slots, end, tree, Label, append}
-use Rattle.js_grammar.specs.Grammar.{Lexeme, Lexemes, seen, is, next, seq, such, nothing}
+use Rattle.js_grammar.specs.Grammar.{Lexeme, Lexemes, seen, is, next, seq, such, nothing, after_comma, after_item}
 use Rattle.js_grammar.specs.Marks.{LexemeAt, opens, a_lexeme}
 use Rattle.js_grammar.specs.Parsing.{plain, full, always, passing, Goes, Fails}
 use Rattle.js_grammar.specs.Productions.{G, Flags, at, tok}
 use Rattle.js_grammar.specs.Table.{rule}
 use Rattle.js_grammar.specs.FirstSets.{first as first_of}
 use Rattle.js_grammar.proofs.Looks.{covers, apart, not_both, same_self}
-use Rattle.js_grammar.proofs.Calculus.{after_item, after_comma, ◌▹◌, ◌▹✗◌, left, right, done, by_plain, part_fails, fails_nothing, fails_lexeme, commas_item, fails_commas, comma_here, no_comma, item_behind, last_comma}
+use Rattle.js_grammar.proofs.Calculus.{◌▹◌, ◌▹✗◌, left, right, done, by_plain, part_fails, fails_nothing, fails_lexeme, commas_item, fails_commas, comma_here, no_comma, item_behind, last_comma}
 use Rattle.js_grammar.proofs.First.{starts}
 use Rattle.js_grammar.proofs.FirstClaims.{firsts}
 use Rattle.js_grammar.proofs.FirstRules.{by_first, fails_here, part}

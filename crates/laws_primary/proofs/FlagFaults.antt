@@ -2,12 +2,13 @@
 use Rattle.std.proofs.Common.{ℕ, ◌+◌, ◌≡◌, ◌==◌, Bool, true, false, not, ◌&&◌, ◌||◌, List, [], ◌∷◌, ◌++◌, None, refl, sym, ap, ◌∙◌}
 use Rattle.std.specs.Prelude.{codes}
 use Rattle.std.specs.List.{list_all}
-use Rattle.std.proofs.lemmas.Bool.{false≢true, and_parts, and_from, eqb-true, eq-eqb}
+use Rattle.std.proofs.lemmas.Bool.{false≢true, and_parts, and_from}
 use Rattle.js_base.specs.declared.diagnostic.Diagnostic.{Diagnostic}
 use Rattle.js_base.specs.declared.diagnostic.DiagnosticKind.TheVariants.{RegExpFlag}
 use Rattle.js_base.specs.part_text.Characters.{one_of}
 use Rattle.js_grammar.specs.Characters.{width}
 use Rattle.js_grammar.specs.RegularExpressions.{are_flags}
+use Rattle.js_grammar.proofs.Finding.{eqb-turn}
 use Rattle.laws_shared.specs.js_lex.Reading.{is_wrong_flag, flag_faults}
 
 -- none of these characters is among those
@@ -30,15 +31,6 @@ one_more (c ∷ before) f g = ap (λ (b : Bool). (c == g) || b) (one_more before
     either true b d = refl
     either false b d = refl
 
-same_way : (a b : ℕ) → (a == b) ≡ (b == a)
-same_way a b = go (a == b) (b == a) refl refl
-  where
-    go : (x y : Bool) → (a == b) ≡ x → (b == a) ≡ y → (a == b) ≡ (b == a)
-    go true true e f = e ∙ sym f
-    go false false e f = e ∙ sym f
-    go true false e f = absurd (false≢true (sym f ∙ eq-eqb b a (sym (eqb-true a b e))))
-    go false true e f = absurd (false≢true (sym e ∙ eq-eqb a b (sym (eqb-true b a f))))
-
 neither : (a b : Bool) → (not (a || b)) ≡ (not a && not b)
 neither true b = refl
 neither false b = refl
@@ -49,7 +41,7 @@ split before f [] = refl
 split before f (g ∷ fs) =
     (λ i. not (one_more before f g i) && split before f fs i)
     ∙ ((λ i. neither (one_of before g) (f == g) i && (apart before fs && not (one_of fs f)))
-    ∙ ((λ i. (not (one_of before g) && not (same_way f g i)) && (apart before fs && not (one_of fs f)))
+    ∙ ((λ i. (not (one_of before g) && not (eqb-turn f g i)) && (apart before fs && not (one_of fs f)))
     ∙ four (not (one_of before g)) (g == f) (apart before fs) (one_of fs f)))
   where
     four : (a b c d : Bool) → ((a && not b) && (c && not d)) ≡ ((a && c) && not (b || d))

@@ -16,14 +16,16 @@ use Rattle.js_grammar.specs.Productions.{New as new_symbol}
 use Rattle.js_grammar.specs.Table.{rule, rule_of, args}
 use Rattle.js_grammar.specs.Insertion.{after_expression, may_bind}
 use Rattle.js_grammar.specs.Follow.{Edge, edge_of, follow_of, after}
+use Rattle.js_grammar.specs.Towers.{Link, link, make_of, linked_label, this, of_left, of_right}
+use Rattle.js_grammar.specs.Chains.{is_member, is_call, is_links, base_of, members, calls, chains}
 use Rattle.js_grammar.proofs.Looks.{covers, covered, apart}
 use Rattle.js_grammar.proofs.Calculus.{Heads, on_itself, here_at, ◌▹◌, ◌▹✗◌, left, right, then_by, makes_by, inside_full, by_plain, by_rule, fails_node, fails_alt, fails_never, fails_under, where_true, part_fails, weaken, weaken_fails, weaken_on, weaken_fails_on}
 use Rattle.js_grammar.proofs.FirstClaims.{firsts}
 use Rattle.js_grammar.proofs.FirstRules.{by_first, fails_here}
 use Rattle.js_grammar.proofs.FollowLaws.{admits, fails_by, same_read}
 use Rattle.js_grammar.proofs.Loops.{chain_start, chain_start_fails, chain_step_by, chain_step_fails_by, chain_end, linked_starts, beginning, unfollowed}
-use Rattle.js_grammar.proofs.Towers.{Link, link, linked_label, make_of, this, of_left, of_right, OneOf, head, later}
-use Rattle.js_grammar.proofs.Chains.{is_member, is_call, is_links, base_of, climbs, member_links, call_links, chain_links, members, calls, chains}
+use Rattle.js_grammar.proofs.Towers.{OneOf, head, later}
+use Rattle.js_grammar.proofs.Chains.{climbs, member_links, call_links, chain_links}
 use Rattle.js_grammar.proofs.Lexemes.{first_or}
 use Rattle.js_grammar.proofs.LinkLoops.{private, member_name, member_index}
 use Rattle.laws_shared.specs.Lexemes.{Lex}

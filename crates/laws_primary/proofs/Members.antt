@@ -1,5 +1,4 @@
 -- Members, `new` and optional chains, from what the calls that read them answer.
-use Rattle.js_grammar.specs.Pruning.{every_kind}
 use Rattle.laws_shared.proofs.Signs.{none_seen, stands_there, stands_not}
 use Rattle.std.proofs.Common.{ℕ, ◌≡◌, ◌≤◌, ◌<◌, ◌+◌, ◌⊎◌, inl, inr, max, List, [], ◌∷◌, length, Option, Some, None, Bool, true, false, not, ◌&&◌, ◌||◌, IsTrue, refl, sym, ap, subst, arith, ◌∙◌, nat_lt, ◌++◌}
 use Rattle.std.specs.Prelude.{Result, Ok, Err, MatchResult}
@@ -8,7 +7,7 @@ use Rattle.js_base.specs.declared.diagnostic.Diagnostic.{Diagnostic}
 use Rattle.js_base.specs.declared.kind.Kind.{Kind}
 use Rattle.js_base.specs.declared.kind.Kind.TheVariants.{RAngle, New, Dot, QuestionDot, LParen, LBrack, NoSubstitutionTemplate, RBrack, PrivateIdentifier, Super as super_kind, TemplateHead}
 use Rattle.js_base.specs.declared.span.Span.{Span}
-use Rattle.js_base.specs.Kinds.{same_kind, one_of_kinds}
+use Rattle.js_base.specs.Kinds.{same_kind, one_of_kinds, every_kind}
 use Rattle.js_base.specs.KindSets.{identifier_name_kinds, binding_identifier_kinds}
 use Rattle.js_base.proofs.KindLemmas.{kind_of_same}
 use Rattle.js_grammar.specs.Trees.{Slots, end, tree, Label, no_op, identifier_name, new_expression, chain_expression}
@@ -25,7 +24,6 @@ use Rattle.js_grammar.proofs.FirstClaims.{firsts}
 use Rattle.js_grammar.proofs.FirstRules.{by_first, fails_here}
 use Rattle.js_grammar.proofs.FollowLaws.{fails_by, surely}
 use Rattle.js_grammar.proofs.Lexemes.{first_or}
-use Rattle.js_grammar.proofs.RightEdges.{may_end, same_row}
 use Rattle.js_base.specs.declared.diagnostic.DiagnosticKind.TheVariants as fault
 use Rattle.js_grammar.specs.Lexed.{all_faults}
 use Rattle.js_grammar.specs.Lexed.{Lex as StandsBehind}
@@ -80,6 +78,7 @@ use Rattle.laws_primary.specs.declared.forms.LinkBase.{LinkBase}
 use Rattle.laws_primary.specs.declared.forms.LinkBase.TheVariants as base
 use Rattle.js_base.specs.Texts.{words}
 use Rattle.js_grammar.specs.Lexemes.{is_word}
+use Rattle.js_grammar.specs.RightEdges.{same_row, may_end}
 use Rattle.laws_shared.proofs.Classes.{here_ends}
 use Rattle.js_base.specs.declared.diagnostic.DiagnosticKind.TheVariants.{ExpectClosing}
 use Rattle.laws_shared.proofs.Tight.{plain_is_read, plain_lex}

@@ -39,8 +39,8 @@ use Rattle.laws_shared.specs.js_cursor.Parsers.{Parser}
 use Rattle.laws_shared.specs.js_cursor.Places.{goal}
 use Rattle.laws_shared.specs.js_cursor.declared.stop.Stop.{Stop}
 use Rattle.laws_shared.specs.js_cursor.declared.stop.Stop.TheVariants.{Fatal, NoMemory}
-use Rattle.laws_primary.specs.Members.{MemberSoFar, NoMember, NoOther}
-use Rattle.laws_primary.specs.NewTargets.{BehindDot, BehindNew, ChecksTarget, TargetOutcome, no_target_at, outside_at, target_slots}
+use Rattle.laws_primary.specs.Members.{MemberSoFar, NoMember, NoOther, MemberOutcome}
+use Rattle.laws_primary.specs.NewTargets.{BehindDot, BehindNew, ChecksTarget, no_target_at, outside_at, target_slots}
 use Rattle.laws_primary.proofs.Links.{member_target, new_target, no_member_new, with_arguments}
 use Rattle.laws_primary.proofs.Members.{called_member, new_other, new_skips, no_primary, no_super_at_new}
 use Rattle.laws_shared.specs.Answers.{Grown, Stops, Stretch, Verdict, unclean}
@@ -282,12 +282,12 @@ module _ {text : List ℕ} {f : Flags} {o p : Parser} (a : At text f o) (s : Sta
       kept_nodes : Keeps o.nodes g.nodes
       kept_nodes = subst (λ (ns : List Node). Keeps o.nodes ns) (sym checked_nodes) (Keeps-refl o.nodes)
 
-      pub target_taken : {w : Parser} {id : NodeId} → z.start ≡ o.token.span.start → z.end ≡ r.prev_token_end → MadeHere (plain_label node.NewTarget op.None z) [] g w id → TargetOutcome text f o w (Ok id)
+      pub target_taken : {w : Parser} {id : NodeId} → z.start ≡ o.token.span.start → z.end ≡ r.prev_token_end → MadeHere (plain_label node.NewTarget op.None z) [] g w id → MemberOutcome text f o w (Ok id)
       target_taken {w} {id} i j x =
           let l : plain_label node.NewTarget op.None z ≡ label_here new_target_expression no_op o g = rw (i, j ∙ sym checked_place) refl in
           let made : MadeHere (label_here new_target_expression no_op o g) [] g w id = subst (λ (v : Label). MadeHere v [] g w id) l x in
           let before : o.token.span.start < g.prev_token_end = (let u = target_path.further in let v = checked_place in omega arith) in
-          subst (λ (v : Parser). TargetOutcome text f o v (Ok id)) (sym made.stays) (record {
+          subst (λ (v : Parser). MemberOutcome text f o v (Ok id)) (sym made.stays) (record {
             at = beside_nodes w.nodes checked_at;
             same = same_with w.nodes checked_same (Keeps-trans kept_nodes (Keeps-made made.made)) (made_lies checked_same checked_at.at (omega arith) made refl);
             further = before;

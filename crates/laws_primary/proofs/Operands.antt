@@ -17,9 +17,9 @@ use Rattle.js_grammar.specs.Productions.{sym as symbol}
 use Rattle.js_grammar.specs.Table.{rule, rule_of}
 use Rattle.js_grammar.specs.Follow.{edge_of, row_of, follow, follow_of, after, widest, first_edge}
 use Rattle.js_grammar.specs.Insertion.{after_expression}
+use Rattle.js_grammar.specs.RightEdges.{same_row, may_end}
 use Rattle.js_grammar.proofs.Looks.{covers, covered, apart}
 use Rattle.js_grammar.proofs.Calculus.{Inside, on_itself, ◌▹✗◌, fails_node, left}
-use Rattle.js_grammar.proofs.RightEdges.{may_end, same_row}
 use Rattle.js_grammar.proofs.FollowLaws.{fails_by}
 use Rattle.js_grammar.proofs.Lexemes.{first_or}
 use Rattle.laws_shared.specs.js_tree.declared.id.NodeId.{NodeId}

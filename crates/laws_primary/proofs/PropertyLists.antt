@@ -7,14 +7,14 @@ use Rattle.js_base.specs.declared.kind.Kind.TheVariants.{RCurly, RAngle, LParen,
 use Rattle.js_base.specs.declared.span.Span.{Span}
 use Rattle.js_base.specs.Kinds.{same_kind, one_of_kinds}
 use Rattle.js_grammar.specs.Trees.{Slots, end, tree, Label, no_op, object_expression}
-use Rattle.js_grammar.specs.Grammar.{Lexemes, Look, commas, is, seq, nothing, Takes, is_seq}
+use Rattle.js_grammar.specs.Grammar.{Lexemes, Look, commas, is, seq, nothing, Takes, is_seq, after_comma, after_item}
 use Rattle.js_grammar.specs.Parsing.{plain, full, still, Goes, Fails}
 use Rattle.js_grammar.specs.Productions.{G, Flags, Symbol, at, tok, Object, Primary, Property}
 use Rattle.js_grammar.specs.Productions.{sym as symbol}
 use Rattle.js_grammar.specs.Table.{rule, rule_of}
 use Rattle.js_grammar.specs.Follow.{after}
 use Rattle.js_grammar.proofs.Looks.{covers, apart, not_both}
-use Rattle.js_grammar.proofs.Calculus.{◌▹◌, ◌▹✗◌, after_comma, after_item, by_plain, commas_item, done, fails_commas, fails_lexeme, fails_node, fails_nothing, fails_rule, inside_full, left, no_comma, part_fails, right, same}
+use Rattle.js_grammar.proofs.Calculus.{◌▹◌, ◌▹✗◌, by_plain, commas_item, done, fails_commas, fails_lexeme, fails_node, fails_nothing, fails_rule, inside_full, left, no_comma, part_fails, right, same}
 use Rattle.js_grammar.proofs.FirstClaims.{firsts}
 use Rattle.js_grammar.proofs.First.{starts}
 use Rattle.js_grammar.specs.FirstSets.{first as first_of}

@@ -1,7 +1,6 @@
 -- Names of properties (ECMA-262, 13.2.5): a word, a string, a number, or an expression in brackets.
-use Rattle.std.proofs.Common.{ℕ, ◌≡◌, List, [], ◌∷◌, length, Option, Bool, true, false, not, ◌&&◌, ◌||◌, refl, sym, ap, subst, arith, ◌∙◌}
+use Rattle.std.proofs.Common.{ℕ, ◌≡◌, List, [], ◌∷◌, length, Option, Bool, true, false, ◌&&◌, ◌||◌, refl, sym, ap, subst, arith, ◌∙◌}
 use Rattle.std.specs.Prelude.{Result, Ok, Err, MatchResult}
-use Rattle.std.proofs.lemmas.Bool.{and_parts, not-true}
 use Rattle.js_base.specs.declared.kind.Kind.{Kind}
 use Rattle.js_base.specs.declared.kind.Kind.TheVariants.{LBrack, RBrack, Str, Decimal, Float, Binary, Octal, Hex, PositiveExponential, NegativeExponential, DecimalBigInt, BinaryBigInt, OctalBigInt, HexBigInt, RAngle}
 use Rattle.js_base.specs.declared.diagnostic.DiagnosticKind.TheVariants.{ExpectClosing}
@@ -16,7 +15,7 @@ use Rattle.js_grammar.specs.Parsing.{plain, full, Fails}
 use Rattle.js_grammar.specs.Productions.{G, Flags, at, tok, plus_in, Assignment, IdentifierName}
 use Rattle.js_grammar.specs.Productions.{sym as symbol}
 use Rattle.js_grammar.specs.Table.{rule, name, string, number}
-use Rattle.js_grammar.proofs.Looks.{covers, covered, apart}
+use Rattle.js_grammar.proofs.Looks.{covers, apart}
 use Rattle.js_grammar.proofs.Calculus.{◌▹✗◌, left, fails_alt, fails_never, part_fails, weaken_fails_on}
 use Rattle.js_grammar.proofs.FirstClaims.{firsts}
 use Rattle.js_grammar.proofs.FirstRules.{by_first, fails_here}
@@ -36,7 +35,7 @@ use Rattle.laws_shared.specs.js_cursor.declared.stop.Stop.{Stop}
 use Rattle.laws_shared.specs.js_cursor.declared.stop.Stop.TheVariants.{Fatal, NoMemory}
 use Rattle.laws_primary.specs.Numbers.{node_of_number, op_of_number}
 use Rattle.laws_primary.specs.PropertyNames.{NoName, NoNames, NameRead, NameOutcome}
-use Rattle.laws_primary.proofs.Operands.{exponential_test, of_number, one_path, plain_leaf}
+use Rattle.laws_primary.proofs.Operands.{exponential_test, of_number, one_path, plain_leaf, number_passable}
 use Rattle.laws_shared.specs.Answers.{Underived, Numbered, Outcome, Stops}
 use Rattle.laws_shared.specs.Lexemes.{Lex, signs}
 use Rattle.laws_shared.specs.Moves.{IsWholeHere, LeafTaken, Moved, TakesLeaf, plain_label, unpassable}
@@ -216,14 +215,8 @@ module _ {text : List ℕ} {f : Flags} {p q : Parser} (a : At text f p) (k : p.t
         kept = subst (λ (ns : List Node). Keeps ns r.nodes) m.nodes x.keeps
 
 -- a number is told whole
-number_signs : covers (λ k w e. one_of_kinds number_kinds k) (λ k w e. not (unpassable k) && not (same_kind RAngle k)) ≡ true
-unfolding covers
-number_signs = refl
-
 pub number_whole : {text : List ℕ} {f : Flags} {p : Parser} → At text f p → one_of_kinds number_kinds p.token.kind ≡ true → IsWholeHere p
-number_whole {p = p} a h =
-    let z = and_parts (not (unpassable p.token.kind)) (not (same_kind RAngle p.token.kind)) (covered (λ k w e. one_of_kinds number_kinds k) (λ k w e. not (unpassable k) && not (same_kind RAngle k)) number_signs p.token.kind false false h) in
-    (uncut a (not-true (same_kind RAngle p.token.kind) z.1), not-true (unpassable p.token.kind) z.0)
+number_whole {p = p} a h = let z = number_passable p.token.kind h in (uncut a z.0, z.1)
 
 pub none_literal : {k : Kind} → (k ≡ Str → ⊥) → one_of_kinds number_kinds k ≡ false → one_of_kinds literal_kinds k ≡ false
 none_literal {k} n h = go (same_kind Str k) refl

@@ -77,8 +77,8 @@ use Rattle.laws_primary.proofs.Operands.{behind_primary, by_path}
 
 -- ---- kinds
 
-slash_kinds : (k : Kind) → one_of_kinds slashes k ≡ true → (k ≡ Slash) ⊎ (k ≡ SlashEq)
-slash_kinds k h = go (same_kind Slash k) refl h
+pub which_sign : (k : Kind) → one_of_kinds slashes k ≡ true → (k ≡ Slash) ⊎ (k ≡ SlashEq)
+which_sign k h = go (same_kind Slash k) refl h
   where
     second : (b : Bool) → same_kind SlashEq k ≡ b → (b || false) ≡ true → k ≡ SlashEq
     second true e h = sym (kind_of_same SlashEq k e)
@@ -88,12 +88,8 @@ slash_kinds k h = go (same_kind Slash k) refl h
     go true e h = inl (sym (kind_of_same Slash k e))
     go false e h = inr (second (same_kind SlashEq k) refl h)
 
--- which of the two signs it is that is read again
-pub which_sign : (k : Kind) → one_of_kinds slashes k ≡ true → (k ≡ Slash) ⊎ (k ≡ SlashEq)
-which_sign k h = slash_kinds k h
-
 by_sign : (P : Kind → Type 0) (k : Kind) → one_of_kinds slashes k ≡ true → P Slash → P SlashEq → P k
-by_sign P k h a b = go (slash_kinds k h)
+by_sign P k h a b = go (which_sign k h)
   where
     go : (k ≡ Slash) ⊎ (k ≡ SlashEq) → P k
     go (inl e) = subst P (sym e) a

@@ -33,8 +33,8 @@ use Rattle.laws_shared.specs.js_cursor.Moves.{Enters, Keeps as KeepsOne, Leaves,
 use Rattle.laws_shared.specs.js_cursor.Parsers.{Parser}
 use Rattle.laws_shared.specs.js_cursor.Places.{goal}
 use Rattle.laws_shared.specs.js_cursor.declared.stop.Stop.{Stop}
-use Rattle.laws_primary.specs.Members.{access_kinds, HeadOutcome, LinkForm, LinkHere, LinkOutcome, Linked, MemberSoFar, NoBareNew, NoLink, NoMember, NoOther, NoSuperCall, OnlyLink, SuperWord, Taken, WithArguments, a_link, a_super, admits, by_call, by_index, by_name, chained, is_super_word, link_label, no_link}
-use Rattle.laws_primary.specs.Supers.{ChecksCallee, ChecksSuper, PropertyOutcome, SuperTaken, alone_at, callee_from}
+use Rattle.laws_primary.specs.Members.{access_kinds, HeadOutcome, LinkForm, LinkHere, LinkOutcome, Linked, MemberSoFar, NoBareNew, NoLink, NoMember, NoOther, NoSuperCall, OnlyLink, SuperWord, Taken, WithArguments, a_link, a_super, admits, by_call, by_index, by_name, chained, is_super_word, link_label, no_link, MemberOutcome}
+use Rattle.laws_primary.specs.Supers.{ChecksCallee, ChecksSuper, SuperTaken, alone_at, callee_from}
 use Rattle.laws_primary.specs.declared.forms.LinkBase.TheVariants as base
 use Rattle.laws_primary.proofs.Links.{member_super, no_member_super}
 use Rattle.laws_primary.proofs.Members.{Membered, NoneOf, NotSuper, UnlessSuper, at_callee, begun_at, callee_taken, lexeme_there, link_taken, member_form, new_with_arguments, no_bare_new, none_behind_new, none_of_links, not_sign, retake}
@@ -187,7 +187,7 @@ module _ {text : List ℕ} {f : Flags} {o p : Parser} {word : NodeId} (a : At te
     pub property_stops : (w : Parser) (e : Stop) → Stops p w e ((c : LinkForm) (d : Bool) → NoLink text f p.prev_token_end c d) → Stops o w e (NoMember text f o.prev_token_end)
     property_stops w e z = stops_behind w e x.same (λ g. grown_behind x.verdict g) (λ n. either_way x.verdict (λ c. no_property c.0 n) (λ n. n)) z
 
-    pub property_outcome : {start : ℕ} → start ≡ o.token.span.start → (w : Parser) (r : Result NodeId Stop) → LinkOutcome text f start word p w r → PropertyOutcome text f o w r
+    pub property_outcome : {start : ℕ} → start ≡ o.token.span.start → (w : Parser) (r : Result NodeId Stop) → LinkOutcome text f start word p w r → MemberOutcome text f o w r
     property_outcome e w (Ok id) y = property_taken e y
     property_outcome e w (Err i) y = property_stops w i y
 

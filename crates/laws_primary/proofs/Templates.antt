@@ -34,6 +34,7 @@ use Rattle.js_grammar.proofs.FollowLaws.{fails_by, surely}
 use Rattle.js_grammar.proofs.Lexemes.{first_or}
 use Rattle.js_grammar.proofs.Alike.{stands-same}
 use Rattle.js_grammar.proofs.Looks.{apart, covers, covered, same_self}
+use Rattle.js_grammar.proofs.CoreLexed.{flags-none}
 use Rattle.laws_shared.specs.js_lex.Comments.{each_at, comment_at, irregular_at, html_fault_at}
 use Rattle.laws_shared.specs.js_lex.Reading.{cut, in_a_module, is_kept, is_right_angle, Tells, GivesLexeme, GivesNone, LexemeBehind, Outcome}
 use Rattle.laws_shared.specs.js_lex.States.{goal_of}
@@ -72,7 +73,7 @@ use Rattle.laws_shared.proofs.Escapes.{no_word_among, read_listed, read_plain}
 use Rattle.laws_shared.proofs.Parts.{part_called, part_path, part_path_fails}
 use Rattle.laws_shared.proofs.Parts.{parts as parts_joined}
 use Rattle.laws_primary.proofs.Operands.{behind_primary, by_path}
-use Rattle.laws_shared.proofs.Kept.{kept_for, no_flags, passing_so}
+use Rattle.laws_shared.proofs.Kept.{kept_for, passing_so}
 use Rattle.laws_shared.proofs.KeptTokens.{again_before, again_last, before_next, next_kept_last, trivia_kept}
 use Rattle.laws_shared.proofs.MadeNodes.{leaf_held, made_lies, node_held, one_lies}
 use Rattle.laws_shared.proofs.Moving.{beside_nodes, flags_same, heads_kept, nodes_lie, plain_given, same_both, same_with, stops_behind, stops_so, same_of}
@@ -369,7 +370,7 @@ module _ {text : List ℕ} {f : Flags} {p q : Parser} (a : At text f p) (k : p.t
       is = (tail_other y.kind kind).0;
       none = λ e r.
           let b = r brace.lexeme brace_read (ap (one_of_kinds other_goals) brace_kind) in
-          (passing_so l.0 (subst (λ (ps : List (List ℕ)). comments_pass (passing_of (goal p)) ps ≡ true) (stands-same b.0.stands l.0.stands).pieces b.0.comments) (no_flags (passing_of (goal p)) y.kind l.0.word (tail_other y.kind kind).1), l.1);
+          (passing_so l.0 (subst (λ (ps : List (List ℕ)). comments_pass (passing_of (goal p)) ps ≡ true) (stands-same b.0.stands l.0.stands).pieces b.0.comments) (flags-none (passing_of (goal p)) y.kind l.0.word (tail_other y.kind kind).1), l.1);
       some = λ e. absurd (e (given.0 ∙ g));
     }
       where

@@ -15,10 +15,9 @@ use Rattle.js_grammar.specs.Parsing.{Test, Fails, always, plain, full}
 use Rattle.js_grammar.specs.Productions.{G, Flags, Symbol, at, mk, tok, optional_flag, plus_in, Member, Call, Links, Super, LeftHandSide, IdentifierName, Expression}
 use Rattle.js_grammar.specs.Productions.{New as new_symbol, sym as symbol}
 use Rattle.js_grammar.specs.Table.{rule, args}
-use Rattle.js_grammar.proofs.Chains.{members, calls, chains}
-use Rattle.js_grammar.proofs.Loops.{Around}
-use Rattle.js_grammar.proofs.RightEdges.{same_row}
-use Rattle.js_grammar.proofs.Towers.{Tower, Link, link}
+use Rattle.js_grammar.specs.RightEdges.{same_row}
+use Rattle.js_grammar.specs.Towers.{Link, link, Tower, Around}
+use Rattle.js_grammar.specs.Chains.{members, calls, chains}
 use Rattle.laws_shared.specs.js_tree.declared.id.NodeId.{NodeId}
 use Rattle.laws_shared.specs.js_tree.Holding.{Holds, Keeps}
 use Rattle.laws_shared.specs.js_cursor.Parsers.{Parser}
@@ -112,6 +111,11 @@ pub data Headed (text : List ℕ) (f : Flags) (s : ℕ) (l : Label) (cs : Slots)
 -- a member, as far as it was read
 abbrev pub MemberSoFar : List ℕ → Flags → ℕ → ℕ → Label → Slots → (Lexemes → Lexemes) → ℕ → Type 0
 MemberSoFar text f s from l cs pass s' = Looped text (members f) (after (at Member f)) s from l cs pass s' × NoOther text f s
+
+-- what is answered of one
+abbrev pub MemberOutcome : List ℕ → Flags → Parser → Parser → Result NodeId Stop → Type 0
+MemberOutcome text f o q (Ok id) = Taken text f o q id (λ l cs pass s'. MemberSoFar text f o.prev_token_end o.token.span.start l cs pass s') (NoMember text f o.prev_token_end)
+MemberOutcome text f o q (Err e) = Stops o q e (NoMember text f o.prev_token_end)
 
 -- neither `.` nor `[` stands here, nor a template
 abbrev pub NoAccess : List ℕ → Parser → Type 0

@@ -1,5 +1,5 @@
 -- What the parse functions of `new.target` answer (ECMA-262, 13.3.12).
-use Rattle.std.specs.Prelude.{ℕ, ◌≡◌, ◌≤◌, ◌⊎◌, true, false, List, [], ◌∷◌, IsCharBoundary, IsTrue, Result, Ok, Err}
+use Rattle.std.specs.Prelude.{ℕ, ◌≡◌, ◌≤◌, ◌⊎◌, true, false, List, [], ◌∷◌, IsCharBoundary, IsTrue, Result}
 use Rattle.js_base.specs.Contexts.{has_flag, new_target_flag}
 use Rattle.js_base.specs.declared.diagnostic.Diagnostic.{Diagnostic}
 use Rattle.js_base.specs.declared.diagnostic.DiagnosticKind.TheVariants as fault
@@ -14,8 +14,7 @@ use Rattle.laws_shared.specs.js_tree.declared.id.NodeId.{NodeId}
 use Rattle.laws_shared.specs.js_cursor.Moves.{Keeps}
 use Rattle.laws_shared.specs.js_cursor.Parsers.{Parser}
 use Rattle.laws_shared.specs.js_cursor.declared.stop.Stop.{Stop}
-use Rattle.laws_primary.specs.Members.{MemberSoFar, NoMember, Taken}
-use Rattle.laws_shared.specs.Answers.{Stops}
+use Rattle.laws_primary.specs.Members.{MemberOutcome}
 use Rattle.laws_shared.specs.Moves.{Moved}
 use Rattle.laws_shared.specs.Stands.{StandsHere}
 use Rattle.laws_shared.specs.States.{At}
@@ -59,10 +58,6 @@ pub record BehindDot (start : ℕ) (q : Parser) : Type 0 where
 abbrev pub ChecksTarget : Span → Parser → Parser → Type 0
 ChecksTarget span old new = ((has_flag new_target_flag old.ctx ≡ false) × Keeps (outside_at span) old new) ⊎ ((has_flag new_target_flag old.ctx ≡ true) × (new ≡ old))
 
-abbrev pub TargetOutcome : List ℕ → Flags → Parser → Parser → Result NodeId Stop → Type 0
-TargetOutcome text f o q (Ok id) = Taken text f o q id (λ l cs pass s'. MemberSoFar text f o.prev_token_end o.token.span.start l cs pass s') (NoMember text f o.prev_token_end)
-TargetOutcome text f o q (Err e) = Stops o q e (NoMember text f o.prev_token_end)
-
 -- From the state o, where `new` stood, up to the old one this word was passed; now what stands behind it is.
 abbrev pub TakesTarget : ℕ → Parser → Parser → Result NodeId Stop → Type 0
-TakesTarget start p q r = (text : List ℕ) (f : Flags) (o : Parser) → At text f o → StandsHere o New true → start ≡ o.token.span.start → Moved text f o p → TargetOutcome text f o q r
+TakesTarget start p q r = (text : List ℕ) (f : Flags) (o : Parser) → At text f o → StandsHere o New true → start ≡ o.token.span.start → Moved text f o p → MemberOutcome text f o q r

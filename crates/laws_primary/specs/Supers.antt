@@ -9,7 +9,7 @@ use Rattle.laws_shared.specs.js_tree.declared.id.NodeId.{NodeId}
 use Rattle.laws_shared.specs.js_cursor.Moves.{Keeps}
 use Rattle.laws_shared.specs.js_cursor.Parsers.{Parser}
 use Rattle.laws_shared.specs.js_cursor.declared.stop.Stop.{Stop}
-use Rattle.laws_primary.specs.Members.{LinkHere, MemberSoFar, NoMember, SuperWord, Taken}
+use Rattle.laws_primary.specs.Members.{LinkHere, NoMember, SuperWord, Taken, MemberOutcome}
 use Rattle.laws_primary.specs.declared.forms.LinkBase.TheVariants as base
 use Rattle.laws_shared.specs.Answers.{Stops}
 use Rattle.laws_shared.specs.Stands.{StandsHere}
@@ -42,10 +42,5 @@ SuperOutcome text f p q (Err e) = Stops p q e (NoMember text f p.prev_token_end)
 abbrev pub TakesSuper : Parser → Parser → Result NodeId Stop → Type 0
 TakesSuper p q r = (text : List ℕ) (f : Flags) → At text f p → SuperOutcome text f p q r
 
--- what a member begins with, of which the word was read from the state o on
-abbrev pub PropertyOutcome : List ℕ → Flags → Parser → Parser → Result NodeId Stop → Type 0
-PropertyOutcome text f o q (Ok id) = Taken text f o q id (λ l cs pass s'. MemberSoFar text f o.prev_token_end o.token.span.start l cs pass s') (NoMember text f o.prev_token_end)
-PropertyOutcome text f o q (Err e) = Stops o q e (NoMember text f o.prev_token_end)
-
 abbrev pub GoesOnSuper : ℕ → NodeId → Parser → Parser → Result NodeId Stop → Type 0
-GoesOnSuper start word p q r = (text : List ℕ) (f : Flags) (o : Parser) → At text f o → StandsHere o super_kind true → start ≡ o.token.span.start → SuperTaken text f o p word → PropertyOutcome text f o q r
+GoesOnSuper start word p q r = (text : List ℕ) (f : Flags) (o : Parser) → At text f o → StandsHere o super_kind true → start ≡ o.token.span.start → SuperTaken text f o p word → MemberOutcome text f o q r

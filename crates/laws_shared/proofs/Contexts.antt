@@ -34,7 +34,7 @@ module _ {text : List ℕ} where
   plain_under c (sign d k x) = sign d k x
   plain_under c (nothing d k n) = nothing d k n
 
-  at_under : {f g : Flags} {p : Parser} (c : Context) → widened g.wide (flags_of (record p { ctx = c })) ≡ g → At text f p → At text g (record p { ctx = c })
+  pub at_under : {f g : Flags} {p : Parser} (c : Context) → widened g.wide (flags_of (record p { ctx = c })) ≡ g → At text f p → At text g (record p { ctx = c })
   at_under c e a = record { text_is = a.text_is; flags_are = e; at = (ctx_set c a.at).1; plain = plain_under c a.plain; behind = a.behind; heads = a.heads; kept_last = a.kept_last }
 
   -- with In

@@ -11,6 +11,8 @@ use Rattle.js_grammar.specs.FirstSets.{first}
 use Rattle.js_grammar.proofs.Looks.{apart, not_both}
 use Rattle.js_grammar.proofs.FirstClaims.{begins}
 use Rattle.js_grammar.proofs.Calculus.{stay, left, right, both, ◌▹◌}
+use Rattle.js_grammar.proofs.Behind.{left_behind}
+use Rattle.js_grammar.proofs.Finding.{either_of}
 use Rattle.laws_shared.specs.Lexemes.{Lex, is_read, is_read_kind}
 
 abbrev reads : Look
@@ -54,31 +56,7 @@ read_here (last x) c = c
 read_here (next x ls) c = c.0
 
 pub stays : {r : Symbol → G} {g : G} {ks ts us : Slots} {i j : ℕ} {ls rest : Lexemes} → Takes r g ks ts i ls us j rest → AllRead ls → AllRead rest
-stays is_nothing c = c
-stays (is_lexeme p) c = c.1
-stays (is_look p) c = c
-stays (is_text p) c = c
-stays (is_ahead d) c = c
-stays is_empty_slot c = c
-stays (is_seq d e) c = stays e (stays d c)
-stays (is_left d) c = stays d c
-stays (is_right d) c = stays d c
-stays (is_when q d) c = stays d c
-stays (is_many d) c = stays d c
-stays (is_commas d) c = stays d c
-stays (is_such d q) c = stays d c
-stays (is_marked d) c = stays d c
-stays (is_node d) c = stays d c
-stays (is_ended q d e) c = stays e (stays d c)
-stays (is_keep d e) c = stays e (stays d c)
-stays (is_kept q) c = c
-
-both_no : (a b : Bool) → (a && b) ≡ true → (a ≡ true) × (b ≡ true)
-both_no a b h = and_parts a b h
-
-either : (a b : Bool) → (a || b) ≡ true → (a ≡ true → ⊥) → (b ≡ true → ⊥) → ⊥
-either true b h f g = f refl
-either false b h f g = g h
+stays d c = left_behind AllRead (λ x ls h. h.1) d c
 
 unseen : (p : Look) (x : Lexeme) → unread p ≡ true → IsTrue (seen p x) → IsTrue (is_read x) → ⊥
 unseen p x u h r = not_both p reads u x.kind x.newline x.escaped h r
@@ -98,17 +76,17 @@ none (is_look {p = p} {ls = ls} q) h c = unseen p (here ls) h q (read_here ls c)
 none (is_text q) h c = false≢true h
 none (is_ahead d) h c = none d h c
 none is_empty_slot h c = false≢true h
-none (is_seq {a = a} {b = b} d e) h c = either (dead a) (dead b) h (λ q. none d q c) (λ q. none e q (stays d c))
-none (is_left {a = a} {b = b} d) h c = none d (both_no (dead a) (dead b) h).0 c
-none (is_right {a = a} {b = b} d) h c = none d (both_no (dead a) (dead b) h).1 c
+none (is_seq {a = a} {b = b} d e) h c = either_of (dead a) (dead b) h (λ q. none d q c) (λ q. none e q (stays d c))
+none (is_left {a = a} {b = b} d) h c = none d (and_parts (dead a) (dead b) h).0 c
+none (is_right {a = a} {b = b} d) h c = none d (and_parts (dead a) (dead b) h).1 c
 none (is_when q d) h c = none d h c
 none (is_many d) h c = false≢true h
 none (is_commas (is_seq d e)) h c = none d h c
-none (is_such {n = n} {l = l} {cs = cs} {ls = ls} d q) h c = either (dead_name n.name) (unread (first n)) h (λ z. none d (dead_line n z) c) (λ z. unseen (first n) (here ls) z (begins n (record { label = l; slots = cs }) d) (read_here ls c))
-none (is_marked {n = n} {l = l} {cs = cs} {ls = ls} d) h c = either (dead_name n.name) (unread (first n)) h (λ z. none d (dead_line n z) c) (λ z. unseen (first n) (here ls) z (begins n (record { label = l; slots = cs }) d) (read_here ls c))
+none (is_such {n = n} {l = l} {cs = cs} {ls = ls} d q) h c = either_of (dead_name n.name) (unread (first n)) h (λ z. none d (dead_line n z) c) (λ z. unseen (first n) (here ls) z (begins n (record { label = l; slots = cs }) d) (read_here ls c))
+none (is_marked {n = n} {l = l} {cs = cs} {ls = ls} d) h c = either_of (dead_name n.name) (unread (first n)) h (λ z. none d (dead_line n z) c) (λ z. unseen (first n) (here ls) z (begins n (record { label = l; slots = cs }) d) (read_here ls c))
 none (is_node d) h c = none d h c
 none (is_ended q d e) h c = none d h c
-none (is_keep {a = a} {b = b} d e) h c = either (dead a) (dead b) h (λ q. none d q c) (λ q. none e q (stays d c))
+none (is_keep {a = a} {b = b} d e) h c = either_of (dead a) (dead b) h (λ q. none d q c) (λ q. none e q (stays d c))
 none (is_kept q) h c = false≢true h
 
 pub fails_dead : {t : List ℕ} {X : Test} {ks : Slots} {s : ℕ} (g : G) → dead g ≡ true → Fails rule (Lex t) X ks g s

@@ -4,7 +4,7 @@ use Rattle.std.proofs.lemmas.Bool.{false≢true, and_parts, and_from, or_left, o
 use Rattle.js_base.specs.declared.kind.Kind.{Kind}
 use Rattle.js_base.specs.declared.kind.Kind.TheVariants.{Ident, PrivateIdentifier}
 use Rattle.js_base.specs.declared.token.Token.{Token}
-use Rattle.js_base.specs.Kinds.{same_kind, one_of_kinds}
+use Rattle.js_base.specs.Kinds.{same_kind, one_of_kinds, every_kind}
 use Rattle.js_base.specs.KindSets.{identifier_name_kinds}
 use Rattle.js_base.specs.Texts.{words}
 use Rattle.js_base.proofs.KindLemmas.{kind_of_same}
@@ -12,7 +12,6 @@ use Rattle.js_grammar.specs.Grammar.{Lexeme, Look}
 use Rattle.js_grammar.specs.Lexemes.{is_word}
 use Rattle.js_grammar.specs.Names.{has_backslash}
 use Rattle.js_grammar.specs.Productions.{Flags}
-use Rattle.js_grammar.specs.Pruning.{every_kind}
 use Rattle.js_grammar.proofs.Looks.{covers, covered}
 use Rattle.js_cursor.specs.js_lex.Reading.{Tells, is_right_angle}
 use Rattle.js_cursor.specs.Parsers.{Parser}

@@ -1,5 +1,5 @@
 -- The faults that the lexer keeps with a token are those of what stands at its place.
-use Rattle.std.proofs.Common.{ℕ, ◌+◌, ◌≡◌, Bool, true, false, not, ◌||◌, List, [], ◌∷◌, ◌++◌, None, refl, sym, ap, subst}
+use Rattle.std.proofs.Common.{ℕ, ◌+◌, ◌≡◌, Bool, true, false, not, ◌||◌, List, [], ◌∷◌, ◌++◌, None, refl, sym, subst}
 use Rattle.std.proofs.lemmas.Bool.{false≢true, and_parts, and_from}
 use Rattle.js_base.specs.declared.diagnostic.Diagnostic.{Diagnostic}
 use Rattle.js_base.specs.declared.kind.Kind.{Kind}
@@ -9,11 +9,12 @@ use Rattle.js_base.specs.Kinds.{one_of_kinds, same_kind}
 use Rattle.js_grammar.specs.Characters.{width}
 use Rattle.js_grammar.specs.Grammar.{Lexeme}
 use Rattle.js_grammar.specs.Trivia.{is_html_comment, lack_html_comments}
-use Rattle.js_grammar.specs.RegularExpressions.{flags, flags_pass}
+use Rattle.js_grammar.specs.RegularExpressions.{flags}
 use Rattle.js_grammar.specs.Lexemes.{division}
 use Rattle.js_grammar.specs.Lexed.{Lex as StandsBehind, Passing, in_script, in_module, all_faults, passing_of, comments_pass, flags_right}
 use Rattle.js_grammar.specs.Settings.{Goal}
 use Rattle.js_grammar.proofs.Alike.{stands-same}
+use Rattle.js_grammar.proofs.CoreLexed.{flags-none}
 use Rattle.js_cursor.specs.js_lex.Comments.{each_at, html_fault_at, span_at}
 use Rattle.js_base.specs.declared.diagnostic.DiagnosticKind.TheVariants.{HtmlCommentInModule}
 use Rattle.js_cursor.specs.js_lex.Reading.{cut, in_a_module, GivesNext, GivesNone, GivesLexeme}
@@ -64,12 +65,6 @@ none_kept in_module b ps s q h = subst (λ (v : Bool). each_at (html_fault_at v)
 none_kept in_script b ps s q h = subst (λ (v : Bool). each_at (html_fault_at v) s ps ≡ []) (sym q) (never_kept ps s)
 none_kept all_faults b ps s q h = subst (λ (v : Bool). each_at (html_fault_at v) s ps ≡ []) (sym q) (never_kept ps s)
 
--- of what is no regular expression no flag is wrong
-pub no_flags : (m : Passing) (k : Kind) (w : List ℕ) → same_kind RegExp k ≡ false → flags_right m k w ≡ true
-no_flags all_faults k w h = refl
-no_flags in_script k w h = ap (λ (b : Bool). not b || flags_pass (flags w)) h
-no_flags in_module k w h = ap (λ (b : Bool). not b || flags_pass (flags w)) h
-
 -- nor is one of the plain lexical goal
 no_pattern : (k : Kind) → one_of_kinds other_goals k ≡ false → same_kind RegExp k ≡ false
 no_pattern k n = go (same_kind RegExp k) n
@@ -95,7 +90,7 @@ module _ {old new : State} {t : Token} (g : GivesNext division old new t) where
           let h = both_none _ g.faults e in
           let same = stands-same g.stands l.0.stands in
           let c : comments_pass (passing_of old.goal) g.pieces ≡ true = comments_right (passing_of old.goal) (in_a_module old.goal) g.pieces old.place refl h.0 in
-          (passing_so l.0 (subst (λ (ps : List (List ℕ)). comments_pass (passing_of old.goal) ps ≡ true) same.pieces c) (no_flags (passing_of old.goal) y.kind l.0.word (no_pattern y.kind r)), l.1)
+          (passing_so l.0 (subst (λ (ps : List (List ℕ)). comments_pass (passing_of old.goal) ps ≡ true) same.pieces c) (flags-none (passing_of old.goal) y.kind l.0.word (no_pattern y.kind r)), l.1)
 
       wrong : (each_at (html_fault_at (in_a_module old.goal)) old.place g.pieces ++ g.faults ≡ [] → ⊥) → (y : Lexeme) → Faultless old.goal old.text old.place y → ⊥
       wrong n y l = by (same_kind Undetermined t.kind) g.outcome

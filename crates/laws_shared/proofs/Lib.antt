@@ -2,6 +2,7 @@ pub mod Ahead
 pub mod Beginning
 pub mod Bracketed
 pub mod Characters
+pub mod Commas
 pub mod Contexts
 pub mod Dead
 pub mod Deeper

@@ -14,6 +14,7 @@ use Rattle.js_grammar.specs.FirstSets.{first}
 use Rattle.js_grammar.proofs.Looks.{covers, covered, apart, not_both}
 use Rattle.js_grammar.proofs.First.{FirstSets, starts}
 use Rattle.js_grammar.proofs.FirstRules.{fails_here}
+use Rattle.js_grammar.proofs.Finding.{either_of}
 use Rattle.js_cursor.specs.Parsers.{Parser}
 use Rattle.laws_shared.specs.Lexemes.{Lex, escaped_word, may_name, other_goals}
 use Rattle.laws_shared.specs.States.{At}
@@ -137,10 +138,6 @@ no_name_other true true = refl
 no_name_other true false = refl
 no_name_other false true = refl
 no_name_other false false = refl
-
-pub either_of : {F : Type 0} (a b : Bool) → (a || b) ≡ true → (a ≡ true → F) → (b ≡ true → F) → F
-either_of true b h f g = f refl
-either_of false b h f g = g h
 
 module _ {text : List ℕ} {o : Flags} {p : Parser} (a : At text o p) (f : Flags) where
   -- no name by these parameters stands here, and none of these kinds

@@ -3,7 +3,7 @@ use Rattle.std.proofs.Common.{ℕ, ◌≡◌, ◌<◌, max, List, [], ◌∷◌,
 use Rattle.std.proofs.lemmas.Bool.{false≢true, and_parts, and_from, not-true}
 use Rattle.js_base.specs.declared.kind.Kind.{Kind}
 use Rattle.js_base.specs.declared.kind.Kind.TheVariants.{RAngle}
-use Rattle.js_base.specs.Kinds.{same_kind, one_of_kinds}
+use Rattle.js_base.specs.Kinds.{same_kind, one_of_kinds, every_kind}
 use Rattle.js_base.proofs.KindLemmas.{kind_of_same}
 use Rattle.js_grammar.specs.Trees.{Slots, end, tree, Label, Op, NodeKind}
 use Rattle.js_grammar.specs.Grammar.{Lexeme, Lexemes, Look, seen, exact, is, here, lexeme, next, seq, such, nothing}
@@ -12,7 +12,6 @@ use Rattle.js_grammar.specs.Parsing.{still, passing, Test, plain, behind, full, 
 use Rattle.js_grammar.specs.Productions.{G, Flags, Symbol, tok, make}
 use Rattle.js_grammar.specs.Table.{rule}
 use Rattle.js_grammar.specs.FirstSets.{first}
-use Rattle.js_grammar.specs.Pruning.{every_kind}
 use Rattle.js_grammar.specs.Follow.{surest, after}
 use Rattle.js_grammar.proofs.Lexemes.{first_or}
 use Rattle.js_grammar.proofs.Looks.{covers, covered, same_self, apart, not_both}
@@ -27,7 +26,7 @@ pub use Rattle.laws_shared.specs.Paths.{Path}
 use Rattle.laws_shared.specs.Lexemes.{Lex, Walked, Spot, spot, nowhere, one_more, read_again, more_faults, is_read, other_goals, signs, signs_of, is_read_kind}
 use Rattle.laws_shared.specs.States.{At}
 use Rattle.laws_shared.specs.Moves.{Moved}
-use Rattle.laws_shared.specs.Answers.{Verdict, clean, Stretch, Answer}
+use Rattle.laws_shared.specs.Answers.{clean, Stretch, Answer}
 use Rattle.laws_shared.proofs.Here.{alike_plain, angled, begins_here, kind_here, no_other, sign_here, told_plain, uncut, unsettled}
 use Rattle.laws_shared.proofs.Verdicts.{verdict_of, either_way, and_then}
 

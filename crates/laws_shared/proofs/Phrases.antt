@@ -13,12 +13,12 @@ use Rattle.js_grammar.specs.Productions.{sym as symbol}
 use Rattle.js_grammar.specs.Table.{rule, rule_of}
 use Rattle.js_grammar.specs.Follow.{edge_of, row_of, follow, after}
 use Rattle.js_grammar.specs.Insertion.{Row, after_expression, after_postfix, after_body, after_yield, after_declarator, after_word}
+use Rattle.js_grammar.specs.RightEdges.{same_row, of_operand, of_assignment, may_end}
 use Rattle.js_grammar.proofs.Looks.{covers, apart}
 use Rattle.js_grammar.proofs.Calculus.{◌▹◌, ◌▹✗◌, left, by_rule, weaken_on, weaken_fails_on, fails_alt, fails_when}
 use Rattle.laws_shared.proofs.Giving.{fails_unescaped}
 use Rattle.laws_shared.specs.Operators.{unary_kinds}
 use Rattle.laws_shared.proofs.Verdicts.{verdict_of}
-use Rattle.js_grammar.proofs.RightEdges.{may_end, of_operand, of_assignment, same_row}
 use Rattle.js_grammar.proofs.FollowLaws.{passes_on, same_read, fails_by}
 use Rattle.js_cursor.specs.js_tree.declared.id.NodeId.{NodeId}
 use Rattle.js_cursor.specs.Parsers.{Parser}

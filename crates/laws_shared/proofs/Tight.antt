@@ -10,7 +10,7 @@ use Rattle.js_grammar.specs.Insertion.{Row, after_expression, after_postfix, aft
 use Rattle.js_grammar.specs.Follow.{tight, looser}
 use Rattle.js_grammar.specs.Levels.{operators_of, node_at, binds as binding}
 use Rattle.js_grammar.specs.Trees.{binary_expression, logical_expression}
-use Rattle.js_grammar.proofs.RightEdges.{of_operand}
+use Rattle.js_grammar.specs.RightEdges.{of_operand}
 use Rattle.js_grammar.proofs.Looks.{covers, covered}
 use Rattle.js_grammar.proofs.Towers.{OneOf, head, later}
 use Rattle.laws_shared.specs.Lexemes.{Lex, Plain, is_plain, is_read, other_goals, is_read_kind}

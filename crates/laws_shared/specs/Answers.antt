@@ -6,9 +6,9 @@ use Rattle.js_grammar.specs.Trees.{Slots, end as no_slots, tree, Label}
 use Rattle.js_grammar.specs.Grammar.{Lexeme, Lexemes, Look, seen, such, nothing}
 use Rattle.js_grammar.specs.Follow.{edge_of, row_of, follow, after, on_line}
 use Rattle.js_grammar.specs.Parsing.{Test, Goes, Fails, always}
-use Rattle.js_grammar.proofs.RightEdges.{may_end}
 use Rattle.js_grammar.specs.Productions.{G, Flags, Symbol}
 use Rattle.js_grammar.specs.Table.{rule}
+use Rattle.js_grammar.specs.RightEdges.{may_end}
 use Rattle.js_cursor.specs.js_tree.declared.id.NodeId.{NodeId}
 use Rattle.js_cursor.specs.js_tree.Holding.{Holds, Keeps}
 use Rattle.js_cursor.specs.Checkpoints.{Follows}

@@ -6,11 +6,10 @@ use Rattle.js_base.specs.declared.span.Span.{Span}
 use Rattle.js_base.specs.declared.diagnostic.Diagnostic.{Diagnostic}
 use Rattle.js_base.specs.declared.diagnostic.DiagnosticKind.TheVariants.{V8IntrinsicSpreadElem}
 use Rattle.js_grammar.specs.Trees.{Label, Slots, end, tree, append}
-use Rattle.js_grammar.specs.Grammar.{Lexemes, seq, such, commas, nothing}
+use Rattle.js_grammar.specs.Grammar.{Lexemes, seq, such, commas, nothing, after_item}
 use Rattle.js_grammar.specs.Parsing.{Test, plain, full, always, Fails}
 use Rattle.js_grammar.specs.Productions.{G, Flags, Symbol, at, tok, parens, opt, plus_in, Argument, Assignment}
 use Rattle.js_grammar.specs.Table.{rule}
-use Rattle.js_grammar.proofs.Calculus.{after_item}
 use Rattle.js_cursor.specs.js_tree.declared.id.NodeId.{NodeId}
 use Rattle.js_cursor.specs.js_tree.Holding.{Holds, HoldsAll, Keeps}
 use Rattle.js_cursor.specs.Parsers.{Parser}

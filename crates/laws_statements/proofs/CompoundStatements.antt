@@ -35,26 +35,25 @@ use Rattle.laws_shared.specs.js_tree.Nodes.{Node}
 use Rattle.laws_shared.specs.js_tree.Holding.{Holds, HoldsAll, Keeps}
 use Rattle.laws_shared.proofs.js_tree.HoldingLemmas.{Holds-kept, HoldsAll-append, HoldsAll-hole, HoldsAll-one, HoldsAll-two, Keeps-made, Keeps-trans}
 use Rattle.laws_shared.specs.js_lex.Reading.{is_right_angle}
-use Rattle.laws_shared.specs.js_cursor.Moves.{Eats, Expects, IsKind, MovesOn, OnlyMemory}
+use Rattle.laws_shared.specs.js_cursor.Moves.{Eats, Expects, IsKind, OnlyMemory}
 use Rattle.laws_shared.specs.js_cursor.Parsers.{Parser}
 use Rattle.laws_shared.specs.js_cursor.declared.stop.Stop.{Stop}
 use Rattle.laws_shared.specs.js_cursor.declared.stop.Stop.TheVariants.{Fatal, NoMemory}
 use Rattle.laws_shared.specs.Answers.{Answer, Grown, Numbered, Stops, Underived}
 use Rattle.laws_shared.specs.Lexemes.{Lex, other_goals, is_read_kind}
-use Rattle.laws_shared.specs.Moves.{IsWholeHere, Moved, Moves, MadeHere, plain_label, unpassable}
+use Rattle.laws_shared.specs.Moves.{IsWholeHere, Moved, Moves, MadeHere, plain_label}
 use Rattle.laws_shared.specs.Stands.{StandsHere}
 use Rattle.laws_shared.specs.States.{At, Same}
 use Rattle.laws_shared.specs.Statements.{placed, no_link, after_statement, NoStatement, Statement, TakesStatement}
 use Rattle.laws_statements.specs.CompoundStatements.{HeadsHere, NoParens, ParensTaken, TakesAlternate, in_parens}
-use Rattle.laws_shared.proofs.Classes.{here_ends}
-use Rattle.laws_shared.proofs.Giving.{gives_up}
 use Rattle.laws_shared.proofs.Here.{escaped_here, kind_here}
 use Rattle.laws_shared.proofs.MadeNodes.{node_held, one_lies, two_held}
-use Rattle.laws_shared.proofs.Moving.{moves, same_both, same_itself, stops_behind}
+use Rattle.laws_shared.proofs.Moving.{same_both, same_itself, stops_behind}
 use Rattle.laws_shared.proofs.Paths.{Path, ◌⟼◌, ◌⟶◌, ◌⟶✗◌, at_kind, called, fails_at, label_here, last_token, noded, noded_by, read_of, token}
-use Rattle.laws_shared.proofs.Signs.{none_seen, NoneIs, plain_sign, stands_not, whole_sign}
+use Rattle.laws_shared.proofs.Signs.{none_seen, NoneIs, plain_sign, stands_not}
 use Rattle.laws_shared.proofs.Verdicts.{either_way, grown_then, verdict_of}
 use Rattle.laws_shared.proofs.Verdicts.{after as grown_behind}
+use Rattle.laws_shared.proofs.Expected.{unexpected, expected}
 use Rattle.laws_statements.proofs.Labels.{behind_label, on_label}
 use Rattle.laws_statements.proofs.Statements.{Ended, by_statement, never_open, ◌⟝◌}
 use Rattle.laws_statements.proofs.WordStatements.{Alone, alone_fails, alone_path, word_here}
@@ -88,17 +87,8 @@ module _ {text : List ℕ} {f : Flags} {p : Parser} (a : At text f p) where
   pub no_token : {X : Test} {g : G} (k : Kind) → (is_right_angle k || one_of_kinds other_goals k) ≡ false → StandsHere p k false → Fails rule (Lex text) X end (tok k ▸ g) p.prev_token_end
   no_token k n s = then_fails (fails_lexeme (is k) (none_seen (stands_not a n s)))
 
-  -- which was told
-  pub unexpected : {F : Type 0} (k : Kind) (q : Parser) (e : Stop) → Expects (IsKind k) ExpectToken None p q (Err e) → (StandsHere p k false → F) → Stops p q e F
-  unexpected k q Fatal x h = gives_up _ p q Fatal a x.1 (here_ends ExpectToken refl) (h (λ i j. x.0 refl (i, j)))
-  unexpected k q NoMemory x h = tt
-
   pub no_parens : StandsHere p kind.LParen false → NoParens text f p.prev_token_end
   no_parens n = no_token kind.LParen refl n
-
-  -- or it was passed
-  pub expected : (k : Kind) {q : Parser} → IsKind k p → MovesOn p q → same_kind kind.RAngle k ≡ false → unpassable k ≡ false → Moved text f p q
-  expected k i m r l = moves (whole_sign k a i.0 r l) m a
 
 -- ---- an Expression in parentheses
 

@@ -16,30 +16,31 @@ use Rattle.laws_shared.specs.js_cursor.declared.stop.Stop.{Stop}
 use Rattle.laws_shared.proofs.js_cursor.Later.{follows_on}
 use Rattle.laws_shared.proofs.js_cursor.Changing.{ctx_set}
 use Rattle.laws_shared.specs.Answers.{Stops}
-use Rattle.laws_shared.specs.Heads.{widened}
 use Rattle.laws_shared.specs.Lexemes.{Lex}
-use Rattle.laws_shared.specs.States.{At, IsPlain, whole, sign, nothing, flags_of}
+use Rattle.laws_shared.specs.States.{At}
 use Rattle.laws_shared.proofs.Moving.{flags_same, stops_later}
 use Rattle.laws_shared.proofs.Verdicts.{verdict_of}
+use Rattle.laws_shared.proofs.Contexts.{at_under}
+use Rattle.laws_shared.proofs.FreeOfIn.{ButIn, class_of, but_in}
 use Rattle.laws_statements.specs.declared.forms.Ending.{Ending}
 use Rattle.laws_statements.specs.declared.forms.Ending.TheVariants as ending
 use Rattle.laws_statements.specs.ForHeads.{FirstTaken, NoFirstPart, end_kind, first_part}
 use Rattle.laws_statements.proofs.ForHeads.{last_between}
-use Rattle.laws_statements.proofs.BindingsFreeOfIn.{ButIn, class_of, but_in, any_in_like}
+use Rattle.laws_statements.proofs.BindingsFreeOfIn.{free, any_in_like}
 
 -- ---- the parts
 
-first_inside : (w : Bool) (e : Ending) (f : Flags) → Like ButIn (first_part w e f) (first_part w e (minus_in f))
-first_inside w ending.Semicolon f = alike_by class_of ButIn but_in (first_part w ending.Semicolon f) (first_part w ending.Semicolon (minus_in f)) refl
-first_inside w ending.In f = alike_by class_of ButIn but_in (first_part w ending.In f) (first_part w ending.In (minus_in f)) refl
-first_inside true ending.Of f = alike_by class_of ButIn but_in (first_part true ending.Of f) (first_part true ending.Of (minus_in f)) refl
-first_inside false ending.Of f = alike_by class_of ButIn but_in (first_part false ending.Of f) (first_part false ending.Of (minus_in f)) refl
+first_inside : (w : Bool) (e : Ending) (f : Flags) → Like (ButIn free) (first_part w e f) (first_part w e (minus_in f))
+first_inside w ending.Semicolon f = alike_by (class_of free) (ButIn free) (but_in free) (first_part w ending.Semicolon f) (first_part w ending.Semicolon (minus_in f)) refl
+first_inside w ending.In f = alike_by (class_of free) (ButIn free) (but_in free) (first_part w ending.In f) (first_part w ending.In (minus_in f)) refl
+first_inside true ending.Of f = alike_by (class_of free) (ButIn free) (but_in free) (first_part true ending.Of f) (first_part true ending.Of (minus_in f)) refl
+first_inside false ending.Of f = alike_by (class_of free) (ButIn free) (but_in free) (first_part false ending.Of f) (first_part false ending.Of (minus_in f)) refl
 
-first_back : (w : Bool) (e : Ending) (f : Flags) → Like ButIn (first_part w e (minus_in f)) (first_part w e f)
-first_back w ending.Semicolon f = alike_by class_of ButIn but_in (first_part w ending.Semicolon (minus_in f)) (first_part w ending.Semicolon f) refl
-first_back w ending.In f = alike_by class_of ButIn but_in (first_part w ending.In (minus_in f)) (first_part w ending.In f) refl
-first_back true ending.Of f = alike_by class_of ButIn but_in (first_part true ending.Of (minus_in f)) (first_part true ending.Of f) refl
-first_back false ending.Of f = alike_by class_of ButIn but_in (first_part false ending.Of (minus_in f)) (first_part false ending.Of f) refl
+first_back : (w : Bool) (e : Ending) (f : Flags) → Like (ButIn free) (first_part w e (minus_in f)) (first_part w e f)
+first_back w ending.Semicolon f = alike_by (class_of free) (ButIn free) (but_in free) (first_part w ending.Semicolon (minus_in f)) (first_part w ending.Semicolon f) refl
+first_back w ending.In f = alike_by (class_of free) (ButIn free) (but_in free) (first_part w ending.In (minus_in f)) (first_part w ending.In f) refl
+first_back true ending.Of f = alike_by (class_of free) (ButIn free) (but_in free) (first_part true ending.Of (minus_in f)) (first_part true ending.Of f) refl
+first_back false ending.Of f = alike_by (class_of free) (ButIn free) (but_in free) (first_part false ending.Of (minus_in f)) (first_part false ending.Of f) refl
 
 module _ {text : List ℕ} (w : Bool) (e : Ending) (f : Flags) where
   inside : {X : Test} {s : ℕ} → Goes rule (Lex text) X end (first_part w e f) s (first_part w e (minus_in f)) s (λ us. us) (still 0)
@@ -51,14 +52,6 @@ module _ {text : List ℕ} (w : Bool) (e : Ending) (f : Flags) where
 -- ---- the states
 
 module _ {text : List ℕ} where
-  plain_under : {p : Parser} (c : Context) → IsPlain text p → IsPlain text (record p { ctx = c })
-  plain_under c (whole d n x) = whole d n x
-  plain_under c (sign d k x) = sign d k x
-  plain_under c (nothing d k n) = nothing d k n
-
-  at_under : {f g : Flags} {p : Parser} (c : Context) → widened g.wide (flags_of (record p { ctx = c })) ≡ g → At text f p → At text g (record p { ctx = c })
-  at_under c e a = record { text_is = a.text_is; flags_are = e; at = (ctx_set c a.at).1; plain = plain_under c a.plain; behind = a.behind; heads = a.heads; kept_last = a.kept_last }
-
   out_of : {f : Flags} {w : Bool} {p q : Parser} {c : Context} {first : Option NodeId} → At text f p → FirstTaken text (minus_in f) w (record p { ctx = c }) q first → FirstTaken text f w p (record q { ctx = p.ctx }) first
   out_of {f} {w} {p} {q} {c} a x = record {
     at = at_under p.ctx (flags_same p (record q { ctx = p.ctx }) refl x.same.follows.source_type x.same.options ∙ a.flags_are) x.at;

@@ -47,7 +47,8 @@ use Rattle.laws_shared.proofs.Paths.{Path, ◌⟶◌, ◌⟶✗◌, fails_at, la
 use Rattle.laws_shared.proofs.Signs.{plain_sign, stands_not, none_seen}
 use Rattle.laws_shared.proofs.Verdicts.{and_then, behind_none, either_way, grown_then, verdict_of}
 use Rattle.laws_shared.proofs.Verdicts.{after as grown_behind}
-use Rattle.laws_statements.proofs.CompoundStatements.{no_token, unexpected}
+use Rattle.laws_shared.proofs.Expected.{unexpected}
+use Rattle.laws_statements.proofs.CompoundStatements.{no_token}
 
 -- ---- which lexeme stands there
 

@@ -53,7 +53,7 @@ use Rattle.laws_shared.proofs.Paths.{Path, ◌⟶◌, ◌⟶✗◌, at_kind, tok
 use Rattle.laws_shared.proofs.Told.{told_at, told_same}
 use Rattle.laws_shared.proofs.Verdicts.{after as grown_behind, grown_then, verdict_of}
 use Rattle.laws_statements.proofs.Statements.{◌⟝◌, by_such_statement, closer_here, closes_here, closes_or_line, end_path, ended_so, never_open, no_close, no_symbol, unended}
-use Rattle.laws_statements.proofs.WordStatements.{Alone, alone_path, closing, ends_so, still_unlinked, unlinked}
+use Rattle.laws_statements.proofs.WordStatements.{Alone, alone_path, closing, ends_so, still_unlinked, unlinked, same_line}
 
 abbrev return_slots : Flags → G
 return_slots f = tok kind.Return ▸ slot (no_newline ▸ symbol Expression f)
@@ -124,13 +124,6 @@ module _ {text : List ℕ} {f : Flags} {q : Parser} (a : At text f q) where
     where
       go : {ts vs : Slots} {k : ℕ} {ls rest : Lexemes} → Lexes (Lex text) q.prev_token_end ls → Takes rule empty_slot end ts q.prev_token_end ls vs k rest → Admits (behind_return f) ts (here rest) → ⊥
       go l (is_empty_slot {ls = ls}) e = no_close a m (here ls) (here_at (Lex text) ls l) e.1
-
-  same_line : (MayEnd q → ⊥) → q.token.is_on_new_line ≡ false
-  same_line m = go q.token.is_on_new_line refl
-    where
-      go : (b : Bool) → q.token.is_on_new_line ≡ b → q.token.is_on_new_line ≡ false
-      go true e = absurd (m (inr e))
-      go false e = e
 
 module _ {text : List ℕ} {f : Flags} {p q : Parser} (a : At text f p) (h : StandsHere p kind.Return true) (m : Moved text f p q) where
   passed : {X : Test} {g : G} → Path text f X (tok kind.Return ▸ g) p g q (λ us. us)

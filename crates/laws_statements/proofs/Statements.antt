@@ -37,6 +37,7 @@ use Rattle.js_grammar.proofs.RightEdges.{at_row}
 use Rattle.js_grammar.proofs.First.{starts, starting}
 use Rattle.js_grammar.proofs.FirstClaims.{firsts}
 use Rattle.js_grammar.proofs.FirstRules.{fails_here}
+use Rattle.js_grammar.proofs.Finding.{either_of}
 use Rattle.js_grammar.specs.FirstSets.{first}
 use Rattle.laws_shared.specs.js_tree.declared.id.NodeId.{NodeId}
 use Rattle.laws_shared.specs.js_tree.declared.kind.NodeKind.TheVariants as node
@@ -45,13 +46,13 @@ use Rattle.laws_shared.specs.js_tree.Nodes.{Node}
 use Rattle.laws_shared.specs.js_tree.Holding.{Holds, Keeps}
 use Rattle.laws_shared.proofs.js_tree.HoldingLemmas.{Keeps-refl, Keeps-trans, Keeps-made}
 use Rattle.laws_shared.specs.js_cursor.Parsers.{Parser}
-use Rattle.laws_shared.specs.js_cursor.Moves.{MayEnd, EndsOr, GivesUp, IsUnexpected, OnlyMemory, ends_statement}
+use Rattle.laws_shared.specs.js_cursor.Moves.{MayEnd, OnlyMemory, ends_statement}
 use Rattle.laws_shared.specs.js_cursor.declared.stop.Stop.{Stop}
 use Rattle.laws_shared.specs.js_cursor.declared.stop.Stop.TheVariants.{Fatal, NoMemory}
 use Rattle.laws_shared.specs.Lexemes.{Lex, may_name, other_goals, signs_of, slashes, template_tails, Plain, keyword_kind, is_read_kind}
 use Rattle.laws_shared.specs.States.{At, Same, NodesLie}
 use Rattle.laws_shared.specs.Moves.{IsWholeHere, Moved, MadeHere, LeafTaken, TakesLeaf, plain_label, unpassable}
-use Rattle.laws_shared.specs.Answers.{Underived, Answer, Numbered, Stops, beside}
+use Rattle.laws_shared.specs.Answers.{Underived, Answer, Numbered, beside}
 use Rattle.laws_shared.specs.Statements.{placed, link_kinds, statement_kinds, no_link, after_statement, Closed, NoStatement, Statement, StatementOutcome, EndsStatement, NoEnd, IsLabel}
 use Rattle.parse_declarations.specs.Declarations.{stops_row}
 use Rattle.laws_shared.proofs.Verdicts.{verdict_of, either_way}
@@ -65,11 +66,8 @@ use Rattle.laws_shared.proofs.Paths.{begins_by, reads, Path, ◌⟼◌, ◌⟶�
 use Rattle.laws_shared.proofs.Escapes.{read_plain, keyword_plain, plain_or_word}
 use Rattle.laws_shared.proofs.Tight.{plain_so}
 use Rattle.laws_statements.proofs.Strings.{name_node, name_expression}
-use Rattle.laws_shared.proofs.Giving.{gives_up, gives_up_here, fails_at_word}
-use Rattle.laws_shared.proofs.Classes.{here_ends}
-use Rattle.js_base.specs.declared.diagnostic.DiagnosticKind.TheVariants.{ExpectToken}
+use Rattle.laws_shared.proofs.Giving.{fails_at_word}
 use Rattle.laws_shared.proofs.Slashes.{sign_there}
-use Rattle.laws_shared.proofs.NamedFirsts.{either_of}
 use Rattle.parse_declarations.specs.laws_primary.declared.forms.FunctionForm.TheVariants.{Declaration}
 use Rattle.parse_declarations.specs.laws_primary.Functions.{function_line}
 use Rattle.parse_declarations.proofs.laws_primary.Functions.{none_left}

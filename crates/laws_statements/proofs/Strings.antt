@@ -10,6 +10,7 @@ use Rattle.js_grammar.specs.Productions.{G, Flags, Name, Symbol, Item, ListItem,
 use Rattle.js_grammar.specs.Productions.{sym as symbol}
 use Rattle.js_grammar.specs.Table.{rule, rule_of, string}
 use Rattle.js_grammar.proofs.Looks.{covers, covered}
+use Rattle.js_grammar.proofs.Finding.{holds_if}
 
 abbrev pub is_literal : NodeKind → Bool
 is_literal string_literal = true
@@ -152,17 +153,13 @@ one_lexeme _ d h = absurd (false≢true h)
 by_node : (m : Make) (a : G) {ks cs us : Slots} {i j : ℕ} {ls rest : Lexemes} → Takes rule a ks cs i ls end j rest → is_string_node m ≡ true → takes_string a ≡ true → Takes rule string ks (tree (label_of m ls j rest) cs us) i ls us j rest
 by_node m a {ks} {cs} {us} {i} {j} {ls} {rest} d h t = subst (λ (v : Make). Takes rule string ks (tree (label_of v ls j rest) cs us) i ls us j rest) (sym (node_is m h)) (one_lexeme a d t)
 
-second : (a b : Bool) → (not a || b) ≡ true → a ≡ true → b ≡ true
-second true b h e = h
-second false b h e = absurd (false≢true e)
-
 -- An expression that is a string is that alone.
 pub alone : (g : G) {ks ts us : Slots} {i j : ℕ} {ls rest : Lexemes} → Takes rule g ks ts i ls us j rest → simple g ≡ true → string_first ts ≡ true → Takes rule string ks ts i ls us j rest
 alone (alt a b) (is_left d) h q = alone a d (and_parts (simple a) (simple b) h).0 q
 alone (alt a b) (is_right d) h q = alone b d (and_parts (simple a) (simple b) h).1 q
 alone (when c a) (is_when t d) h q = alone a d h q
 alone (such n c) (is_such d t) h q = restacked (alone (rule n) d (simple_line n h) q)
-alone (node m a) (is_node d) h q = let z = and_parts (is_string_node m) (takes_string a) (second (is_literal m.kind) _ h q) in by_node m a d z.0 z.1
+alone (node m a) (is_node d) h q = let z = and_parts (is_string_node m) (takes_string a) (holds_if (is_literal m.kind) _ h q) in by_node m a d z.0 z.1
 alone _ d h q = absurd (false≢true h)
 
 pub string_alone : {f : Flags} {ks ts us : Slots} {i j : ℕ} {ls rest : Lexemes} → Takes rule (symbol Expression f) ks ts i ls us j rest → string_first ts ≡ true → Takes rule string ks ts i ls us j rest
@@ -377,7 +374,7 @@ stated (such n c) (is_such d t) h q = stated (rule n) d (stating_line n h) q
 stated (node m a) (is_node {cs = cs} {j = j} {ls = ls} {rest = rest} d) h q =
     let l = label_of m ls j rest in
     let z = parts_of m.kind m.op m.flags l.span cs (not-true _ q) in
-    ended_string a d (second (is_statement m.kind) _ h z.0) z.1
+    ended_string a d (holds_if (is_statement m.kind) _ h z.0) z.1
 stated (keep a b) (is_keep d e) h q = absurd (never_stated b e h q)
 stated _ d h q = absurd (false≢true h)
 

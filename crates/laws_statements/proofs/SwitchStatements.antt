@@ -62,8 +62,9 @@ use Rattle.laws_shared.proofs.Signs.{plain_sign}
 use Rattle.laws_shared.proofs.Told.{lexeme_marked, told_at, told_same}
 use Rattle.laws_shared.proofs.Verdicts.{either_way, grown_both, grown_on, grown_then, verdict_of}
 use Rattle.laws_shared.proofs.Verdicts.{after as grown_behind}
+use Rattle.laws_shared.proofs.Expected.{unexpected}
 use Rattle.laws_statements.proofs.Blocks.{at_brace, none_told, then_some}
-use Rattle.laws_statements.proofs.CompoundStatements.{no_token, parens_read, then_fails, then_part, unexpected}
+use Rattle.laws_statements.proofs.CompoundStatements.{no_token, parens_read, then_fails, then_part}
 use Rattle.laws_statements.proofs.StatementLists.{none_left, none_taken, one_taken_more, taken_so, uncleanly, unrolled}
 use Rattle.laws_statements.proofs.Statements.{by_statement, never_open, ◌⟝◌}
 use Rattle.laws_statements.proofs.TryStatements.{past_hole, then_between}

@@ -27,6 +27,7 @@ use Rattle.js_grammar.proofs.Calculus.{Heads, ◌▹◌, ◌▹✗◌, left, rig
 use Rattle.js_grammar.proofs.FirstClaims.{firsts}
 use Rattle.js_grammar.proofs.FirstRules.{fails_here}
 use Rattle.js_grammar.proofs.FollowLaws.{expression_ended}
+use Rattle.js_grammar.proofs.Finding.{either_of}
 use Rattle.laws_shared.specs.js_tree.declared.id.NodeId.{NodeId}
 use Rattle.laws_shared.specs.js_tree.declared.kind.NodeKind.{NodeKind}
 use Rattle.laws_shared.specs.js_tree.declared.kind.NodeKind.TheVariants as node
@@ -44,7 +45,7 @@ use Rattle.laws_shared.specs.js_cursor.declared.stop.Stop.TheVariants.{Fatal, No
 use Rattle.laws_shared.specs.Answers.{Grown, Underived, Numbered, Stops, unclean}
 use Rattle.laws_shared.specs.Lexemes.{Lex, Walked, nowhere, spot, may_name, is_read_kind}
 use Rattle.laws_shared.specs.Stands.{NameHere, StandsHere}
-use Rattle.laws_shared.proofs.NamedFirsts.{fails_unnamed, either_of}
+use Rattle.laws_shared.proofs.NamedFirsts.{fails_unnamed}
 use Rattle.laws_shared.proofs.NameKinds.{listed_here, name_at, a_name}
 use Rattle.laws_shared.specs.Moves.{IsWholeHere, LeafTaken, Moved, MadeHere, plain_label}
 use Rattle.laws_shared.specs.States.{At, Same}
@@ -207,7 +208,7 @@ module _ {text : List ℕ} {f : Flags} {q : Parser} (a : At text f q) where
   no_gap : (MayEnd q → ⊥) → Fails rule (Lex text) (plain closes_or_line) end empty_slot q.prev_token_end
   no_gap m = fails_here firsts (λ y l h. no_close a m y l h)
 
-  same_line : (MayEnd q → ⊥) → q.token.is_on_new_line ≡ false
+  pub same_line : (MayEnd q → ⊥) → q.token.is_on_new_line ≡ false
   same_line m = go q.token.is_on_new_line refl
     where
       go : (b : Bool) → q.token.is_on_new_line ≡ b → q.token.is_on_new_line ≡ false

@@ -1,11 +1,9 @@
 -- The declarators of a declaration (ECMA-262, 14.3.1, 14.3.2), with commas between. What may stand behind the list is told by its last one, so each reading is of all of them up to that.
-use Rattle.std.proofs.Common.{ℕ, ◌≡◌, ◌<◌, ◌≤◌, ◌⊎◌, inl, inr, max, List, [], ◌∷◌, ◌++◌, length, Option, Some, Bool, true, false, not, IsTrue, refl, sym, ap, subst, arith, ◌∙◌}
+use Rattle.std.proofs.Common.{ℕ, ◌≡◌, ◌<◌, ◌≤◌, ◌⊎◌, inl, inr, max, List, [], ◌∷◌, ◌++◌, length, Option, Some, Bool, true, false, IsTrue, refl, sym, ap, subst, arith, ◌∙◌}
 use Rattle.std.specs.Prelude.{Ok}
-use Rattle.std.proofs.lemmas.Bool.{false≢true, and_from, and_parts, or_left, or_right}
+use Rattle.std.proofs.lemmas.Bool.{false≢true, or_left, or_right}
 use Rattle.js_base.specs.declared.diagnostic.Diagnostic.{Diagnostic}
-use Rattle.js_base.specs.declared.kind.Kind.{Kind}
 use Rattle.js_base.specs.declared.kind.Kind.TheVariants.{Comma}
-use Rattle.js_base.specs.Kinds.{same_kind}
 use Rattle.js_grammar.specs.Trees.{Label, Slots, end, tree, append}
 use Rattle.js_grammar.specs.Grammar.{Lexeme, Lexemes, next, here, seen, is, Takes, is_nothing, is_lexeme, is_seq, is_left, is_right, is_commas, is_node, ◌▸◌}
 use Rattle.js_grammar.specs.Insertion.{Row, after_word, edge}
@@ -14,7 +12,6 @@ use Rattle.js_grammar.specs.Parsing.{plain, full, passing, Goes}
 use Rattle.js_grammar.specs.Productions.{G, Flags, tok}
 use Rattle.js_grammar.specs.Table.{rule, declarator}
 use Rattle.js_grammar.specs.Follow.{row_of}
-use Rattle.js_grammar.proofs.Looks.{apart, not_both}
 use Rattle.js_grammar.proofs.Calculus.{here_at, passes_both, reaches_less}
 use Rattle.js_grammar.proofs.Frame.{append_assoc}
 use Rattle.js_grammar.proofs.RightEdges.{edge_append}
@@ -30,15 +27,14 @@ use Rattle.parse_shared.specs.laws_shared.Moves.{Moved}
 use Rattle.parse_shared.specs.laws_shared.Nesting.{room}
 use Rattle.parse_shared.specs.laws_shared.States.{At, Same, Standing, flags_of}
 use Rattle.parse_declarations.specs.Declarations.{AllOf, Declarator, Declarators, DeclaratorsRead, NoDeclarators, NoneOf, NoOne, One, OneDeclarator, ReadsOneDeclarator, ends_row, list_of, stops_row}
-use Rattle.parse_shared.proofs.laws_shared.Here.{kind_here}
 use Rattle.parse_shared.proofs.laws_shared.Moving.{same_both, same_itself, standing, stops_behind}
 use Rattle.parse_shared.proofs.laws_shared.Nesting.{later_room, nested_room}
-use Rattle.parse_shared.proofs.laws_shared.Paths.{not_here, skips, walked_both, walked_one}
-use Rattle.parse_shared.proofs.laws_shared.Signs.{other_kind, plain_sign}
-use Rattle.parse_shared.proofs.laws_shared.Escapes.{read_plain}
+use Rattle.parse_shared.proofs.laws_shared.Paths.{skips, walked_both, walked_one}
+use Rattle.parse_shared.proofs.laws_shared.Signs.{plain_sign}
 use Rattle.parse_shared.proofs.laws_shared.Verdicts.{and_then, either_way}
 use Rattle.parse_shared.proofs.laws_shared.Verdicts.{after as grown_behind}
 use Rattle.parse_shared.proofs.laws_shared.PlainSigns.{comma_plain}
+use Rattle.parse_shared.proofs.laws_shared.Commas.{commas_here, no_comma_here}
 
 -- behind a declarator
 abbrev others : Bool → Flags → G
@@ -108,13 +104,6 @@ module _ {text : List ℕ} {g g' : G} {s s' : ℕ} {x : Lexeme} (y : Goes rule (
 -- a comma
 comma_goes : {text : List ℕ} {f : Flags} (c : Bool) {p q : Parser} → At text f p → p.token.kind ≡ Comma → (m : Moved text f p q) → Goes rule (Lex text) (plain full) end (others c f) p.prev_token_end (list_of c f) q.prev_token_end (λ us. us) (passing m.lexeme)
 comma_goes c a k m = skips a Comma k (plain_sign Comma a k refl refl comma_plain) refl m
-
-commas_here : {text : List ℕ} {f : Flags} {q : Parser} → At text f q → q.token.kind ≡ Comma → (y : Lexeme) → Lex text q.prev_token_end y → IsTrue (seen (is Comma) y)
-commas_here a k y l = and_from _ _ (subst (λ (v : Kind). same_kind Comma v ≡ true) (sym (kind_here a k refl y l)) refl) (ap not (read_plain y l (kind_here a k refl y l) refl))
-
-no_comma_here : {text : List ℕ} {f : Flags} {q : Parser} → At text f q → (q.token.kind ≡ Comma → ⊥) → (y : Lexeme) → Lex text q.prev_token_end y → IsTrue (seen (is Comma) y) → ⊥
-unfolding apart
-no_comma_here {q = q} a n y l h = not_here a (Comma ∷ []) refl (other_kind Comma q.token.kind n) y l (or_left (same_kind Comma y.kind) false (and_parts (same_kind Comma y.kind) (not y.escaped) h).0)
 
 -- ---- the loop
 

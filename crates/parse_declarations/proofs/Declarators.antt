@@ -18,10 +18,12 @@ use Rattle.js_grammar.specs.Productions.{G, Flags, at, tok, Assignment, Binding,
 use Rattle.js_grammar.specs.Productions.{sym as symbol}
 use Rattle.js_grammar.specs.Table.{rule, rule_of, declarator}
 use Rattle.js_grammar.specs.Follow.{after, first_edge, looser, row_of, surest}
+use Rattle.js_grammar.specs.RightEdges.{of_assignment}
 use Rattle.js_grammar.proofs.Looks.{covers, covered, apart, not_both}
 use Rattle.js_grammar.proofs.Calculus.{here_at, ends, passes_both, reaches_less}
 use Rattle.js_grammar.proofs.FollowLaws.{surely, assignment_ended}
-use Rattle.js_grammar.proofs.RightEdges.{of_assignment, at_row, implied}
+use Rattle.js_grammar.proofs.RightEdges.{at_row}
+use Rattle.js_grammar.proofs.Finding.{either_of, implied}
 use Rattle.parse_shared.specs.js_tree.declared.id.NodeId.{NodeId}
 use Rattle.parse_shared.specs.js_tree.declared.kind.NodeKind.TheVariants as node
 use Rattle.parse_shared.specs.js_tree.declared.op.Op.TheVariants as op
@@ -44,7 +46,7 @@ use Rattle.parse_shared.specs.laws_shared.Statements.{link_kinds, no_link}
 use Rattle.parse_shared.specs.laws_shared.Told.{unrelated_at}
 use Rattle.parse_declarations.specs.Declarations.{One, NoOne, Declarator, EndsDeclarator, ChecksInitialiser, behind_row, ends_row, stops_row, missing}
 use Rattle.laws_patterns.proofs.Bindings.{no_binding, no_pattern_name}
-use Rattle.parse_shared.proofs.laws_shared.NamedFirsts.{fails_unnamed, either_of}
+use Rattle.parse_shared.proofs.laws_shared.NamedFirsts.{fails_unnamed}
 use Rattle.parse_shared.proofs.laws_shared.NameKinds.{listed_here, name_at, no_listed_name}
 use Rattle.parse_shared.proofs.laws_shared.Giving.{kept_one}
 use Rattle.parse_shared.proofs.laws_shared.Here.{begins_here, kind_here}
@@ -53,11 +55,12 @@ use Rattle.parse_shared.proofs.laws_shared.Moving.{beside_nodes, same_both, same
 use Rattle.parse_shared.proofs.laws_shared.Paths.{fails_at, label_here, not_here, skips, walked_both, walked_one, walked_to}
 use Rattle.parse_shared.proofs.laws_shared.Phrases.{narrow_assignment, narrow_operand}
 use Rattle.parse_shared.proofs.laws_shared.Signs.{other_kind, plain_sign}
-use Rattle.parse_shared.proofs.laws_shared.Tight.{narrows, plain_is_read, plain_lex}
+use Rattle.parse_shared.proofs.laws_shared.Tight.{narrows, plain_lex}
 use Rattle.parse_shared.proofs.laws_shared.Told.{told_at, told_same}
 use Rattle.parse_shared.proofs.laws_shared.Verdicts.{and_then, behind_none, either_way, grown_then, verdict_of}
 use Rattle.parse_shared.proofs.laws_shared.Verdicts.{after as grown_behind}
 use Rattle.parse_shared.proofs.laws_shared.PlainSigns.{eq_plain}
+use Rattle.parse_shared.proofs.laws_shared.Commas.{comma_may_follow}
 
 -- ---- what the line says
 
@@ -113,10 +116,6 @@ goes_on_with a k y l h = not_both an_eq (behind_row after_declarator) eq_apart y
 pub no_eq_here : {text : List ℕ} {f : Flags} {q : Parser} → At text f q → (q.token.kind ≡ Eq → ⊥) → (y : Lexeme) → Lex text q.prev_token_end y → IsTrue (seen (is Eq) y) → ⊥
 unfolding apart
 no_eq_here {q = q} a n y l h = not_here a (Eq ∷ []) refl (other_kind Eq q.token.kind n) y l (or_left (same_kind Eq y.kind) false (and_parts (same_kind Eq y.kind) (not y.escaped) h).0)
-
-comma_may_follow : covers (is Comma) (surest Assignment) ≡ true
-unfolding covers
-comma_may_follow = refl
 
 -- what may stand behind a declarator may stand behind its initialiser
 behind_value : {f : Flags} {l : Label} {cs : Slots} {i j : ℕ} {ls mid : Lexemes} → Takes rule (symbol Assignment f) end (tree l cs end) i ls end j mid → IsTrue (seen (behind_row (row_of l cs)) (here mid)) → Admits (after (at Assignment f)) (tree l cs end) (here mid)

@@ -26,7 +26,7 @@ use Rattle.parse_targets.proofs.Laws.{Law}
 
 -- ---- the target's node
 
-within_reused : (lo a b : ℕ) (rs qs : List ℕ) → AreWithin lo a rs → lo ≤ a → a ≤ b → Each (Reused rs a b) qs → AreWithin lo b qs
+pub within_reused : (lo a b : ℕ) (rs qs : List ℕ) → AreWithin lo a rs → lo ≤ a → a ≤ b → Each (Reused rs a b) qs → AreWithin lo b qs
 within_reused lo a b rs [] w i j h = tt
 within_reused lo a b rs (q ∷ qs) w i j h = ((one h.0).0, (one h.0).1, within_reused lo a b rs qs w i j h.1)
   where
@@ -34,10 +34,10 @@ within_reused lo a b rs (q ∷ qs) w i j h = ((one h.0).0, (one h.0).1, within_r
     one (inl m) = let x = below_in lo a rs q w m in (x.0, let y = x.1 in omega arith)
     one (inr m) = let x = m.0 in (omega arith, m.1)
 
-held_node : {ns : List Node} {below lo hi : ℕ} {id : NodeId} {l : Label} {cs : Slots} {qs : List ℕ} → StandsAll ns below (Some id ∷ []) (tree l cs end) qs → AreWithin lo hi qs → AreDistinct qs → Holds ns lo hi id.0 l cs
+pub held_node : {ns : List Node} {below lo hi : ℕ} {id : NodeId} {l : Label} {cs : Slots} {qs : List ℕ} → StandsAll ns below (Some id ∷ []) (tree l cs end) qs → AreWithin lo hi qs → AreDistinct qs → Holds ns lo hi id.0 l cs
 held_node {lo = lo} {hi = hi} (next_child {rs = rs} b h no_slots) w d = record { numbers = rs; stands = h; within = subst (λ (xs : List ℕ). AreWithin lo hi xs) (append-nil rs) w; distinct = subst AreDistinct (append-nil rs) d }
 
-held_of : {os ns : List Node} {lo : ℕ} {rs : List ℕ} {id : NodeId} {l : Label} {cs : Slots} → AreWithin lo (length os) rs → lo ≤ length os → length os ≤ length ns → Slotted os ns rs (Some id ∷ []) (tree l cs end) → Holds ns lo (length ns) id.0 l cs
+pub held_of : {os ns : List Node} {lo : ℕ} {rs : List ℕ} {id : NodeId} {l : Label} {cs : Slots} → AreWithin lo (length os) rs → lo ≤ length os → length os ≤ length ns → Slotted os ns rs (Some id ∷ []) (tree l cs end) → Holds ns lo (length ns) id.0 l cs
 held_of {os} {ns} {lo} {rs} w i j x = held_node x.stands (within_reused lo (length os) (length ns) rs x.numbers w i j x.reused) x.distinct
 
 bounded : {text : List ℕ} {n : Symbol} {ns : List Node} {id : NodeId} (x : Read text n ns id) → AreWithin x.lo (length ns) (x.holds).numbers
@@ -88,25 +88,19 @@ module _ {n : Flags → Symbol} {Is : Label → Type 0} {m : Flags → Symbol} {
   of_read found x v = v x.label x.slots (x.holds).numbers (x.holds).stands (x.holds).distinct
 
   module _ (b : ReadBefore n Is p id) where
-    spotted_of : (found : Option NodeId) → Answer places r p.nodes q.nodes id notes found → (t : NodeId) → found ≡ Some t → Each (Spotted q.text) notes.places
-    spotted_of (Some t) v u g =
+    pub spotted_there : (found : Option NodeId) → Answer places r p.nodes q.nodes id notes found → (t : NodeId) → found ≡ Some t → Each (Spotted q.text) notes.places
+    spotted_there (Some t) v u g =
         let x = b.read in
         let c = made_of {ids = Some t ∷ []} (of_read (Some t) x v) in
         subst (λ (v : List ℕ). Each (Spotted v) notes.places) (sym (text_there p e)) (subst (λ (ws : List Widening). Each (Spotted p.text) ws) (sym c.places_are) (law.of p.text b.flags b.cover b.wide x b.is).spotted)
-    spotted_of None v u g = absurd (cc)
+    spotted_there None v u g = absurd (cc)
 
-    fits_of : (found : Option NodeId) → Answer places r p.nodes q.nodes id notes found → (t : NodeId) → found ≡ Some t → Each (Fits q.text) notes.places
-    fits_of (Some t) v u g =
+    pub fits_there : (found : Option NodeId) → Answer places r p.nodes q.nodes id notes found → (t : NodeId) → found ≡ Some t → Each (Fits q.text) notes.places
+    fits_there (Some t) v u g =
         let x = b.read in
         let c = made_of {ids = Some t ∷ []} (of_read (Some t) x v) in
         subst (λ (v : List ℕ). Each (Fits v) notes.places) (sym (text_there p e)) (subst (λ (ws : List Widening). Each (Fits p.text) ws) (sym c.places_are) ((law.of p.text b.flags b.cover b.wide x b.is).fits c.slots c.is))
-    fits_of None v u g = absurd (cc)
-
-    pub spotted_there : (found : Option NodeId) → Answer places r p.nodes q.nodes id notes found → (t : NodeId) → found ≡ Some t → Each (Spotted q.text) notes.places
-    spotted_there found v = spotted_of found v
-
-    pub fits_there : (found : Option NodeId) → Answer places r p.nodes q.nodes id notes found → (t : NodeId) → found ≡ Some t → Each (Fits q.text) notes.places
-    fits_there found v = fits_of found v
+    fits_there None v u g = absurd (cc)
 
   -- a target was found
   module _ {f : Flags} (v : f.cover ≡ true) (w : f.wide ≡ true) (x : Read p.text (n f) p.nodes id) (i : Is x.label) (s : Parser) where

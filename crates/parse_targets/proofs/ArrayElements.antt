@@ -10,8 +10,10 @@ use Rattle.js_grammar.specs.Insertion.{assign_operators}
 use Rattle.js_grammar.specs.Productions.{G, Flags, Name, Symbol, at, tok, op, branches, plus_in, Argument, Assignment, Conditional, Short, Coalesce, Or, And, BitOr, BitXor, BitAnd, Equality, Relational, Shift, Additive, Multiply, Exponent, Unary, Update, LeftHandSide, New, Member, Call, Chain, Primary, IdentifierReference, Object, FuncExpr, ClassExpr, Template, Arrow', Yield, SimpleTarget, ArrayTarget, ObjectTarget, Target}
 use Rattle.js_grammar.specs.Productions.{sym as symbol}
 use Rattle.js_grammar.specs.Table.{rule, rule_of}
+use Rattle.js_grammar.specs.CoverInitialisers.{is_property}
+use Rattle.js_grammar.proofs.Finding.{contrary}
 use Rattle.parse_shared.specs.laws_shared.ArrayLiterals.{elements}
-use Rattle.parse_targets.specs.Targets.{is_elision, is_spread, is_assignment, is_equals, is_wide, is_property}
+use Rattle.parse_targets.specs.Targets.{is_elision, is_spread, is_assignment, is_equals, is_wide}
 
 -- ---- no operand is a gap, a spread, a property or an assignment
 
@@ -124,10 +126,6 @@ rooted (is_commas d) h = absurd (false≢true h)
 rooted (is_marked d) h = absurd (false≢true h)
 rooted (is_ended q d e) h = absurd (false≢true h)
 rooted (is_kept q) h = absurd (false≢true h)
-
-pub contrary : (b : Bool) → not b ≡ true → b ≡ true → ⊥
-contrary true h e = false≢true h
-contrary false h e = false≢true e
 
 not_even : {g : G} {l : Label} {cs us vs ks : Slots} {i j : ℕ} {ls rest : Lexemes} → Takes rule g ks (tree l cs us) i ls vs j rest → even g ≡ true → odd l.kind ≡ true → ⊥
 not_even {l = l} d h o = contrary (odd l.kind) (rooted d h) o

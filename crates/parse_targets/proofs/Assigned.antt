@@ -148,7 +148,7 @@ arrow_passes = refl
 pub to_parts : {text : List ℕ} (f : Flags) (s : ℕ) → OnlyOthers text f s → Goes rule (Lex text) (after (at Assignment f)) end (rule (at Assignment f)) s (alt (such (at Conditional f) always) (alt (branches assign_operators (assign_part f)) (array_part f))) s (λ us. us) (still 0)
 to_parts f s n = to_choice f s n.1 ▹ both stay (right (weaken_fails_on n.0 (same_read (at Assignment f) (at Arrow' f) arrow_passes refl)))
 
-assign_follows : (b : Bool) → covers an_assign (looser 4 b after_expression) ≡ true
+pub assign_follows : (b : Bool) → covers an_assign (looser 4 b after_expression) ≡ true
 unfolding covers
 assign_follows true = refl
 assign_follows false = refl

@@ -1,12 +1,14 @@
 -- What literals are converted to, node by node (ECMA-262, 13.15.5).
 use Rattle.std.proofs.Common.{ℕ, ◌≡◌, ◌<◌, ◌≤◌, inl, inr, zero, suc, ◌+◌, nat_eq, Bool, true, false, cond, ◌||◌, List, [], ◌∷◌, ◌++◌, length, drop, Option, Some, None, refl, sym, ap, subst, arith, ◌∙◌, append-nil, append_assoc}
-use Rattle.std.specs.Prelude.{chars, slice_get, Result, Ok, Err, IfOk}
+use Rattle.std.specs.Prelude.{chars, slice_get}
 use Rattle.std.proofs.Math.Seq.{drop-cons}
 use Rattle.std.proofs.lemmas.Bool.{false≢true, or_left, or_right, eqb-true, eq-eqb}
 use Rattle.std.proofs.lemmas.List.{get_or_append_left}
 use Rattle.std.proofs.lemmas.Option.{slice_get_within, get_or_from_slice_get}
 use Rattle.js_grammar.specs.Productions.{has_flag, shorthand_flag}
 use Rattle.js_grammar.specs.Trees.{NodeKind, Op, Span, Label, Slots, end, hole, tree, Tree, append, elision, identifier_reference, static_member_expression, computed_member_expression, private_field_expression, parenthesized_expression, array_expression, object_expression, object_property, spread_element, assignment_target_rest, assignment_expression, assignment_target_with_default}
+use Rattle.js_grammar.specs.TreeForms.{are_none, is_parenthesized}
+use Rattle.js_grammar.specs.CoverInitialisers.{is_property}
 use Rattle.parse_shared.specs.js_tree.declared.id.NodeId.{NodeId}
 use Rattle.js_base.specs.declared.span.Span.{Span as MadeSpan}
 use Rattle.parse_shared.specs.js_tree.declared.kind.NodeKind.{NodeKind as MadeKind}
@@ -16,14 +18,15 @@ use Rattle.parse_shared.specs.js_tree.Nodes.{Node, label, node_at, empty_program
 use Rattle.parse_shared.specs.js_tree.Holding.{Stands, StandsAll, no_slots, next_child, next_hole, AreDistinct, AreWithin, Holds, Keeps}
 use Rattle.parse_shared.proofs.js_tree.HoldingLemmas.{Stands-kept, Stands-within, Keeps-refl, Keeps-trans, Keeps-made, Keeps-longer, AreWithin-wider, StandsAll-wider}
 use Rattle.parse_shared.specs.laws_shared.Moves.{plain_label}
-use Rattle.parse_targets.specs.Targets.{Within, in_literal, in_property, within, is_elision, is_spread, is_assignment, operator_places, literal_places, argument_places, property_places, is_object, is_literal, is_target, is_pattern, pattern_kind, target_of, target_in, Stood, Only, relabelled, literal_tree, target_by, slot_of, rest_slot, reference_slot, behind_first, shorthand_slot, named_slot, property_slot, element_slot, are_none, followed, before_all, elements_in, places_of, places_in, made_span, Noted, unnoted, Blames, IsIn, Slotted, Converts, Refuses, Converted, converts, refuses, one_slot, one_node, OfNode, Noded, is_parens, is_property}
+use Rattle.parse_targets.specs.Targets.{Within, in_literal, in_property, within, is_elision, is_spread, is_assignment, operator_places, literal_places, argument_places, property_places, is_object, is_literal, is_target, is_pattern, pattern_kind, target_of, target_in, Stood, Only, relabelled, literal_tree, target_by, slot_of, rest_slot, reference_slot, behind_first, shorthand_slot, named_slot, property_slot, element_slot, followed, before_all, elements_in, places_of, places_in, made_span, Noted, unnoted, Blames, IsIn, Slotted, Converts, Refuses, Converted, converts, refuses, one_slot, one_node, OfNode, Noded}
 use Rattle.parse_targets.specs.declared.widening.Widening.{Widening}
 use Rattle.parse_targets.specs.declared.widening.Widening.TheVariants.{Rest}
 use Rattle.parse_shared.specs.js_tree.declared.kind.NodeKind.TheVariants as node
-use Rattle.parse_targets.proofs.LiteralsAsTargets.{before_of, no_end, is_end, element_some, places_assigned}
+use Rattle.parse_targets.proofs.LiteralsAsTargets.{before_of, no_end, is_end, element_some, places_assigned, some_is, property_kind}
 use Rattle.parse_targets.proofs.TargetsAsLiterals.{target_kind}
-use Rattle.parse_targets.proofs.CoveredNodes.{empty_parens}
+use Rattle.parse_targets.proofs.CoveredNodes.{empty_parens, open_parens, directly}
 use Rattle.parse_targets.proofs.ReusedNodes.{Children, children_of, in_left, in_right, distinct_left, distinct_right, distinct_apart, slotted_on, slotted_none, slotted_hole, slotted_wider, slotted_old, slotted_node, reused_own}
+use Rattle.parse_targets.proofs.Laws.{slot_parts}
 use Rattle.parse_shared.specs.js_tree.Sources.{text_of}
 use Rattle.parse_shared.specs.laws_shared.NodeTexts.{NodeFits}
 use Rattle.parse_shared.proofs.laws_shared.NodeTexts.{untextual}
@@ -42,9 +45,6 @@ within_left lo hi (r ∷ rs) ss w = (w.0, w.1, within_left lo hi rs ss w.2)
 pub within_right : (lo hi : ℕ) (rs ss : List ℕ) → AreWithin lo hi (rs ++ ss) → AreWithin lo hi ss
 within_right lo hi [] ss w = w
 within_right lo hi (r ∷ rs) ss w = within_right lo hi rs ss w.2
-
-some_is : {a b : Slots} → Some a ≡ Some b → a ≡ b
-some_is e = cc
 
 no_some : {a : Slots} → None ≡ Some a → ⊥
 no_some e = cc
@@ -431,10 +431,6 @@ no_one_child l o (next_child b h no_slots) = absurd (cc)
 no_one_child l o (next_child {l = m} {cs = ds} b h (next_child {l = n} {cs = es} {us = vs} b' h' a)) = two_elements l m ds (tree n es vs) refl
 no_one_child l o (next_child {l = m} {cs = ds} b h (next_hole {us = vs} a)) = two_elements l m ds (hole vs) refl
 
-pub tree_of : (r : Option Tree) (ts : Slots) → slot_of r ≡ Some ts → (t : Tree) × (r ≡ Some t) × (ts ≡ tree t.label t.slots end)
-tree_of (Some t) ts e = (t, refl, sym (some_is e))
-tree_of None ts e = absurd (cc)
-
 -- ---- what is answered of a rest
 
 -- places of the argument are among those of the rest
@@ -507,7 +503,7 @@ module _ {os : List Node} {id : NodeId} where
           by l cs rs s d h =
               let x = one_child c k h.stands in
               let y = made_of (v x.label x.slots h.numbers x.stands (subst AreDistinct h.is d).1) in
-              let q = tree_of (target_by x.label x.slots (own_of x.label x.slots)) y.slots y.is in
+              let q = slot_parts (target_by x.label x.slots (own_of x.label x.slots)) y.slots y.is in
               let r : t ≡ relabelled assignment_target_rest l = e ∙ ap (relabelled assignment_target_rest) (sym h.label_is) in
               let own = places_in (within x.label.kind) x.slots in
               let ws = cond (is_literal x.label.kind) own [] in
@@ -589,10 +585,6 @@ pub item_assigned : (o : Bool) {os ns : List Node} {id : NodeId} {noted notes : 
 item_assigned o {id = id} last found g v = λ l cs rs s d a.
     let z = kind_here {id = id} is_assignment g s in
     answer_as (one_node found) (sym (places_assigned o l cs (places_in (within l.kind) cs) z)) (sym (assigned_slot last l cs (own_of l cs) a (no_spread l.kind z) z)) (v l cs rs s d z)
-
-pub property_kind : (k : NodeKind) → is_property k ≡ true → k ≡ object_property
-property_kind object_property h = refl
-property_kind _ h = absurd (false≢true h)
 
 property_spots : (o : Bool) (l : Label) (cs : Slots) → l.kind ≡ object_property → property_places l (places_in in_property cs) ≡ spots_at o l cs
 property_spots o l cs h = rw h refl
@@ -685,40 +677,34 @@ target_simple {id = id} {noted = noted} found h v = λ l cs rs s d. let b = kind
 abbrev pub SimpleAnswer : List Node → NodeId → Option NodeId → Type 0
 SimpleAnswer os id found = OfNode os id (λ l cs rs. Converted os os rs unnoted unnoted [] (one_node found) (slot_of (target_of l cs)))
 
-open_parens : (l : Label) (cs : Slots) → is_parens l.kind ≡ true → target_of l cs ≡ target_in cs
-open_parens l cs p = rw p refl
-
 wider_answer : {os : List Node} {rs ss : List ℕ} (ids : Option (List (Option NodeId))) {r : Option Slots} → ((q : ℕ) → IsIn rs q → IsIn ss q) → Converted os os rs unnoted unnoted [] ids r → Converted os os ss unnoted unnoted [] ids r
 wider_answer (Some ids) f (converts x) = converts (record { keeps = x.keeps; lies = x.lies; slots = x.slots; is = x.is; slotted = slotted_wider f x.slotted; places_are = x.places_are; unblamed = x.unblamed })
 wider_answer None f (refuses x) = refuses (record { keeps = x.keeps; lies = x.lies; is = x.is; blames = inl refl })
 
-directly : (l : Label) (cs : Slots) (b : Bool) → is_parens l.kind ≡ false → is_target l.kind ≡ b → target_of l cs ≡ cond b (Some (record { label = l; slots = cs })) None
-directly l cs b p t = rw (p, t) refl
-
 module _ {os : List Node} {id : NodeId} where
-  pub simple_none : is_parens (label (node_at os id)).kind ≡ true → Only (node_at os id).children None → SimpleAnswer os id None
+  pub simple_none : is_parenthesized (label (node_at os id)).kind ≡ true → Only (node_at os id).children None → SimpleAnswer os id None
   simple_none p o = λ l cs rs s d. refuses (record { keeps = Keeps-refl os; lies = λ text h. h; is = ap slot_of (empty_parens {id = id} o p (holds_node {id = id} s d)); blames = inl refl })
 
-  pub simple_inside : {c : NodeId} (found : Option NodeId) → is_parens (label (node_at os id)).kind ≡ true → Only (node_at os id).children (Some c) → SimpleAnswer os c found → SimpleAnswer os id found
+  pub simple_inside : {c : NodeId} (found : Option NodeId) → is_parenthesized (label (node_at os id)).kind ≡ true → Only (node_at os id).children (Some c) → SimpleAnswer os c found → SimpleAnswer os id found
   simple_inside {c} found p o v = λ l cs rs s d.
       let k = children_of {id = id} s in
       let x = one_child c o k.stands in
-      let e = open_parens l cs (kind_here {id = id} is_parens p s) ∙ ap target_in x.is in
+      let e = open_parens l cs (kind_here {id = id} is_parenthesized p s) ∙ ap target_in x.is in
       wider_answer (one_node found) (λ q i. subst (λ (xs : List ℕ). IsIn xs q) (sym k.is) (inr i)) (subst (λ (r : Option Slots). Converted os os k.numbers unnoted unnoted [] (one_node found) r) (ap slot_of (sym e)) (v x.label x.slots k.numbers x.stands (subst AreDistinct k.is d).1))
 
-  pub simple_itself : is_parens (label (node_at os id)).kind ≡ false → is_target (label (node_at os id)).kind ≡ true → SimpleAnswer os id (Some id)
+  pub simple_itself : is_parenthesized (label (node_at os id)).kind ≡ false → is_target (label (node_at os id)).kind ≡ true → SimpleAnswer os id (Some id)
   simple_itself p t = λ l cs rs s d. converts (record {
     keeps = Keeps-refl os;
     lies = λ text h. h;
     slots = tree l cs end;
-    is = ap slot_of (directly l cs true (kind_here {id = id} is_parens p s) (kind_here {id = id} is_target t s));
+    is = ap slot_of (directly l cs true (kind_here {id = id} is_parenthesized p s) (kind_here {id = id} is_target t s));
     slotted = slotted_old (λ r i. i) s d;
     places_are = refl;
     unblamed = refl;
   })
 
-  pub simple_refused : is_parens (label (node_at os id)).kind ≡ false → is_target (label (node_at os id)).kind ≡ false → SimpleAnswer os id None
-  simple_refused p t = λ l cs rs s d. refuses (record { keeps = Keeps-refl os; lies = λ text h. h; is = ap slot_of (directly l cs false (kind_here {id = id} is_parens p s) (kind_here {id = id} is_target t s)); blames = inl refl })
+  pub simple_refused : is_parenthesized (label (node_at os id)).kind ≡ false → is_target (label (node_at os id)).kind ≡ false → SimpleAnswer os id None
+  simple_refused p t = λ l cs rs s d. refuses (record { keeps = Keeps-refl os; lies = λ text h. h; is = ap slot_of (directly l cs false (kind_here {id = id} is_parenthesized p s) (kind_here {id = id} is_target t s)); blames = inl refl })
 
 -- ---- answers of the calls
 
@@ -792,7 +778,3 @@ no_assignment _ n = refl
 pub no_property : (k : MadeKind) → (k ≡ node.ObjectProperty → ⊥) → is_property (kind_of k) ≡ false
 no_property node.ObjectProperty n = absurd (n refl)
 no_property _ n = refl
-
-pub map_ok : {A E : Type 0} (r : Result A E) {P Q : A → Type 0} → ((x : A) → P x → Q x) → IfOk r P → IfOk r Q
-map_ok (Ok x) f h = f x h
-map_ok (Err e) f h = h

@@ -2,10 +2,11 @@
 use Rattle.std.proofs.Common.{ℕ, ◌≡◌, ◌<◌, Bool, true, false, cond, List, [], ◌∷◌, length, Option, Some, None, refl, ap, subst, arith, ◌∙◌, append-nil}
 use Rattle.std.specs.Prelude.{get_or, slice_get}
 use Rattle.js_grammar.specs.Trees.{Label, Slots, end, tree}
+use Rattle.js_grammar.specs.TreeForms.{is_parenthesized}
 use Rattle.parse_shared.specs.js_tree.declared.id.NodeId.{NodeId}
 use Rattle.parse_shared.specs.js_tree.Nodes.{Node, label, node_at, empty_program}
 use Rattle.parse_shared.specs.js_tree.Holding.{Stands, stands, StandsAll, no_slots, next_child, next_hole, AreWithin, AreDistinct, Holds}
-use Rattle.parse_targets.specs.Targets.{is_target, target_in, target_of, TargetNode, IsTarget, Stood, Only, is_parens}
+use Rattle.parse_targets.specs.Targets.{is_target, target_in, target_of, TargetNode, IsTarget, Stood, Only}
 
 pub label_at : {ns : List Node} {id : ℕ} {l : Label} {cs : Slots} {rs : List ℕ} → Stands ns id l cs rs → l ≡ label (get_or ns id empty_program)
 label_at (stands id h a) = refl
@@ -49,30 +50,30 @@ none_at o (stands id h a) = none_in o a
 
 -- ---- what is answered
 
-open_parens : (l : Label) (cs : Slots) → is_parens l.kind ≡ true → target_of l cs ≡ target_in cs
+pub open_parens : (l : Label) (cs : Slots) → is_parenthesized l.kind ≡ true → target_of l cs ≡ target_in cs
 open_parens l cs p = rw p refl
 
-pub empty_parens : {ns : List Node} {lo hi : ℕ} {id : NodeId} {l : Label} {cs : Slots} → Only (node_at ns id).children None → is_parens (label (node_at ns id)).kind ≡ true → Holds ns lo hi id.0 l cs → target_of l cs ≡ None
-empty_parens {l = l} {cs = cs} o p h = open_parens l cs (ap (λ (m : Label). is_parens m.kind) (label_of_node h) ∙ p) ∙ none_at o h.stands
+pub empty_parens : {ns : List Node} {lo hi : ℕ} {id : NodeId} {l : Label} {cs : Slots} → Only (node_at ns id).children None → is_parenthesized (label (node_at ns id)).kind ≡ true → Holds ns lo hi id.0 l cs → target_of l cs ≡ None
+empty_parens {l = l} {cs = cs} o p h = open_parens l cs (ap (λ (m : Label). is_parenthesized m.kind) (label_of_node h) ∙ p) ∙ none_at o h.stands
 
-pub in_the_parens : {ns : List Node} {lo hi : ℕ} {id : NodeId} {l : Label} {cs : Slots} (c : NodeId) (r : Option NodeId) → Only (node_at ns id).children (Some c) → is_parens (label (node_at ns id)).kind ≡ true → Holds ns lo hi id.0 l cs → ((m : Label) (ds : Slots) → Holds ns lo hi c.0 m ds → IsTarget ns lo hi m ds r) → IsTarget ns lo hi l cs r
+pub in_the_parens : {ns : List Node} {lo hi : ℕ} {id : NodeId} {l : Label} {cs : Slots} (c : NodeId) (r : Option NodeId) → Only (node_at ns id).children (Some c) → is_parenthesized (label (node_at ns id)).kind ≡ true → Holds ns lo hi id.0 l cs → ((m : Label) (ds : Slots) → Holds ns lo hi c.0 m ds → IsTarget ns lo hi m ds r) → IsTarget ns lo hi l cs r
 in_the_parens {ns} {lo} {hi} {id} {l} {cs} c r o p h f =
     let x = child_of c o h in
-    let e : target_of l cs ≡ target_of x.label x.slots = open_parens l cs (ap (λ (m : Label). is_parens m.kind) (label_of_node h) ∙ p) ∙ ap target_in x.is in
+    let e : target_of l cs ≡ target_of x.label x.slots = open_parens l cs (ap (λ (m : Label). is_parenthesized m.kind) (label_of_node h) ∙ p) ∙ ap target_in x.is in
     moved x.label x.slots r e (f x.label x.slots x.holds)
   where
     moved : (m : Label) (ds : Slots) (r : Option NodeId) → target_of l cs ≡ target_of m ds → IsTarget ns lo hi m ds r → IsTarget ns lo hi l cs r
     moved m ds (Some id) e t = record { tree = t.tree; is = e ∙ t.is; holds = t.holds }
     moved m ds None e t = e ∙ t
 
-directly : (l : Label) (cs : Slots) (b : Bool) → is_parens l.kind ≡ false → is_target l.kind ≡ b → target_of l cs ≡ cond b (Some (record { label = l; slots = cs })) None
+pub directly : (l : Label) (cs : Slots) (b : Bool) → is_parenthesized l.kind ≡ false → is_target l.kind ≡ b → target_of l cs ≡ cond b (Some (record { label = l; slots = cs })) None
 directly l cs b p t = rw (p, t) refl
 
-pub itself : {ns : List Node} {lo hi : ℕ} {id : NodeId} {l : Label} {cs : Slots} → is_parens (label (node_at ns id)).kind ≡ false → is_target (label (node_at ns id)).kind ≡ true → Holds ns lo hi id.0 l cs → TargetNode ns lo hi l cs id
-itself {l = l} {cs = cs} p t h = record { tree = record { label = l; slots = cs }; is = directly l cs true (ap (λ (m : Label). is_parens m.kind) (label_of_node h) ∙ p) (ap (λ (m : Label). is_target m.kind) (label_of_node h) ∙ t); holds = h }
+pub itself : {ns : List Node} {lo hi : ℕ} {id : NodeId} {l : Label} {cs : Slots} → is_parenthesized (label (node_at ns id)).kind ≡ false → is_target (label (node_at ns id)).kind ≡ true → Holds ns lo hi id.0 l cs → TargetNode ns lo hi l cs id
+itself {l = l} {cs = cs} p t h = record { tree = record { label = l; slots = cs }; is = directly l cs true (ap (λ (m : Label). is_parenthesized m.kind) (label_of_node h) ∙ p) (ap (λ (m : Label). is_target m.kind) (label_of_node h) ∙ t); holds = h }
 
-pub no_target : {ns : List Node} {lo hi : ℕ} {id : NodeId} {l : Label} {cs : Slots} → is_parens (label (node_at ns id)).kind ≡ false → is_target (label (node_at ns id)).kind ≡ false → Holds ns lo hi id.0 l cs → target_of l cs ≡ None
-no_target {l = l} {cs = cs} p t h = directly l cs false (ap (λ (m : Label). is_parens m.kind) (label_of_node h) ∙ p) (ap (λ (m : Label). is_target m.kind) (label_of_node h) ∙ t)
+pub no_target : {ns : List Node} {lo hi : ℕ} {id : NodeId} {l : Label} {cs : Slots} → is_parenthesized (label (node_at ns id)).kind ≡ false → is_target (label (node_at ns id)).kind ≡ false → Holds ns lo hi id.0 l cs → target_of l cs ≡ None
+no_target {l = l} {cs = cs} p t h = directly l cs false (ap (λ (m : Label). is_parenthesized m.kind) (label_of_node h) ∙ p) (ap (λ (m : Label). is_target m.kind) (label_of_node h) ∙ t)
 
 pub child_stood : {ns : List Node} {id : NodeId} (c : NodeId) → Only (node_at ns id).children (Some c) → Stood ns id → Stood ns c
 child_stood c o s = let x = child_of c o s.holds in record { lo = s.lo; hi = s.hi; label = x.label; slots = x.slots; holds = x.holds }

@@ -20,11 +20,8 @@ use Rattle.parse_shared.specs.laws_shared.States.{At}
 use Rattle.parse_targets.specs.Targets.{target_of}
 use Rattle.parse_shared.proofs.laws_shared.Here.{begins_here}
 use Rattle.parse_shared.proofs.laws_shared.Paths.{Path}
-use Rattle.parse_targets.proofs.Targets.{Passes, may_target, left_hand_side_target, target_left_hand_side}
+use Rattle.parse_targets.proofs.Targets.{Passes, may_target, left_hand_side_target, target_left_hand_side, is_the}
 use Rattle.parse_shared.proofs.laws_shared.Verdicts.{verdict_of, either_way}
-
-is_the : {a b : Tree} → Some a ≡ Some b → a ≡ b
-is_the e = cc
 
 -- a target's right edge is its own
 target_row : (k : NodeKind) (o : Op) (fl : ℕ) (p : _) (cs : Slots) (t : Tree) → target_of (record { kind = k; op = o; flags = fl; span = p }) cs ≡ Some t → row_of (record { kind = k; op = o; flags = fl; span = p }) cs ≡ after_expression

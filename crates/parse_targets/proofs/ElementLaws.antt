@@ -9,17 +9,18 @@ use Rattle.js_grammar.specs.Lexed.{Lexes}
 use Rattle.js_grammar.specs.Parsing.{always}
 use Rattle.js_grammar.specs.Productions.{Flags, at, tok, plus_in, has_flag, shorthand_flag, Assignment, Property, SimpleTarget, TargetElement, TargetProperty}
 use Rattle.js_grammar.specs.Table.{rule}
-use Rattle.js_grammar.specs.Trees.{NodeKind, Span as TreeSpan, Label, Slots, end, hole, tree, Tree, object_property, function_expression, assignment_target_with_default}
+use Rattle.js_grammar.specs.Trees.{NodeKind, Span as TreeSpan, Label, Slots, end, hole, tree, Tree, function_expression, assignment_target_with_default}
+use Rattle.js_grammar.specs.CoverInitialisers.{is_property}
 use Rattle.js_grammar.proofs.Behind.{lexed_behind}
 use Rattle.parse_shared.specs.js_tree.declared.id.NodeId.{NodeId}
 use Rattle.parse_shared.specs.js_tree.Nodes.{Node}
 use Rattle.parse_shared.specs.laws_shared.Lexemes.{Lex}
 use Rattle.parse_targets.specs.declared.widening.Widening.{Widening}
 use Rattle.parse_targets.specs.declared.widening.Widening.TheVariants.{Operator}
-use Rattle.parse_targets.specs.Targets.{Each, Fits, Spotted, Spanned, in_property, within, is_assignment, is_elision, is_equals, is_literal, is_property, is_spread, made_span, operator_places, places_in, places_of, relabelled, slot_of, target_by, elements_in, element_slot, rest_slot, property_slot, behind_first, reference_slot, named_slot, before_value, followed}
+use Rattle.parse_targets.specs.Targets.{Each, Fits, Spotted, Spanned, in_property, within, is_assignment, is_elision, is_equals, is_literal, is_spread, made_span, operator_places, places_in, places_of, relabelled, slot_of, target_by, elements_in, element_slot, rest_slot, property_slot, behind_first, reference_slot, named_slot, before_value, followed}
 use Rattle.parse_targets.proofs.ArrayElements.{Operated, operated, no_gap}
 use Rattle.parse_targets.proofs.Edges.{Ends, first_led, taken, one_ends, then_ends, ends_then, spanned}
-use Rattle.parse_targets.proofs.LiteralsAsTargets.{Led, led, all_of, assignment_kind, element_before, element_target, other_operator, property_target}
+use Rattle.parse_targets.proofs.LiteralsAsTargets.{Led, led, all_of, assignment_kind, element_before, element_target, other_operator, property_target, property_kind}
 use Rattle.parse_targets.proofs.Properties.{PropertyOf, a_shorthand, a_value, a_method, a_spread, property_of}
 use Rattle.parse_targets.proofs.TargetsAsLiterals.{element_source, property_source}
 use Rattle.parse_targets.specs.Covered.{Read, AnyLabel, IsAssignment, IsProperty, an_expression, in_a_target, in_an_element, in_a_property, target_answer, element_answer, property_answer}
@@ -148,10 +149,6 @@ pub assignment_law : Law an_expression IsAssignment (at TargetElement) in_an_ele
 assignment_law = record { of = λ text f v w x i. element_at f x v w }
 
 -- ---- properties
-
-property_kind : (k : NodeKind) → is_property k ≡ true → k ≡ object_property
-property_kind object_property h = refl
-property_kind _ h = absurd (false≢true h)
 
 as_property : (l : Label) (cs : Slots) → is_property l.kind ≡ true → element_slot true l cs (elements_in (within l.kind) cs) ≡ property_answer l cs
 as_property l cs h = let k = property_kind l.kind h in rw k refl

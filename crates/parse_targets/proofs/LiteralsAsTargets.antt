@@ -5,7 +5,7 @@ use Rattle.js_base.specs.declared.kind.Kind.{Kind}
 use Rattle.js_base.specs.declared.kind.Kind.TheVariants.{Eq, Colon, Comma, Dot3, LBrack, RBrack, LCurly, RCurly}
 use Rattle.js_base.specs.Kinds.{same_kind, one_of_kinds}
 use Rattle.js_base.proofs.KindLemmas.{kind_of_same}
-use Rattle.js_grammar.specs.Trees.{NodeKind, Op, Span, Label, Slots, end, hole, tree, Tree, no_op, init, assignment_expression, spread_element, function_expression, array_assignment_target, object_assignment_target, assignment_target_rest, assignment_target_with_default, assignment_target_property_property, append}
+use Rattle.js_grammar.specs.Trees.{NodeKind, Op, Span, Label, Slots, end, hole, tree, Tree, no_op, init, assignment_expression, spread_element, function_expression, array_assignment_target, object_assignment_target, assignment_target_rest, assignment_target_with_default, assignment_target_property_property, append, object_property}
 use Rattle.js_grammar.specs.Grammar.{Lexeme, Lexemes, last, next, here, seen, is, such, when, nothing, never, empty_slot, ◌▸◌, ◌◇◌, Takes, is_nothing, is_lexeme, is_empty_slot, is_seq, is_left, is_right, is_when, is_ahead, is_many, is_such, is_node, Look}
 use Rattle.js_grammar.specs.Insertion.{assign_operators, other_operators}
 use Rattle.js_grammar.specs.Lexed.{Lexes}
@@ -14,6 +14,8 @@ use Rattle.js_grammar.specs.Parsing.{always}
 use Rattle.js_grammar.specs.Productions.{G, branches, Flags, at, tok, mk, items, plus_in, flag, has_flag, computed_flag, shorthand_flag, Assignment, LeftHandSide, SimpleTarget, Target, ArrayTarget, ObjectTarget, TargetElement, TargetProperty, Property}
 use Rattle.js_grammar.specs.Productions.{sym as symbol}
 use Rattle.js_grammar.specs.Table.{rule, rule_of, rest_of, name}
+use Rattle.js_grammar.specs.TreeForms.{are_none}
+use Rattle.js_grammar.specs.CoverInitialisers.{is_property}
 use Rattle.js_grammar.proofs.Behind.{lexed_behind}
 use Rattle.parse_shared.proofs.js_cursor.Moving.{reached_next}
 use Rattle.parse_shared.specs.laws_shared.ArrayLiterals.{elements}
@@ -22,7 +24,7 @@ use Rattle.parse_shared.proofs.laws_shared.Characters.{characters}
 use Rattle.js_grammar.proofs.Looks.{apart, not_both}
 use Rattle.std.specs.Prelude.{IsUtf8, IsCharBoundary}
 use Rattle.parse_targets.specs.Taken.{target_name}
-use Rattle.parse_targets.specs.Targets.{literal_kind, Each, IsIn, Closed, Narrow, Fits, in_literal, in_property, within, is_elision, is_spread, is_assignment, is_equals, is_wide, is_object, is_literal, is_pattern, is_target, target_of, relabelled, pattern_kind, literal_tree, slot_of, rest_slot, shorthand_slot, behind_first, reference_slot, named_slot, property_slot, element_slot, are_none, followed, before_all, before_value, elements_in, operator_places, literal_places, places_of, places_in, made_span, is_property}
+use Rattle.parse_targets.specs.Targets.{literal_kind, Each, IsIn, Closed, Narrow, Fits, in_literal, in_property, within, is_elision, is_spread, is_assignment, is_equals, is_wide, is_object, is_literal, is_pattern, is_target, target_of, relabelled, pattern_kind, literal_tree, slot_of, rest_slot, shorthand_slot, behind_first, reference_slot, named_slot, property_slot, element_slot, followed, before_all, before_value, elements_in, operator_places, literal_places, places_of, places_in, made_span}
 use Rattle.parse_targets.specs.declared.widening.Widening.{Widening}
 use Rattle.parse_targets.specs.declared.widening.Widening.TheVariants.{Rest, RestTarget, Operator}
 use Rattle.parse_targets.proofs.ArrayTargets.{with_operator}
@@ -81,8 +83,12 @@ one_of_each P (v ∷ ws) w (inr i) h = one_of_each P ws w i h.1
 pub kind_is : {k : Kind} (x : Lexeme) → IsTrue (seen (is k) x) → x.kind ≡ k
 kind_is {k} x q = sym (kind_of_same k x.kind (and_parts (same_kind k x.kind) _ q).0)
 
-some_is : {a b : Slots} → Some a ≡ Some b → a ≡ b
+pub some_is : {a b : Slots} → Some a ≡ Some b → a ≡ b
 some_is e = cc
+
+pub property_kind : (k : NodeKind) → is_property k ≡ true → k ≡ object_property
+property_kind object_property h = refl
+property_kind _ h = absurd (false≢true h)
 
 -- ---- the parts of what is converted
 

@@ -1,11 +1,8 @@
 -- What is told of an expression that is no target.
-use Rattle.std.proofs.Common.{ℕ, ◌≡◌, List, Bool, true, false, None, refl}
+use Rattle.std.proofs.Common.{ℕ, ◌≡◌, List, true, false, None, refl}
 use Rattle.std.proofs.lemmas.Bool.{false≢true}
 use Rattle.js_grammar.specs.Grammar.{Lexemes}
-use Rattle.js_grammar.specs.Insertion.{after_expression}
 use Rattle.js_grammar.specs.Productions.{Flags, at}
-use Rattle.js_grammar.specs.Follow.{looser}
-use Rattle.js_grammar.proofs.Looks.{covers}
 use Rattle.parse_shared.specs.js_cursor.Parsers.{Parser}
 use Rattle.parse_shared.specs.js_cursor.declared.stop.Stop.{Stop}
 use Rattle.parse_shared.specs.laws_shared.Answers.{Verdict, Stops}
@@ -22,7 +19,6 @@ use Rattle.js_grammar.specs.Grammar.{Derives, is_left, is_right}
 use Rattle.js_grammar.specs.Productions.{SimpleTarget, ArrayTarget, ObjectTarget, Target}
 use Rattle.js_grammar.specs.Productions.{sym as symbol}
 use Rattle.js_grammar.specs.Table.{rule_of}
-use Rattle.parse_targets.proofs.Assigned.{an_assign}
 use Rattle.parse_shared.specs.js_cursor.Moves.{GivesUp}
 use Rattle.parse_shared.specs.laws_shared.Classes.{EndsParse}
 
@@ -48,8 +44,3 @@ unfolding rule rule_of
 no_target f o n m t (is_left (is_such d c)) = n t d
 no_target f o n m t (is_right (is_left d)) = m t d
 no_target f o n m t (is_right (is_right d)) = o t d
-
-pub short_follows : (b : Bool) → covers an_assign (looser 4 b after_expression) ≡ true
-unfolding covers
-short_follows true = refl
-short_follows false = refl

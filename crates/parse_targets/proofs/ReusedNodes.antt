@@ -1,12 +1,12 @@
 -- Numbers of nodes from before and of new ones, of which none is reached twice.
-use Rattle.std.proofs.Common.{ℕ, ◌≡◌, ◌<◌, ◌≤◌, ◌⊎◌, inl, inr, List, [], ◌∷◌, ◌++◌, length, Option, Some, None, refl, sym, ap, subst, arith, ◌∙◌, append-nil, append_assoc}
+use Rattle.std.proofs.Common.{ℕ, ◌≡◌, ◌<◌, ◌≤◌, ◌⊎◌, inl, inr, List, [], ◌∷◌, ◌++◌, length, Option, Some, None, refl, sym, ap, subst, arith, ◌∙◌, append-nil}
 use Rattle.std.specs.Prelude.{get_or}
-use Rattle.std.proofs.lemmas.List.{get_or_append_left, get_or_push, length_push}
+use Rattle.std.proofs.lemmas.List.{get_or_push, length_push}
 use Rattle.js_grammar.specs.Trees.{Label, Slots, end, hole, tree, append}
 use Rattle.parse_shared.specs.js_tree.declared.id.NodeId.{NodeId}
 use Rattle.parse_shared.specs.js_tree.Nodes.{Node, label, node_at, empty_program}
 use Rattle.parse_shared.specs.js_tree.Holding.{Stands, stands, StandsAll, no_slots, next_child, next_hole, AreWithin, AreDistinct, AreApart, Lacks, Keeps}
-use Rattle.parse_shared.proofs.js_tree.HoldingLemmas.{AreDistinct-append, StandsAll-kept, StandsAll-wider, StandsAll-within, Stands-below, Keeps-longer, Keeps-made, AgreeOn, StandsAll-agree}
+use Rattle.parse_shared.proofs.js_tree.HoldingLemmas.{AreDistinct-append, StandsAll-kept, StandsAll-wider, StandsAll-within, Stands-below, Keeps-longer, Keeps-made, StandsAll-agree, agree_kept, StandsAll-append}
 use Rattle.parse_targets.specs.Targets.{Each, IsIn, Reused, Slotted, Noded}
 
 -- ---- lists of numbers
@@ -97,16 +97,11 @@ all_both P (r ∷ rs) ss a b = (a.0, all_both P rs ss a.1 b)
 
 -- ---- children
 
-pub stands_append : {ns : List Node} {below : ℕ} {ids js : List (Option NodeId)} {us vs : Slots} {rs ss : List ℕ} → StandsAll ns below ids us rs → StandsAll ns below js vs ss → StandsAll ns below (ids ++ js) (append us vs) (rs ++ ss)
-stands_append no_slots k = k
-stands_append {ns} {below} {js = js} {vs = vs} {ss = ss} (next_child {id = id} {ids = ids} {l = l} {cs = cs} {us = us} {rs = ps} {ss = qs} b h a) k = subst (λ (xs : List ℕ). StandsAll ns below (Some id ∷ (ids ++ js)) (tree l cs (append us vs)) xs) (sym (append_assoc ps qs ss)) (next_child b h (stands_append a k))
-stands_append (next_hole a) k = next_hole (stands_append a k)
-
 -- more children behind others
 pub slotted_on : {os ns ms : List Node} {rs qs : List ℕ} {ids js : List (Option NodeId)} {us vs : Slots} → Keeps os ns → Keeps ns ms → AreApart rs qs → AreWithin 0 (length os) rs → AreWithin 0 (length os) qs → Slotted os ns rs ids us → Slotted ns ms qs js vs → Slotted os ms (rs ++ qs) (ids ++ js) (append us vs)
 slotted_on {os} {ns} {ms} {rs} {qs} k m a v w x y = record {
   numbers = x.numbers ++ y.numbers;
-  stands = stands_append (StandsAll-kept m x.stands) y.stands;
+  stands = StandsAll-append (StandsAll-kept m x.stands) y.stands;
   reused = all_both (Reused (rs ++ qs) (length os) (length ms)) x.numbers y.numbers
       (reused_more rs (rs ++ qs) (length os) (length ns) (length os) (length ms) x.numbers (in_left rs qs) (omega arith) (Keeps-longer m) x.reused)
       (reused_more qs (rs ++ qs) (length ns) (length ms) (length os) (length ms) y.numbers (in_right rs qs) (Keeps-longer k) (omega arith) y.reused);
@@ -160,10 +155,6 @@ children_at {os} (stands {cs} {rs} i h a) id e = record {
 pub children_of : {os : List Node} {id : NodeId} {l : Label} {cs : Slots} {rs : List ℕ} → Stands os id.0 l cs rs → Children os id l cs rs
 children_of {id = id} s = children_at s id refl
 
-agree_with : (ns more : List Node) (hi : ℕ) (rs : List ℕ) → AreWithin 0 hi rs → hi ≤ length ns → AgreeOn ns (ns ++ more) rs
-agree_with ns more hi [] h w = tt
-agree_with ns more hi (r ∷ rs) h w = (get_or_append_left ns more empty_program r (let a = h.1 in omega arith), agree_with ns more hi rs h.2 w)
-
 -- a new node above children
 module _ {os ns ms : List Node} {rs : List ℕ} {l : Label} {ids : List (Option NodeId)} {us : Slots} {id : NodeId} (k : Keeps os ns) (x : Slotted os ns rs ids us) (n : Noded ns ms l ids id) where
   number_is : id.0 ≡ length ns
@@ -176,7 +167,7 @@ module _ {os ns ms : List Node} {rs : List ℕ} {l : Label} {ids : List (Option 
   below_all = let a = number_is in let b = ap length (n.made).nodes in let c = length_push ns n.node in omega arith
 
   children_there : StandsAll ms id.0 (n.node).children us x.numbers
-  children_there = StandsAll-wider (let a = number_is in omega arith) (subst (λ (xs : List Node). StandsAll xs (length ns) (n.node).children us x.numbers) (sym (n.made).nodes) (StandsAll-agree (let c = length_push ns n.node in omega arith) (agree_with ns (n.node ∷ []) (length ns) x.numbers (StandsAll-within x.stands) (omega arith)) (subst (λ (js : List (Option NodeId)). StandsAll ns (length ns) js us x.numbers) (sym n.children) x.stands)))
+  children_there = StandsAll-wider (let a = number_is in omega arith) (subst (λ (xs : List Node). StandsAll xs (length ns) (n.node).children us x.numbers) (sym (n.made).nodes) (StandsAll-agree (let c = length_push ns n.node in omega arith) (agree_kept ns (n.node ∷ []) (length ns) x.numbers (StandsAll-within x.stands) (omega arith)) (subst (λ (js : List (Option NodeId)). StandsAll ns (length ns) js us x.numbers) (sym n.children) x.stands)))
 
   made_stands : Stands ms id.0 l us (id.0 ∷ x.numbers)
   made_stands = subst (λ (m : Label). Stands ms id.0 m us (id.0 ∷ x.numbers)) n.label_is (subst (λ (y : Node). Stands ms id.0 (label y) us (id.0 ∷ x.numbers)) is_node (stands id.0 below_all (subst (λ (y : Node). StandsAll ms id.0 y.children us x.numbers) (sym is_node) children_there)))

@@ -13,11 +13,12 @@ use Rattle.js_grammar.specs.LexicalFaults.{Reached}
 use Rattle.js_grammar.specs.Parsing.{always}
 use Rattle.js_grammar.specs.Productions.{Flags, at, tok, has_flag, shorthand_flag, plus_in, Assignment, LeftHandSide, SimpleTarget}
 use Rattle.js_grammar.specs.Table.{rule, rule_of}
+use Rattle.js_grammar.specs.CoverInitialisers.{is_property}
 use Rattle.js_grammar.proofs.Behind.{lexed_behind}
 use Rattle.parse_shared.specs.laws_shared.Lexemes.{Lex}
 use Rattle.parse_targets.specs.declared.widening.Widening.{Widening}
 use Rattle.parse_targets.specs.declared.widening.Widening.TheVariants.{Rest, RestTarget, Operator}
-use Rattle.parse_targets.specs.Targets.{Each, Spanned, Spotted, in_literal, within, is_elision, is_spread, is_assignment, is_object, is_literal, literal_kind, is_equals, made_span, operator_places, literal_places, argument_places, property_places, places_of, places_in, is_property}
+use Rattle.parse_targets.specs.Targets.{Each, Spanned, Spotted, in_literal, within, is_elision, is_spread, is_assignment, is_object, is_literal, literal_kind, is_equals, made_span, operator_places, literal_places, argument_places, property_places, places_of, places_in}
 use Rattle.parse_targets.proofs.Properties.{PropertyOf, a_shorthand, a_value, a_method, a_spread as a_spread_property, property_of, PropertyStep, property, last_property, property_step}
 use Rattle.parse_targets.proofs.ArrayElements.{no_gap, Operated, operated, Step, gap, item, final, step_of, Element, an_expression, a_spread, element_of}
 use Rattle.parse_targets.proofs.Edges.{Ends, taken, one_ends, then_ends, ends_then, spanned}

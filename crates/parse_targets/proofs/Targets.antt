@@ -1,22 +1,23 @@
 -- A simple target is a left-hand side whose tree, with its outer parentheses taken off, is the target's (ECMA-262, 8.6.4).
 use Rattle.std.proofs.Common.{ℕ, ◌≡◌, Bool, true, false, not, cond, ◌&&◌, ◌||◌, IsTrue, Option, Some, None, refl, ap, sym, subst, ◌∙◌}
 use Rattle.std.proofs.lemmas.Bool.{false≢true, and_parts}
-use Rattle.parse_targets.proofs.ArrayElements.{contrary}
 use Rattle.js_grammar.specs.Trees.{NodeKind, Op, Span, Label, Slots, end, hole, tree, Tree, function_expression, arrow_function_expression, array_expression, object_expression}
 use Rattle.js_base.specs.declared.kind.Kind.TheVariants.{LParen, RParen}
 use Rattle.js_grammar.specs.Grammar.{Lexeme, Lexemes, next, seen, is, nothing, never, lexeme, look, text, ahead, empty_slot, seq, alt, when, many, commas, such, marked, node, ended, keep, kept, Takes, is_nothing, is_lexeme, is_look, is_text, is_ahead, is_empty_slot, is_seq, is_left, is_right, is_when, is_many, is_commas, is_such, is_marked, is_node, is_ended, is_keep, is_kept}
 use Rattle.js_grammar.specs.Parsing.{always}
 use Rattle.js_grammar.specs.Productions.{G, Flags, Name, Symbol, at, mk, parens, plus_in, with_pife, Expression, Assignment, Conditional, Short, Coalesce, Or, And, BitOr, BitXor, BitAnd, Equality, Relational, Shift, Additive, Multiply, Exponent, Unary, Update, LeftHandSide, New, Member, Call, Chain, Primary, IdentifierReference, SimpleTarget, Arrow', Yield, Object, FuncExpr, ClassExpr, Template}
 use Rattle.js_grammar.specs.Table.{rule, rule_of, member_access, call_access, paren_expression}
+use Rattle.js_grammar.specs.TreeForms.{is_parenthesized}
 use Rattle.js_grammar.proofs.Calculus.{slots_are}
+use Rattle.js_grammar.proofs.Finding.{contrary}
 use Rattle.parse_shared.specs.laws_shared.ArrayLiterals.{array_of}
-use Rattle.parse_targets.specs.Targets.{is_member, is_name, is_array, is_object, is_literal, literal_kind, target_in, target_of, is_parens}
+use Rattle.parse_targets.specs.Targets.{is_member, is_name, is_array, is_object, is_literal, literal_kind, target_in, target_of}
 use Rattle.parse_shared.proofs.laws_shared.FreeOfIn.{any_in}
 
 -- ---- what may be a target
 
 abbrev pub may_be : NodeKind → Bool
-may_be k = is_parens k || (is_name k || (is_member k || is_literal k))
+may_be k = is_parenthesized k || (is_name k || (is_member k || is_literal k))
 
 -- the kind of the first slot
 abbrev pub first_may_be : Slots → Bool
@@ -388,7 +389,7 @@ may false false false r a b t e = absurd (cc)
 
 -- what has a target may be one
 pub may_target : (l : Label) (cs : Slots) (t : Tree) → target_of l cs ≡ Some t → may_be l.kind ≡ true
-may_target l cs t e = may (is_parens l.kind) (is_name l.kind) (is_member l.kind) (is_literal l.kind) (target_in cs) (alone l cs) t e
+may_target l cs t e = may (is_parenthesized l.kind) (is_name l.kind) (is_member l.kind) (is_literal l.kind) (target_in cs) (alone l cs) t e
 
 module _ {f : Flags} {i j : ℕ} {ls rest : Lexemes} where
   as_name : {t : Tree} → Takes rule (such (at IdentifierReference f) always) end (tree t.label t.slots end) i ls end j rest → Takes rule (such (at SimpleTarget f) always) end (tree t.label t.slots end) i ls end j rest
@@ -408,7 +409,7 @@ module _ {f : Flags} {i j : ℕ} {ls rest : Lexemes} where
   as_parens d = is_such (is_right (is_right (is_right d))) refl
 
 -- the same, of another tree that is the target
-is_the : {a b : Tree} → Some a ≡ Some b → a ≡ b
+pub is_the : {a b : Tree} → Some a ≡ Some b → a ≡ b
 is_the e = cc
 
 -- what is known of the slots of the first slot

@@ -12,6 +12,7 @@ use Rattle.js_grammar.specs.Parsing.{always}
 use Rattle.js_grammar.specs.Productions.{G, Flags, Symbol, at, tok, slot, plus_in, branches, flag, computed_flag, shorthand_flag, Argument, Assignment, LeftHandSide, Primary, Property, Init, IdentifierReference, SimpleTarget, Target, ArrayTarget, ObjectTarget, TargetElement, TargetProperty}
 use Rattle.js_grammar.specs.Productions.{sym as symbol}
 use Rattle.js_grammar.specs.Table.{rule, rule_of, name}
+use Rattle.js_grammar.specs.TreeForms.{is_parenthesized}
 use Rattle.js_grammar.proofs.Behind.{lexed_behind}
 use Rattle.js_grammar.proofs.Calculus.{label_is, slots_are}
 use Rattle.js_grammar.proofs.CoverInitialisers.{deep}
@@ -19,7 +20,7 @@ use Rattle.parse_shared.specs.laws_shared.Lexemes.{Lex}
 use Rattle.parse_targets.specs.declared.widening.Widening.{Widening}
 use Rattle.parse_targets.specs.declared.widening.Widening.TheVariants.{Rest}
 use Rattle.parse_targets.specs.Taken.{target_name}
-use Rattle.parse_targets.specs.Targets.{Each, Closed, Shut, in_literal, within, is_literal, literal_kind, is_pattern, is_target, target_in, target_of, relabelled, pattern_kind, before_all, before_value, followed, named_slot, elements_in, argument_places, places_of, places_in, is_parens}
+use Rattle.parse_targets.specs.Targets.{Each, Closed, Shut, in_literal, within, is_literal, literal_kind, is_pattern, is_target, target_in, target_of, relabelled, pattern_kind, before_all, before_value, followed, named_slot, elements_in, argument_places, places_of, places_in}
 use Rattle.parse_targets.proofs.ArrayElements.{gap_label}
 use Rattle.parse_targets.proofs.ArrayTargets.{target_step, target_last, literal_items, with_operator, default_label, assigned_label, by_other, more_items, left_line, target_property, last_property, properties, bound_word}
 use Rattle.parse_shared.proofs.laws_shared.FreeOfIn.{any_in}
@@ -57,7 +58,7 @@ no_literal_kind array_expression o fl p cs t e = absurd (cc)
 no_literal_kind object_expression o fl p cs t e = absurd (cc)
 no_literal_kind _ o fl p cs t e = refl
 
-target_label : (l : Label) (cs : Slots) (t : Tree) (a b : Bool) → is_parens l.kind ≡ a → is_target l.kind ≡ b → (target_in cs ≡ Some t → is_target t.label.kind ≡ true) → cond a (target_in cs) (cond b (Some (record { label = l; slots = cs })) None) ≡ Some t → is_target t.label.kind ≡ true
+target_label : (l : Label) (cs : Slots) (t : Tree) (a b : Bool) → is_parenthesized l.kind ≡ a → is_target l.kind ≡ b → (target_in cs ≡ Some t → is_target t.label.kind ≡ true) → cond a (target_in cs) (cond b (Some (record { label = l; slots = cs })) None) ≡ Some t → is_target t.label.kind ≡ true
 target_label l cs t true b p q f e = f e
 target_label l cs t false true p q f e = let w : record { label = l; slots = cs } ≡ t = cc in subst (λ (v : Tree). is_target v.label.kind ≡ true) w q
 target_label l cs t false false p q f e = absurd (cc)
@@ -65,7 +66,7 @@ target_label l cs t false false p q f e = absurd (cc)
 pub target_kind : (cs : Slots) (t : Tree) → target_in cs ≡ Some t → is_target t.label.kind ≡ true
 target_kind end t e = absurd (cc)
 target_kind (hole us) t e = absurd (cc)
-target_kind (tree l cs end) t e = target_label l cs t (is_parens l.kind) (is_target l.kind) refl refl (λ h. target_kind cs t h) e
+target_kind (tree l cs end) t e = target_label l cs t (is_parenthesized l.kind) (is_target l.kind) refl refl (λ h. target_kind cs t h) e
 target_kind (tree l cs (hole us)) t e = absurd (cc)
 target_kind (tree l cs (tree m ds us)) t e = absurd (cc)
 

@@ -1,5 +1,5 @@
 -- A literal before `=`, as it was converted to a target (ECMA-262, 13.15.5).
-use Rattle.std.proofs.Common.{ℕ, ◌≡◌, ◌≤◌, ◌<◌, ◌⊎◌, inl, inr, List, [], ◌∷◌, length, Bool, true, false, not, IsTrue, Option, Some, None, refl, sym, ap, subst, arith, ◌∙◌, append-nil}
+use Rattle.std.proofs.Common.{ℕ, ◌≡◌, ◌≤◌, ◌<◌, ◌⊎◌, inl, inr, List, [], ◌∷◌, length, Bool, true, false, not, IsTrue, Option, Some, None, refl, sym, ap, subst, arith, ◌∙◌}
 use Rattle.std.specs.Prelude.{IsCharBoundary, IsUtf8}
 use Rattle.std.proofs.lemmas.Bool.{and_from}
 use Rattle.js_base.specs.declared.diagnostic.Diagnostic.{Diagnostic}
@@ -21,7 +21,7 @@ use Rattle.js_grammar.specs.Follow.{after, edge_of, follow, looser}
 use Rattle.js_grammar.proofs.Looks.{covers, covered}
 use Rattle.parse_shared.specs.js_tree.declared.id.NodeId.{NodeId}
 use Rattle.parse_shared.specs.js_tree.Nodes.{Node}
-use Rattle.parse_shared.specs.js_tree.Holding.{StandsAll, no_slots, next_child, AreWithin, AreDistinct, Holds, Keeps}
+use Rattle.parse_shared.specs.js_tree.Holding.{Holds, Keeps}
 use Rattle.parse_shared.proofs.js_tree.HoldingLemmas.{Keeps-trans, Keeps-longer}
 use Rattle.parse_shared.specs.js_cursor.Parsers.{Parser}
 use Rattle.parse_shared.specs.js_cursor.Places.{goal}
@@ -33,7 +33,7 @@ use Rattle.parse_targets.specs.Taken.{EndsTarget, PlacesTold, TargetTaken, behin
 use Rattle.parse_shared.specs.laws_shared.States.{At, Same, NodesLie}
 use Rattle.parse_targets.specs.declared.widening.Widening.{Widening}
 use Rattle.parse_targets.specs.declared.widening.Widening.TheVariants.{Rest}
-use Rattle.parse_targets.specs.Targets.{Each, IsIn, Narrow, Fits, Spotted, Noted, unnoted, Blames, Reused, Slotted, Converts, Converted, converts, refuses, in_literal, is_object, is_literal, literal_kind, pattern_kind, relabelled, literal_tree, slot_of, elements_in, places_in, target_of}
+use Rattle.parse_targets.specs.Targets.{Each, IsIn, Narrow, Fits, Spotted, Noted, unnoted, Blames, Slotted, Converts, Converted, converts, refuses, in_literal, is_object, is_literal, literal_kind, pattern_kind, relabelled, literal_tree, slot_of, elements_in, places_in, target_of}
 use Rattle.js_base.specs.declared.diagnostic.DiagnosticKind.TheVariants.{SpreadLastElement}
 use Rattle.parse_shared.specs.laws_shared.Told.{unrelated_at}
 use Rattle.parse_targets.proofs.LiteralsAsTargets.{one_of_each}
@@ -51,8 +51,8 @@ use Rattle.parse_shared.proofs.laws_shared.Moving.{beside_nodes, same_both, same
 use Rattle.parse_shared.proofs.laws_shared.Paths.{read_of, walked_to}
 use Rattle.parse_shared.proofs.laws_shared.Signs.{none_kept, plain_of}
 use Rattle.parse_targets.proofs.Refused.{refused}
-use Rattle.parse_targets.proofs.ReusedNodes.{below_in}
 use Rattle.parse_targets.proofs.Targets.{kind_of_literal, of_short}
+use Rattle.parse_targets.proofs.Answers.{held_of}
 use Rattle.parse_shared.proofs.laws_shared.Verdicts.{either_way, grown_both, grown_then}
 use Rattle.parse_shared.specs.laws_shared.Classes.{EndsParse}
 use Rattle.parse_shared.specs.js_cursor.Moves.{GivesUp}
@@ -66,20 +66,6 @@ none_of l (Some ds) e = absurd (cc)
 some_of : (l : Label) (r : Option Slots) (ts : Slots) → slot_of (literal_tree l r) ≡ Some ts → (ds : Slots) × (r ≡ Some ds) × (ts ≡ tree (relabelled (pattern_kind (is_object l.kind)) l) ds end)
 some_of l (Some ds) ts e = (ds, refl, (let k : tree (relabelled (pattern_kind (is_object l.kind)) l) ds end ≡ ts = cc in sym k))
 some_of l None ts e = absurd (cc)
-
-pub within_reused : (lo a b : ℕ) (rs qs : List ℕ) → AreWithin lo a rs → lo ≤ a → a ≤ b → Each (Reused rs a b) qs → AreWithin lo b qs
-within_reused lo a b rs [] w i j h = tt
-within_reused lo a b rs (q ∷ qs) w i j h = ((one h.0).0, (one h.0).1, within_reused lo a b rs qs w i j h.1)
-  where
-    one : Reused rs a b q → (lo ≤ q) × (q < b)
-    one (inl m) = let x = below_in lo a rs q w m in (x.0, let y = x.1 in omega arith)
-    one (inr m) = let x = m.0 in (omega arith, m.1)
-
-pub held_node : {ns : List Node} {below lo hi : ℕ} {id : NodeId} {l : Label} {cs : Slots} {qs : List ℕ} → StandsAll ns below (Some id ∷ []) (tree l cs end) qs → AreWithin lo hi qs → AreDistinct qs → Holds ns lo hi id.0 l cs
-held_node {lo = lo} {hi = hi} (next_child {rs = rs} b h no_slots) w d = record { numbers = rs; stands = h; within = subst (λ (xs : List ℕ). AreWithin lo hi xs) (append-nil rs) w; distinct = subst AreDistinct (append-nil rs) d }
-
-pub held_of : {os ns : List Node} {lo : ℕ} {rs : List ℕ} {id : NodeId} {l : Label} {cs : Slots} → AreWithin lo (length os) rs → lo ≤ length os → length os ≤ length ns → Slotted os ns rs (Some id ∷ []) (tree l cs end) → Holds ns lo (length ns) id.0 l cs
-held_of {os} {ns} {lo} {rs} w i j x = held_node x.stands (within_reused lo (length os) (length ns) rs x.numbers w i j x.reused) x.distinct
 
 -- an assignment operator may stand behind a target
 assign_covered : (b : Bool) → covers an_assign (behind_target b) ≡ true

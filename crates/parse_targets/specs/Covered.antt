@@ -6,6 +6,7 @@ use Rattle.js_grammar.specs.LexicalFaults.{Reached}
 use Rattle.js_grammar.specs.Productions.{Flags, Symbol, at, plus_in, Assignment}
 use Rattle.js_grammar.specs.Table.{rule}
 use Rattle.js_grammar.specs.Trees.{Label, Slots, Tree, tree, end, assignment_target_with_default}
+use Rattle.js_grammar.specs.CoverInitialisers.{is_property}
 use Rattle.parse_shared.specs.js_tree.declared.id.NodeId.{NodeId}
 use Rattle.parse_shared.specs.js_tree.Holding.{Holds, Keeps as KeepsNodes}
 use Rattle.parse_shared.specs.js_tree.Nodes.{Node}
@@ -17,7 +18,7 @@ use Rattle.parse_shared.specs.laws_shared.Answers.{Stops, Verdict}
 use Rattle.parse_shared.specs.laws_shared.Lexemes.{Lex}
 use Rattle.parse_shared.specs.laws_shared.States.{At, Same}
 use Rattle.parse_targets.specs.Taken.{PlacesTold}
-use Rattle.parse_targets.specs.Targets.{Each, Narrow, in_literal, in_property, within, is_assignment, is_literal, is_object, is_property, literal_kind, operator_places, property_places, places_in, made_span, Converted, Noted, OfNode, one_node, elements_in, literal_tree, property_slot, relabelled, slot_of, target_by, target_of}
+use Rattle.parse_targets.specs.Targets.{Each, Narrow, in_literal, in_property, within, is_assignment, is_literal, is_object, literal_kind, operator_places, property_places, places_in, made_span, Converted, Noted, OfNode, one_node, elements_in, literal_tree, property_slot, relabelled, slot_of, target_by, target_of}
 use Rattle.parse_targets.specs.declared.widening.Widening.{Widening}
 
 -- ---- what was read

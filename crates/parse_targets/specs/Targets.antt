@@ -13,13 +13,11 @@ use Rattle.parse_targets.specs.declared.widening.Notes.{Notes}
 use Rattle.parse_shared.specs.js_tree.declared.id.NodeId.{NodeId}
 use Rattle.parse_shared.specs.js_tree.Nodes.{Node, label}
 use Rattle.parse_shared.specs.js_tree.Holding.{Holds, Stands, StandsAll, Keeps, Made, AreDistinct}
-use Rattle.js_grammar.specs.Trees.{Span as TreeSpan, NodeKind, Op, no_op, of, Label, Slots, end, hole, tree, Tree, identifier_reference, static_member_expression, computed_member_expression, private_field_expression, parenthesized_expression, array_expression, object_expression, object_property, elision, spread_element, assignment_expression, array_assignment_target, object_assignment_target, assignment_target_rest, assignment_target_with_default, assignment_target_property_identifier, assignment_target_property_property, append}
+use Rattle.js_grammar.specs.Trees.{Span as TreeSpan, NodeKind, Op, no_op, of, Label, Slots, end, hole, tree, Tree, identifier_reference, static_member_expression, computed_member_expression, private_field_expression, array_expression, object_expression, elision, spread_element, assignment_expression, array_assignment_target, object_assignment_target, assignment_target_rest, assignment_target_with_default, assignment_target_property_identifier, assignment_target_property_property, append}
+use Rattle.js_grammar.specs.TreeForms.{are_none, is_parenthesized}
+use Rattle.js_grammar.specs.CoverInitialisers.{is_property}
 use Rattle.parse_shared.specs.laws_shared.NodeTexts.{is_textual}
 use Rattle.parse_shared.specs.laws_shared.States.{NodesLie}
-
-abbrev pub is_parens : NodeKind → Bool
-is_parens parenthesized_expression = true
-is_parens _ = false
 
 abbrev pub is_member : NodeKind → Bool
 is_member static_member_expression = true
@@ -53,7 +51,7 @@ is_target k = is_name k || is_member k
 
 -- of the one slot
 abbrev pub target_in : Slots → Option Tree
-target_in (tree l cs end) = cond (is_parens l.kind) (target_in cs) (cond (is_target l.kind) (Some (record { label = l; slots = cs })) None)
+target_in (tree l cs end) = cond (is_parenthesized l.kind) (target_in cs) (cond (is_target l.kind) (Some (record { label = l; slots = cs })) None)
 target_in _ = None
 
 abbrev pub target_of : Label → Slots → Option Tree
@@ -96,10 +94,6 @@ is_elision _ = false
 abbrev pub is_spread : NodeKind → Bool
 is_spread spread_element = true
 is_spread _ = false
-
-abbrev pub is_property : NodeKind → Bool
-is_property object_property = true
-is_property _ = false
 
 abbrev pub is_assignment : NodeKind → Bool
 is_assignment assignment_expression = true
@@ -180,10 +174,6 @@ property_slot l cs own = cond (has_flag shorthand_flag l.flags) (shorthand_slot 
 -- An element, the last one or another. An assignment, whatever its operator, is a target and its initialiser.
 abbrev pub element_slot : Bool → Label → Slots → Option Slots → Option Slots
 element_slot last l cs own = cond (is_elision l.kind) (Some (hole end)) (cond (is_spread l.kind) (rest_slot last l own) (cond (is_assignment l.kind) (Some (tree (relabelled assignment_target_with_default l) cs end)) (cond (is_property l.kind) (property_slot l cs own) (slot_of (target_by l cs own)))))
-
-abbrev pub are_none : Slots → Bool
-are_none end = true
-are_none _ = false
 
 abbrev pub followed : Option Slots → Slots → Option Slots
 followed (Some ts) us = Some (append ts us)

@@ -4,6 +4,7 @@ use Rattle.std.specs.Prelude.{is_some, IsCharBoundary, Result, Ok, Err, MatchRes
 use Rattle.std.proofs.lemmas.Str.{len_utf8_bounds}
 use Rattle.std.specs.List.{list_all}
 use Rattle.std.proofs.lemmas.Bool.{eqb-true}
+use Rattle.std.proofs.Math.Bool.{or_assoc}
 use Rattle.js_base.specs.declared.kind.Kind.{Kind}
 use Rattle.js_base.specs.declared.kind.Kind.TheVariants.{Decimal, Float, PositiveExponential, NegativeExponential, DecimalBigInt}
 use Rattle.js_base.specs.part_text.Characters.{one_of, is_decimal}
@@ -18,7 +19,7 @@ use Rattle.part_words.specs.Places.{Word}
 use Rattle.part_scan.specs.Numbers.{goes_on, Unstopped, IsRest, IsBroken, Reads, AreDigits}
 use Rattle.part_words.specs.Places.{in_radix, Finds}
 use Rattle.part_words.proofs.Places.{none_passed, then}
-use Rattle.part_scan.proofs.Numbers.{any-append, or-assoc, or-false, front-begins, decimal-on}
+use Rattle.part_scan.proofs.Numbers.{any-append, or-false, front-begins, decimal-on, same-head}
 
 -- a front that a number doesn't stop before
 pub front_goes_on : (r : Rest) (c : ℕ) (cs : List ℕ) → goes_on c ≡ true → Unstopped (λ v. r (c ∷ v)) cs → Unstopped r (c ∷ cs)
@@ -73,7 +74,7 @@ rest_behind {r = r} {before = before} {text = text} {word = word} {n = n} s f b 
       ∙ f (x.word ++ c ∷ v) others (x.stands.splits ∙ ap (λ (u : List ℕ). x.word ++ u) e ∙ sym (append_assoc x.word (c ∷ v) others))
       ∙ x.never c v others e;
   separated =
-      x.separated ∙ ap (λ (a : Bool). a || has_separator x.word) b ∙ or-assoc before (has_separator word) (has_separator x.word)
+      x.separated ∙ ap (λ (a : Bool). a || has_separator x.word) b ∙ or_assoc before (has_separator word) (has_separator x.word)
       ∙ ap (λ (a : Bool). before || a) (sym (any-append (λ a. a == 95) word x.word));
 }
 
@@ -140,9 +141,6 @@ stays {before = before} {text = text} {i = i} b e n = record { is = record { wor
 
 head-of : {c : ℕ} {cs : List ℕ} (p : ℕ → Bool) (x others : List ℕ) → begins p cs ≡ false → cs ≡ c ∷ x ++ others → p c ≡ false
 head-of p x others h e = subst (λ (v : List ℕ). begins p v ≡ false) e h
-
-pub head-is : {text : List ℕ} {i c : ℕ} (p : ℕ → Bool) → Word text i (i + 1) (c ∷ []) → begins p (behind text i) ≡ false → p c ≡ false
-head-is p w h = subst (λ (v : List ℕ). begins p v ≡ false) w.splits h
 
 pub front-of : {cs : List ℕ} (p : ℕ → Bool) (v more : List ℕ) → begins p cs ≡ false → cs ≡ v ++ more → begins p v ≡ false
 front-of p v more h e = front-begins p v more (subst (λ (u : List ℕ). begins p u ≡ false) e h)
@@ -226,7 +224,7 @@ pub reads_minus : {before : Bool} {text : List ℕ} {i : ℕ} {result : Result N
 reads_minus f x = behind_rejected f.1 (λ v. (let h = f.2 in rw (h, signed) refl)) refl (one_fails 95 45 f.0 f.2 refl) x
 
 pub reads_plus : {before : Bool} {text : List ℕ} {i : ℕ} {result : Result Number ℕ} → Finds (λ c. c == 45) text i false → Finds (λ c. c == 43) text i true → Reads (digits is_decimal (ends PositiveExponential) false) before text (i + 1) result → Reads signed before text i result
-reads_plus n f x = behind_rejected f.1 (λ v. (let h = f.2 in let m : (f.0 == 45) ≡ false = head-is (λ a. a == 45) f.1 n in rw (m, h, signed) refl)) refl (one_fails 95 43 f.0 f.2 refl) x
+reads_plus n f x = behind_rejected f.1 (λ v. (let h = f.2 in let m : (f.0 == 45) ≡ false = same-head (λ a. a == 45) f.1 n in rw (m, h, signed) refl)) refl (one_fails 95 43 f.0 f.2 refl) x
 
 unsigned : (v : List ℕ) → begins (λ c. c == 45) v ≡ false → begins (λ c. c == 43) v ≡ false → signed v ≡ digits is_decimal (ends PositiveExponential) false v
 unsigned [] h k = refl

@@ -1,6 +1,6 @@
 -- Readings of whole numbers, and what they tell of lexemes.
 use Rattle.std.proofs.Common.{◌≡◌, ℕ, ◌+◌, ◌==◌, Bool, true, false, List, [], ◌∷◌, ◌++◌, refl, sym, ap, subst, ◌∙◌, not, ◌&&◌, ◌||◌, arith, Option, Some, None, inl, inr}
-use Rattle.std.specs.Prelude.{is_some, nat_lt, nat_eq, nat_le, IsCharBoundary, Result, Ok, IsTrue}
+use Rattle.std.specs.Prelude.{is_some, nat_lt, nat_eq, IsCharBoundary, Result, Ok, IsTrue}
 use Rattle.std.specs.List.{list_all}
 use Rattle.std.proofs.lemmas.Bool.{eqb-true, or_right}
 use Rattle.std.proofs.lemmas.Bool.Decides.{nat_tests}
@@ -13,15 +13,17 @@ use Rattle.js_base.specs.Texts.{words}
 use Rattle.js_base.specs.part_text.Characters.{one_of, is_decimal, is_hex, is_octal, is_binary}
 use Rattle.part_words.specs.js_grammar.Characters.{begins}
 use Rattle.part_words.specs.js_grammar.Longest.{longest, none_longer}
-use Rattle.part_words.specs.js_grammar.Numbers.{Rest, ends, suffix, digits, signed, exponent, fraction, decimal_rest, integer_rest, legacy, zero_rest, number_kind, has_separator, stops_number, is_number}
+use Rattle.part_words.specs.js_grammar.Numbers.{Rest, suffix, digits, exponent, decimal_rest, integer_rest, legacy, zero_rest, number_kind, has_separator, stops_number, is_number}
 use Rattle.part_words.specs.js_grammar.Lexemes.{plain_kind, lexemes_in, division, a_number, opening, is_escaped, Opening}
 use Rattle.part_words.specs.js_grammar.Lexed.{IsLexeme}
 use Rattle.part_words.specs.js_grammar.LexicalFaults.{behind, InvalidNumber, is_number_word, Stopping}
 use Rattle.part_words.proofs.js_grammar.LongestLemmas.{both-left, both-right, both, not-true, none_longer-at, fronts}
-use Rattle.part_words.proofs.js_grammar.Finding.{member, neither-left, neither-right, kind_member}
-use Rattle.part_words.proofs.js_grammar.CoreLemmas.{none_longer-from, plain_of, opens, opens-same}
+use Rattle.part_words.proofs.js_grammar.Finding.{member, kind_member, all-mono}
+use Rattle.part_words.proofs.js_grammar.CoreLemmas.{none_longer-from, plain_of}
 use Rattle.part_words.proofs.js_grammar.CoreFirst.{decimal-ascii}
 use Rattle.part_words.proofs.js_grammar.CoreNames.{ascii}
+use Rattle.part_words.proofs.js_grammar.CoreNumbers.{number-opens}
+use Rattle.part_words.proofs.js_grammar.NumberKinds.{kind_numeric}
 use Rattle.part_scan.specs.declared.number.Number.{Number}
 use Rattle.part_scan.specs.declared.number.Legacy.{Legacy}
 use Rattle.part_words.specs.declared.scan.Fault.{Fault}
@@ -29,8 +31,8 @@ use Rattle.part_words.specs.Places.{Word}
 use Rattle.part_words.specs.Scans.{IsScanned, IsStopped, NoLexeme}
 use Rattle.part_scan.specs.Numbers.{begins_number, goes_on, Unstopped, IsRest, Reads, AreLegacy}
 use Rattle.part_words.specs.Places.{in_radix, Finds}
-use Rattle.part_scan.proofs.Numbers.{decimal-on}
-use Rattle.part_scan.proofs.NumberRests.{behind_word, behind_one, behind_rejected, same_here, same_from_head, fronts_go_on, one_fails, head-is, front-of, stays}
+use Rattle.part_scan.proofs.Numbers.{decimal-on, same-head}
+use Rattle.part_scan.proofs.NumberRests.{behind_word, behind_one, behind_rejected, same_here, same_from_head, fronts_go_on, one_fails, front-of, stays}
 use Rattle.part_words.specs.Faults.{PartsEnd, Reaches, fault_kind, kind_of_fault, is_part}
 use Rattle.part_words.proofs.Parts.{parts_some}
 use Rattle.std.proofs.lemmas.Str.{len_utf8_bounds}
@@ -48,9 +50,6 @@ legacy_above (c ∷ v) h = rw (h, legacy) refl
 word_begins : (p : ℕ → Bool) (word cs ds : List ℕ) → cs ≡ word ++ ds → begins p cs ≡ true → begins p ds ≡ false → begins p word ≡ true
 word_begins p [] cs ds e h k = let m : begins p ds ≡ true = subst (λ (v : List ℕ). begins p v ≡ true) e h in cc
 word_begins p (c ∷ word) cs ds e h k = subst (λ (v : List ℕ). begins p v ≡ true) e h
-
-all-mono : (t u : ℕ → Bool) (xs : List ℕ) → ((c : ℕ) → t c ≡ true → u c ≡ true) → list_all t xs ≡ true → list_all u xs ≡ true
-all-mono = Rattle.part_words.proofs.js_grammar.Finding.all-mono
 
 no_separators : (word : List ℕ) → list_all is_decimal word ≡ true → has_separator word ≡ false
 no_separators word h = Rattle.part_words.proofs.js_grammar.Runs.none-any (λ c. c == 95) is_decimal word (λ c g. not-true (c == 95) (ascii is_decimal (λ a. not (a == 95)) c refl (decimal-ascii c g) g)) h
@@ -76,22 +75,22 @@ reads_octal {text = text} {n = n} d h a =
 pub reads_hex : {text : List ℕ} {i : ℕ} {result : Result Number ℕ} → Finds (in_radix 10) text i false → Finds (one_of (88 ∷ 120 ∷ [])) text i true → Reads (digits is_hex (suffix Hex HexBigInt) false) false text (i + 1) result → Reads zero_rest false text i result
 reads_hex n f x =
     let h = f.2 in
-    let d : is_decimal f.0 ≡ false = head-is is_decimal f.1 n in
+    let d : is_decimal f.0 ≡ false = same-head is_decimal f.1 n in
     behind_one f.1 (λ v. rw (d, h, zero_rest) refl) (member goes_on (88 ∷ 120 ∷ []) f.0 f.2 refl) (not-true (f.0 == 95) (member (λ a. not (a == 95)) (88 ∷ 120 ∷ []) f.0 f.2 refl)) x
 
 pub reads_modern_octal : {text : List ℕ} {i : ℕ} {result : Result Number ℕ} → Finds (in_radix 10) text i false → Finds (one_of (88 ∷ 120 ∷ [])) text i false → Finds (one_of (79 ∷ 111 ∷ [])) text i true → Reads (digits is_octal (suffix Octal OctalBigInt) false) false text (i + 1) result → Reads zero_rest false text i result
 reads_modern_octal n m f x =
     let h = f.2 in
-    let d : is_decimal f.0 ≡ false = head-is is_decimal f.1 n in
-    let e : one_of (88 ∷ 120 ∷ []) f.0 ≡ false = head-is (one_of (88 ∷ 120 ∷ [])) f.1 m in
+    let d : is_decimal f.0 ≡ false = same-head is_decimal f.1 n in
+    let e : one_of (88 ∷ 120 ∷ []) f.0 ≡ false = same-head (one_of (88 ∷ 120 ∷ [])) f.1 m in
     behind_one f.1 (λ v. rw (d, e, h, zero_rest) refl) (member goes_on (79 ∷ 111 ∷ []) f.0 f.2 refl) (not-true (f.0 == 95) (member (λ a. not (a == 95)) (79 ∷ 111 ∷ []) f.0 f.2 refl)) x
 
 pub reads_binary : {text : List ℕ} {i : ℕ} {result : Result Number ℕ} → Finds (in_radix 10) text i false → Finds (one_of (88 ∷ 120 ∷ [])) text i false → Finds (one_of (79 ∷ 111 ∷ [])) text i false → Finds (one_of (66 ∷ 98 ∷ [])) text i true → Reads (digits is_binary (suffix Binary BinaryBigInt) false) false text (i + 1) result → Reads zero_rest false text i result
 reads_binary n m o f x =
     let h = f.2 in
-    let d : is_decimal f.0 ≡ false = head-is is_decimal f.1 n in
-    let e : one_of (88 ∷ 120 ∷ []) f.0 ≡ false = head-is (one_of (88 ∷ 120 ∷ [])) f.1 m in
-    let g : one_of (79 ∷ 111 ∷ []) f.0 ≡ false = head-is (one_of (79 ∷ 111 ∷ [])) f.1 o in
+    let d : is_decimal f.0 ≡ false = same-head is_decimal f.1 n in
+    let e : one_of (88 ∷ 120 ∷ []) f.0 ≡ false = same-head (one_of (88 ∷ 120 ∷ [])) f.1 m in
+    let g : one_of (79 ∷ 111 ∷ []) f.0 ≡ false = same-head (one_of (79 ∷ 111 ∷ [])) f.1 o in
     behind_one f.1 (λ v. rw (d, e, g, h, zero_rest) refl) (member goes_on (66 ∷ 98 ∷ []) f.0 f.2 refl) (not-true (f.0 == 95) (member (λ a. not (a == 95)) (66 ∷ 98 ∷ []) f.0 f.2 refl)) x
 
 no_prefix : (v : List ℕ) → begins is_decimal v ≡ false → begins (one_of (88 ∷ 120 ∷ [])) v ≡ false → begins (one_of (79 ∷ 111 ∷ [])) v ≡ false → begins (one_of (66 ∷ 98 ∷ [])) v ≡ false → zero_rest v ≡ integer_rest v
@@ -134,70 +133,6 @@ reads_integer {text = text} {i = i} b n m x =
     let t : (h.first == 48) ≡ false = subst (λ (v : List ℕ). begins (λ c. c == 48) v ≡ false) h.is m in
     same_from_head h.is (decimal-on h.first p) (λ v. rw (s, t, p, number_kind, digits) refl) refl x
 
--- Each reading of a number gives a kind of a number.
-abbrev numeric : Option Kind → Bool
-numeric None = true
-numeric (Some k) = is_number k
-
-cond_numeric : (b : Bool) (x y : Option Kind) → numeric x ≡ true → numeric y ≡ true → numeric (elim b [ true ↦ x | false ↦ y ]) ≡ true
-cond_numeric true x y h k = h
-cond_numeric false x y h k = k
-
-abbrev Numeric : Rest → Type 0
-Numeric r = (v : List ℕ) → numeric (r v) ≡ true
-
-ends_numeric : (k : Kind) → is_number k ≡ true → Numeric (ends k)
-ends_numeric k h [] = h
-ends_numeric k h (c ∷ v) = refl
-
-suffix_numeric : (k big : Kind) → is_number k ≡ true → is_number big ≡ true → Numeric (suffix k big)
-suffix_numeric k big h g [] = h
-suffix_numeric k big h g (c ∷ v) = cond_numeric (c == 110) _ _ (ends_numeric big g v) refl
-
-digits_numeric : (d : ℕ → Bool) (r : Rest) → Numeric r → (digit : Bool) → Numeric (digits d r digit)
-digits_numeric d r h digit [] = cond_numeric digit _ _ (h []) refl
-digits_numeric d r h digit (c ∷ v) = cond_numeric (d c) _ _ (digits_numeric d r h true v) (cond_numeric digit _ _ (cond_numeric (c == 95) _ _ (digits_numeric d r h false v) (h (c ∷ v))) refl)
-
-signed_numeric : Numeric signed
-signed_numeric [] = refl
-signed_numeric (c ∷ v) = cond_numeric (c == 45) _ _ (digits_numeric is_decimal (ends NegativeExponential) (ends_numeric NegativeExponential refl) false v)
-    (cond_numeric (c == 43) _ _ (digits_numeric is_decimal (ends PositiveExponential) (ends_numeric PositiveExponential refl) false v) (digits_numeric is_decimal (ends PositiveExponential) (ends_numeric PositiveExponential refl) false (c ∷ v)))
-
-exponent_numeric : (k : Kind) → is_number k ≡ true → Numeric (exponent k)
-exponent_numeric k h [] = h
-exponent_numeric k h (c ∷ v) = cond_numeric (one_of (69 ∷ 101 ∷ []) c) _ _ (signed_numeric v) refl
-
-fraction_numeric : Numeric fraction
-fraction_numeric [] = refl
-fraction_numeric (c ∷ v) = cond_numeric (is_decimal c) _ _ (digits_numeric is_decimal (exponent Float) (exponent_numeric Float refl) true v) (exponent_numeric Float refl (c ∷ v))
-
-decimal_numeric : Numeric decimal_rest
-decimal_numeric [] = refl
-decimal_numeric (c ∷ v) = cond_numeric (c == 46) _ _ (fraction_numeric v) (exponent_numeric Decimal refl (c ∷ v))
-
-integer_numeric : Numeric integer_rest
-integer_numeric [] = refl
-integer_numeric (c ∷ v) = cond_numeric (c == 110) _ _ (ends_numeric DecimalBigInt refl v) (decimal_numeric (c ∷ v))
-
-legacy_numeric : (above : Bool) → Numeric (legacy above)
-legacy_numeric above [] = cond_numeric above _ _ refl refl
-legacy_numeric above (c ∷ v) = cond_numeric (is_decimal c) _ _ (legacy_numeric (above || nat_le 56 c) v) (cond_numeric above _ _ (decimal_numeric (c ∷ v)) refl)
-
-zero_numeric : Numeric zero_rest
-zero_numeric [] = refl
-zero_numeric (c ∷ v) = cond_numeric (is_decimal c) _ _ (legacy_numeric (nat_le 56 c) v)
-    (cond_numeric (one_of (88 ∷ 120 ∷ []) c) _ _ (digits_numeric is_hex (suffix Hex HexBigInt) (suffix_numeric Hex HexBigInt refl refl) false v)
-    (cond_numeric (one_of (79 ∷ 111 ∷ []) c) _ _ (digits_numeric is_octal (suffix Octal OctalBigInt) (suffix_numeric Octal OctalBigInt refl refl) false v)
-    (cond_numeric (one_of (66 ∷ 98 ∷ []) c) _ _ (digits_numeric is_binary (suffix Binary BinaryBigInt) (suffix_numeric Binary BinaryBigInt refl refl) false v) (integer_numeric (c ∷ v)))))
-
-number_numeric : Numeric number_kind
-number_numeric [] = refl
-number_numeric (c ∷ v) = cond_numeric (c == 46) _ _ (digits_numeric is_decimal (exponent Float) (exponent_numeric Float refl) false v)
-    (cond_numeric (c == 48) _ _ (zero_numeric v) (cond_numeric (is_decimal c) _ _ (digits_numeric is_decimal integer_rest integer_numeric true v) refl))
-
-kind_numeric : (w : List ℕ) (k : Kind) → number_kind w ≡ Some k → is_number k ≡ true
-kind_numeric w k e = subst (λ (o : Option Kind). numeric o ≡ true) e (number_numeric w)
-
 -- No number is a word or a private name.
 above_words : (i : ℕ) → nat_lt 122 i ≡ true → (nat_eq 120 i ≡ false) × (nat_eq 121 i ≡ false)
 above_words i h = grind (arith, nat_tests)
@@ -218,11 +153,6 @@ not_escaped k w h = let a = both_false in rw (a.0, a.1, no_word (one_of_kinds wo
     no_word : (b : Bool) → one_of_kinds words k ≡ b → one_of_kinds words k ≡ false
     no_word true e = absurd (apart_codes (code k) high (kind_member (λ i. nat_lt i 120) words k e refl))
     no_word false e = e
-
--- what a number begins with, and that a digit or a dot with a digit begins nothing else
-number_opens : (c : ℕ) (digit : Bool) → is_decimal c ≡ true → opening c digit ≡ a_number
-number_opens c true h = opens-same _ _ (ascii is_decimal (λ a. opens (opening a true) a_number) c refl (decimal-ascii c h) h)
-number_opens c false h = opens-same _ _ (ascii is_decimal (λ a. opens (opening a false) a_number) c refl (decimal-ascii c h) h)
 
 begins_with_digit : (r : Rest) (v : List ℕ) (k : Kind) → digits is_decimal r false v ≡ Some k → begins is_decimal v ≡ true
 begins_with_digit r [] k e = cc
@@ -260,7 +190,7 @@ opens_number : (c : ℕ) (v : List ℕ) → begins_number (c ∷ v) ≡ true →
 opens_number c v h = go (is_decimal c) refl
   where
     go : (b : Bool) → is_decimal c ≡ b → opening c (begins is_decimal v) ≡ a_number
-    go true g = number_opens c (begins is_decimal v) g
+    go true g = number-opens c (begins is_decimal v) g
     go false g = let d = dot-of c v g h in ap (λ (b : Bool). opening c b) d.digit ∙ ap (λ (x : ℕ). opening x true) d.dot
 
 begins_more : (c : ℕ) (v x : List ℕ) → begins_number (c ∷ v) ≡ true → begins_number (c ∷ v ++ x) ≡ true
@@ -374,7 +304,7 @@ number_told (c ∷ cs) h = go (is_decimal c) refl
     part c d = ascii is_decimal (λ a. is_part true a) c refl (decimal-ascii c d) d
 
     go : (b : Bool) → is_decimal c ≡ b → (fault_kind (c ∷ cs) ≡ fault.InvalidNumber) × (begins (is_part true) (c ∷ cs) ≡ true)
-    go true d = (ap (λ (o : Opening). kind_of_fault o c cs) (number_opens c (begins is_decimal cs) d), part c d)
+    go true d = (ap (λ (o : Opening). kind_of_fault o c cs) (number-opens c (begins is_decimal cs) d), part c d)
     go false d =
         let e : ((c == 46) && begins is_decimal cs) ≡ true = subst (λ (b : Bool). (b || ((c == 46) && begins is_decimal cs)) ≡ true) d h in
         let dot : c ≡ 46 = eqb-true c 46 (both-left (c == 46) (begins is_decimal cs) e) in

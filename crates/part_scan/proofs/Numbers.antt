@@ -2,13 +2,14 @@
 use Rattle.std.proofs.Common.{◌≡◌, ◌<◌, ◌≤◌, ℕ, ◌+◌, ◌==◌, Bool, true, false, List, [], ◌∷◌, ◌++◌, refl, sym, ap, subst, ◌∙◌, not, ◌&&◌, ◌||◌, append_assoc, arith, length}
 use Rattle.std.specs.Prelude.{nat_lt, nat_le, IsCharBoundary}
 use Rattle.std.specs.List.{list_all, list_any}
-use Rattle.std.specs.Char.{is_digit, digit_value}
+use Rattle.std.specs.Char.{digit_value}
 use Rattle.std.proofs.lemmas.Bool.Decides.{nat_tests}
+use Rattle.std.proofs.Math.Bool.{or_assoc}
 use Rattle.js_base.specs.part_text.Characters.{one_of, is_decimal, is_hex}
 use Rattle.part_words.specs.js_grammar.Characters.{begins}
 use Rattle.part_words.specs.js_grammar.Numbers.{Rest, digits, legacy, has_separator}
 use Rattle.part_words.specs.js_grammar.LexicalFaults.{behind}
-use Rattle.part_words.proofs.js_grammar.LongestLemmas.{both-left, both-right, both, append-nil}
+use Rattle.part_words.proofs.js_grammar.LongestLemmas.{both}
 use Rattle.part_words.proofs.js_grammar.Finding.{all-append}
 use Rattle.part_words.proofs.js_grammar.CoreLemmas.{below, implies, implied}
 use Rattle.part_words.proofs.js_grammar.CoreFirst.{decimal-ascii}
@@ -39,17 +40,13 @@ radix-no-separator radix c l h = hex-no-separator c (wider (digit_value c) radix
 separator-on : (c : ℕ) → (c == 95) ≡ true → goes_on c ≡ true
 separator-on c h = subst (λ (x : ℕ). goes_on x ≡ true) (sym (Rattle.std.proofs.lemmas.Bool.eqb-true c 95 h)) refl
 
-pub or-assoc : (a b d : Bool) → ((a || b) || d) ≡ (a || (b || d))
-or-assoc true b d = refl
-or-assoc false b d = refl
-
 pub or-false : (a : Bool) → a ≡ (a || false)
 or-false true = refl
 or-false false = refl
 
 pub any-append : (p : ℕ → Bool) (w v : List ℕ) → list_any p (w ++ v) ≡ (list_any p w || list_any p v)
 any-append p [] v = refl
-any-append p (c ∷ w) v = ap (λ (b : Bool). p c || b) (any-append p w v) ∙ sym (or-assoc (p c) (list_any p w) (list_any p v))
+any-append p (c ∷ w) v = ap (λ (b : Bool). p c || b) (any-append p w v) ∙ sym (or_assoc (p c) (list_any p w) (list_any p v))
 
 pub front-begins : (p : ℕ → Bool) (v more : List ℕ) → begins p (v ++ more) ≡ false → begins p v ≡ false
 front-begins p [] more h = refl
@@ -83,7 +80,7 @@ passed_digit {radix = radix} {complete = complete} l p f =
       marked = p.marked ∙ or-false (has_separator p.word) ∙ ap (λ (b : Bool). has_separator p.word || (b || false)) (sym (radix-no-separator radix c l f.2)) ∙ sym (any-append (λ a. a == 95) p.word (c ∷ []));
     }
 
-same-head : {text : List ℕ} {j c : ℕ} (p : ℕ → Bool) → Word text j (j + 1) (c ∷ []) → begins p (behind text j) ≡ false → p c ≡ false
+pub same-head : {text : List ℕ} {j c : ℕ} (p : ℕ → Bool) → Word text j (j + 1) (c ∷ []) → begins p (behind text j) ≡ false → p c ≡ false
 same-head p w h = subst (λ (v : List ℕ). begins p v ≡ false) w.splits h
 
 pub passed_separator : {radix : ℕ} {text : List ℕ} {i j : ℕ} {separated : Bool} → Passed radix text i j true separated → Finds (in_radix radix) text j false → Finds (λ c. c == 95) text j true → Passed radix text i (j + 1) false true

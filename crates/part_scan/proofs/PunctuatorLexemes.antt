@@ -8,6 +8,7 @@ use Rattle.std.specs.List.{list_all}
 use Rattle.std.proofs.lemmas.Bool.{eqb-true}
 use Rattle.std.proofs.lemmas.Bool.Decides.{nat_tests}
 use Rattle.std.proofs.lemmas.Str.{length-encode, len_utf8_bounds, encodes-chars, IsUtf8-drop, IsCharBoundary-end}
+use Rattle.std.proofs.lemmas.List.{append-nil}
 use Rattle.js_base.specs.declared.kind.Kind.{Kind}
 use Rattle.js_base.specs.declared.kind.Kind.TheVariants.{Slash, PrivateIdentifier}
 use Rattle.js_base.specs.declared.diagnostic.DiagnosticKind.TheVariants as fault
@@ -22,7 +23,7 @@ use Rattle.part_words.specs.js_grammar.Numbers.{is_number, stops_number}
 use Rattle.part_words.specs.js_grammar.Lexemes.{Opening, punctuator_kind, plain_kind, lexemes_in, division, a_name, a_number, a_string, a_template, a_private_name, a_punctuator, opening, is_word}
 use Rattle.part_words.specs.js_grammar.Lexed.{IsLexeme}
 use Rattle.part_words.specs.js_grammar.LexicalFaults.{behind, begins_nothing, is_comment}
-use Rattle.part_words.proofs.js_grammar.LongestLemmas.{both-left, both-right, both, not-true, none_longer-at, append-nil}
+use Rattle.part_words.proofs.js_grammar.LongestLemmas.{both-left, both-right, both, not-true, none_longer-at}
 use Rattle.part_words.proofs.js_grammar.Finding.{neither-left, neither-right, found-all}
 use Rattle.part_words.proofs.js_grammar.CoreLemmas.{none_longer-from, plain_of}
 use Rattle.part_scan.specs.declared.punctuator.Punctuator.{Punctuator}
@@ -202,7 +203,7 @@ stray {text = text} {i = i} {j = j} {c = c} b o z w n = record {
 none_mono : (a b : Class) (cs : List ℕ) → ((w rest : List ℕ) → a w rest ≡ false → b w rest ≡ false) → none_begins a cs ≡ true → none_begins b cs ≡ true
 none_mono a b cs f h = none_longer-from b [] cs (λ c x more e. f (c ∷ x) more (none_longer-at a [] c x more (subst (λ (v : List ℕ). none_longer a [] v ≡ true) e h)))
 
-length-all : (cs : List ℕ) → length (encode_utf8_all cs) ≡ width cs
+pub length-all : (cs : List ℕ) → length (encode_utf8_all cs) ≡ width cs
 length-all [] = refl
 length-all (c ∷ cs) = length-append (encode_utf8 c) (encode_utf8_all cs) ∙ ap (λ (n : ℕ). n + length (encode_utf8_all cs)) (length-encode c) ∙ ap (λ (n : ℕ). len_utf8 c + n) (length-all cs)
 

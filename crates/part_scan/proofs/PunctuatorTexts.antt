@@ -2,18 +2,9 @@
 use Rattle.std.proofs.Common.{◌≡◌, ℕ, ◌==◌, Bool, true, false, List, [], ◌∷◌, refl, sym, ◌&&◌, ◌||◌, None}
 use Rattle.std.specs.Prelude.{cond}
 use Rattle.std.specs.List.{list_all}
-use Rattle.std.proofs.lemmas.Bool.Decides.{Decides-eqb}
 use Rattle.js_base.specs.Texts.{text_of, punctuators}
 use Rattle.part_scan.specs.Punctuators.{punctuator_of}
 use Rattle.part_scan.proofs.Punctuators.{fails}
-
--- numbers that differ are told apart
-pub differ : (a b : ℕ) → (a ≡ b → ⊥) → (a == b) ≡ false
-differ a b n = go (a == b) refl
-  where
-    go : (t : Bool) → (a == b) ≡ t → (a == b) ≡ false
-    go false e = e
-    go true e = absurd (n ((Decides-eqb a b).0 e))
 
 -- the characters of the punctuators of three characters
 abbrev pub is_triple : ℕ → ℕ → ℕ → Bool

@@ -3,6 +3,7 @@ use Rattle.std.proofs.Common.{◌≡◌, ℕ, ◌+◌, Bool, true, false, List, 
 use Rattle.std.specs.Prelude.{IsCharBoundary, is_some, codes}
 use Rattle.std.specs.List.{list_all}
 use Rattle.std.proofs.lemmas.Bool.{eqb-true}
+use Rattle.std.proofs.lemmas.List.{append-nil}
 use Rattle.js_base.specs.declared.kind.Kind.{Kind}
 use Rattle.js_base.specs.declared.kind.Kind.TheVariants.{RegExp}
 use Rattle.js_base.specs.declared.diagnostic.DiagnosticKind.TheVariants.{UnterminatedRegexp, UnterminatedComment}
@@ -14,8 +15,9 @@ use Rattle.part_words.specs.js_grammar.Longest.{longest, none_longer, none_begin
 use Rattle.part_words.specs.js_grammar.Lexemes.{regular_expression, lexemes_in, is_escaped}
 use Rattle.part_words.specs.js_grammar.LexicalFaults.{behind, Unterminated, is_open_pattern, is_open_regular_expression}
 use Rattle.part_words.specs.js_grammar.RegularExpressions.{behind_pattern, flags, flagged, regular_expression_kind}
-use Rattle.part_words.proofs.js_grammar.LongestLemmas.{both, append-nil}
+use Rattle.part_words.proofs.js_grammar.LongestLemmas.{both}
 use Rattle.part_words.proofs.js_grammar.CoreLemmas.{none_longer-from}
+use Rattle.part_words.proofs.js_grammar.QuickLexemes.{pattern_longer}
 use Rattle.part_words.specs.Places.{Word}
 use Rattle.part_words.specs.Scans.{IsStopped, NoLexeme}
 use Rattle.part_scan.specs.RegularExpressionParts.{Pattern, OpenPattern, IsRegularExpression, ends_bracketed}
@@ -86,26 +88,13 @@ chosen p q cs r = elim p [ true ↦ None | false ↦ elim q [ true ↦ Some cs |
 abbrev brackets_behind : Bool → Bool → ℕ → Bool
 brackets_behind b e c = elim e [ true ↦ b | false ↦ ends_bracketed b c ]
 
--- what ends a pattern ends it whatever stands behind
-ended_still : (b e : Bool) (w v r : List ℕ) → behind_pattern b e w ≡ Some r → behind_pattern b e (w ++ v) ≡ Some (r ++ v)
-ended_still b e [] v r h = cc
-ended_still b e (c ∷ w) v r h = go (is_line_terminator c) (not e && (not b && (c == 47))) h (λ k. ended_still (brackets_behind b e c) (not e && (c == 92)) w v r k)
-  where
-    go : (p q : Bool)
-        → chosen p q w (behind_pattern (brackets_behind b e c) (not e && (c == 92)) w) ≡ Some r
-        → (behind_pattern (brackets_behind b e c) (not e && (c == 92)) w ≡ Some r → behind_pattern (brackets_behind b e c) (not e && (c == 92)) (w ++ v) ≡ Some (r ++ v))
-        → chosen p q (w ++ v) (behind_pattern (brackets_behind b e c) (not e && (c == 92)) (w ++ v)) ≡ Some (r ++ v)
-    go true q h f = absurd (let k : None ≡ Some r = h in cc)
-    go false true h f = let k : Some w ≡ Some r = h in let s : w ≡ r = cc in ap (λ (x : List ℕ). Some (x ++ v)) s
-    go false false h f = f h
-
 -- where nothing ends a pattern, no front of it is one
 no_front : (w rest : List ℕ) → behind_pattern false false (w ++ rest) ≡ None → behind_pattern false false w ≡ None
 no_front w rest n = go (behind_pattern false false w) refl
   where
     go : (o : Option (List ℕ)) → behind_pattern false false w ≡ o → behind_pattern false false w ≡ None
     go None h = h
-    go (Some r) h = absurd (let k : None ≡ Some (r ++ rest) = sym n ∙ ended_still false false w rest r h in cc)
+    go (Some r) h = absurd (let k : None ≡ Some (r ++ rest) = sym n ∙ pattern_longer false false w rest r h in cc)
 
 no_flags : (c : ℕ) (w : List ℕ) → behind_pattern false false w ≡ None → flags (c ∷ w) ≡ None
 no_flags c [] h = refl

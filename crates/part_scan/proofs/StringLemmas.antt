@@ -1,10 +1,10 @@
 -- What the inside of a string passes, and what stands where it is closed, open, or has an ill-formed escape: of lists of characters.
-use Rattle.std.proofs.Common.{◌≡◌, ℕ, suc, ◌+◌, ◌-◌, ◌==◌, Bool, true, false, List, [], ◌∷◌, ◌++◌, refl, sym, ap, subst, ◌∙◌, not, ◌&&◌, ◌||◌, Option, Some, None, ◌⊎◌, inl, inr, append_assoc, take, drop, length, length-append, arith}
+use Rattle.std.proofs.Common.{◌≡◌, ℕ, ◌+◌, ◌-◌, ◌==◌, Bool, true, false, List, [], ◌∷◌, ◌++◌, refl, sym, ap, subst, ◌∙◌, not, ◌&&◌, ◌||◌, Option, Some, None, ◌⊎◌, inl, inr, append_assoc, arith}
 use Rattle.std.specs.Prelude.{is_some}
 use Rattle.std.specs.List.{list_all}
-use Rattle.std.proofs.lemmas.Bool.{eqb-true, eq-eqb, and_right, and_left}
+use Rattle.std.proofs.lemmas.Bool.{eqb-true, eq-eqb, and_right, and_left, or_cases, ne_eqb}
 use Rattle.std.proofs.lemmas.Bool.Decides.{nat_tests}
-use Rattle.part_scan.proofs.PunctuatorTexts.{differ}
+use Rattle.std.proofs.lemmas.List.{append-nil}
 use Rattle.js_base.specs.declared.kind.Kind.TheVariants.{Str}
 use Rattle.js_base.specs.part_text.Characters.{one_of}
 use Rattle.js_base.specs.part_text.Escapes.{in_string, Stage, Step, outside, backslash, unicode, nul, due, braced, octal, step, finish, line_feeds, line_feeds_after}
@@ -15,10 +15,11 @@ use Rattle.part_words.specs.js_grammar.Longest.{longest, none_longer, none_begin
 use Rattle.part_words.specs.js_grammar.Strings.{nothing_left, closes_string, string_inside, string_kind}
 use Rattle.part_words.specs.js_grammar.LexicalFaults.{lacks_line_end, is_open_string, is_closed_string, is_right_inside}
 use Rattle.part_words.specs.js_grammar.Lexemes.{a_string, opening}
-use Rattle.part_words.proofs.js_grammar.LongestLemmas.{both-left, both-right, both, not-true, append-nil}
-use Rattle.part_words.proofs.js_grammar.Finding.{member, either}
+use Rattle.part_words.proofs.js_grammar.LongestLemmas.{both-left, both-right, both, not-true}
+use Rattle.part_words.proofs.js_grammar.Finding.{member}
 use Rattle.part_words.proofs.js_grammar.CoreNumbers.{nothing-nil}
 use Rattle.part_words.proofs.js_grammar.CoreLemmas.{none_longer-from, opens, opens-same}
+use Rattle.part_words.proofs.js_grammar.Quotations.{plain-feeds, something_left, inside_of}
 use Rattle.part_scan.specs.Strings.{Within, lacks_backslash, is_escaped_word, is_line_feed_word, ends_line}
 use Rattle.part_words.proofs.Plain.{opened_by, Opens}
 
@@ -62,10 +63,6 @@ none_within q rest = record { closes = λ v more e. refl; lacks = λ v more e. r
     nothing [] more e = refl
     nothing (c ∷ v) more e = absurd (let k = e in cc)
 
--- a character that is no quote, no backslash and no line end
-plain-feeds : (c : ℕ) (v : List ℕ) → (c == 13) ≡ false → line_feeds (c ∷ v) ≡ c ∷ line_feeds v
-plain-feeds c v h = ap (λ (b : Bool). elim b [ true ↦ 10 ∷ line_feeds_after true v | false ↦ c ∷ line_feeds_after false v ]) h
-
 plain-closes : (q c : ℕ) (cs : List ℕ) → (c == q) ≡ false → (c == 10) ≡ false → (c == 92) ≡ false → closes_string q false (c ∷ cs) ≡ closes_string q false cs
 plain-closes q c cs e f g = rw (e, f, g, closes_string) refl
 
@@ -74,10 +71,10 @@ plain-lacks c cs f g = rw (f, g, lacks_line_end) refl
 
 pub one_within : (q c : ℕ) (rest : List ℕ) → (c ≡ q → ⊥) → (c ≡ 10 → ⊥) → (c ≡ 13 → ⊥) → (c ≡ 92 → ⊥) → Within q (c ∷ []) rest
 one_within q c rest e f g h =
-    let quote = differ c q e in
-    let feed = differ c 10 f in
-    let carriage = differ c 13 g in
-    let slash = differ c 92 h in
+    let quote = ne_eqb c q e in
+    let feed = ne_eqb c 10 f in
+    let carriage = ne_eqb c 13 g in
+    let slash = ne_eqb c 92 h in
     let closes : (v : List ℕ) → closes_string q false (line_feeds (c ∷ v)) ≡ closes_string q false (line_feeds v) = λ v. ap (λ (y : List ℕ). closes_string q false y) (plain-feeds c v carriage) ∙ plain-closes q c (line_feeds v) quote feed slash in
     record {
       closes = λ v more i. closes v;
@@ -180,34 +177,17 @@ line_feed_escaped (c ∷ d ∷ w) rest h = absurd (let k = both-right (c == 10) 
 quote-closes : (q : ℕ) (cs : List ℕ) → closes_string q false (q ∷ cs) ≡ nothing_left cs
 quote-closes q cs = ap (λ (b : Bool). elim b [ true ↦ nothing_left cs | false ↦ not (q == 10) && closes_string q (q == 92) cs ]) (eq-eqb q q refl)
 
-something_left : (d : ℕ) (v : List ℕ) → nothing_left (line_feeds (d ∷ v)) ≡ false
-something_left d v = by (d == 13)
-  where
-    by : (b : Bool) → nothing_left (elim b [ true ↦ 10 ∷ line_feeds_after true v | false ↦ d ∷ line_feeds_after false v ]) ≡ false
-    by true = refl
-    by false = refl
-
 pub closed_now : (q : ℕ) (w after : List ℕ) → one_of (34 ∷ 39 ∷ []) q ≡ true → Within q w (q ∷ after) → closes_string q false (line_feeds (w ++ q ∷ [])) ≡ true
 closed_now q w after o i = i.closes (q ∷ []) after refl ∙ ap (λ (y : List ℕ). closes_string q false y) (plain-feeds q [] (quote-is-no q 13 o refl)) ∙ quote-closes q []
 
 pub closed_before : (q : ℕ) (w after : List ℕ) → one_of (34 ∷ 39 ∷ []) q ≡ true → Within q w (q ∷ after) → (d : ℕ) (u more : List ℕ) → after ≡ d ∷ (u ++ more) → closes_string q false (line_feeds (w ++ q ∷ (d ∷ u))) ≡ false
 closed_before q w after o i d u more e = i.closes (q ∷ (d ∷ u)) more (ap (λ (y : List ℕ). q ∷ y) e) ∙ ap (λ (y : List ℕ). closes_string q false y) (plain-feeds q (d ∷ u) (quote-is-no q 13 o refl)) ∙ quote-closes q (line_feeds (d ∷ u)) ∙ something_left d u
 
-take-all : (xs ys : List ℕ) → take (length xs) (xs ++ ys) ≡ xs
-take-all [] ys = refl
-take-all (x ∷ xs) ys = ap (λ (v : List ℕ). x ∷ v) (take-all xs ys)
-
-inside-of : (q : ℕ) (w : List ℕ) → string_inside (q ∷ (w ++ q ∷ [])) ≡ w
-inside-of q w =
-    let m : length (w ++ q ∷ []) ≡ length w + 1 = length-append w (q ∷ []) in
-    let n : length (q ∷ (w ++ q ∷ [])) - 1 ≡ suc (length w) = omega arith in
-    ap (λ (m : ℕ). drop 1 (take m (q ∷ (w ++ q ∷ [])))) n ∙ take-all w (q ∷ [])
-
 pub a_string_kind : (q : ℕ) (w after : List ℕ) → one_of (34 ∷ 39 ∷ []) q ≡ true → Within q w (q ∷ after) → is_right w ≡ true → string_kind (q ∷ (w ++ q ∷ [])) ≡ Some Str
 a_string_kind q w after o i r =
     ap (λ (b : Bool). elim b [ true ↦ Some Str | false ↦ None ])
     (both (one_of (34 ∷ 39 ∷ []) q) (closes_string q false (line_feeds (w ++ q ∷ [])) && is_right (string_inside (q ∷ (w ++ q ∷ [])))) o
-    (both (closes_string q false (line_feeds (w ++ q ∷ []))) (is_right (string_inside (q ∷ (w ++ q ∷ [])))) (closed_now q w after o i) (ap is_right (inside-of q w) ∙ r)))
+    (both (closes_string q false (line_feeds (w ++ q ∷ []))) (is_right (string_inside (q ∷ (w ++ q ∷ [])))) (closed_now q w after o i) (ap is_right (inside_of q w) ∙ r)))
 
 no_string : (q : ℕ) (u : List ℕ) → closes_string q false (line_feeds u) ≡ false → string_kind (q ∷ u) ≡ None
 no_string q u h =
@@ -218,7 +198,7 @@ wrong_string : (q : ℕ) (w : List ℕ) → is_right w ≡ false → string_kind
 wrong_string q w h =
     ap (λ (b : Bool). elim b [ true ↦ Some Str | false ↦ None ])
     (and_right (one_of (34 ∷ 39 ∷ []) q) (closes_string q false (line_feeds (w ++ q ∷ [])) && is_right (string_inside (q ∷ (w ++ q ∷ []))))
-    (and_right (closes_string q false (line_feeds (w ++ q ∷ []))) (is_right (string_inside (q ∷ (w ++ q ∷ [])))) (ap is_right (inside-of q w) ∙ h)))
+    (and_right (closes_string q false (line_feeds (w ++ q ∷ []))) (is_right (string_inside (q ∷ (w ++ q ∷ [])))) (ap is_right (inside_of q w) ∙ h)))
 
 pub quote_opens : (q : ℕ) → one_of (34 ∷ 39 ∷ []) q ≡ true → Opens a_string q
 quote_opens q h true = opens-same _ _ (member (λ c. opens (opening c true) a_string) (34 ∷ 39 ∷ []) q h refl)
@@ -250,7 +230,7 @@ record FeedsTen (c : ℕ) (v : List ℕ) : Type 0 where
   pub is : line_feeds (c ∷ v) ≡ 10 ∷ behind
 
 line_end-feeds : (c : ℕ) (v : List ℕ) → one_of (10 ∷ 13 ∷ []) c ≡ true → FeedsTen c v
-line_end-feeds c v h = by (either (10 == c) ((13 == c) || false) h)
+line_end-feeds c v h = by (or_cases (10 == c) ((13 == c) || false) h)
   where
     ten : 10 ≡ c → FeedsTen c v
     ten e = subst (λ (y : ℕ). FeedsTen y v) e (record { behind = line_feeds_after false v; is = refl })
@@ -260,7 +240,7 @@ line_end-feeds c v h = by (either (10 == c) ((13 == c) || false) h)
 
     by : ((10 == c) ≡ true) ⊎ (((13 == c) || false) ≡ true) → FeedsTen c v
     by (inl e) = ten (eqb-true 10 c e)
-    by (inr e) = elim (either (13 == c) false e) [ inl f ↦ thirteen (eqb-true 13 c f) | inr f ↦ absurd (let k = f in cc) ]
+    by (inr e) = elim (or_cases (13 == c) false e) [ inl f ↦ thirteen (eqb-true 13 c f) | inr f ↦ absurd (let k = f in cc) ]
 
 line_end-closes : (q c : ℕ) (v : List ℕ) → one_of (34 ∷ 39 ∷ []) q ≡ true → one_of (10 ∷ 13 ∷ []) c ≡ true → closes_string q false (line_feeds (c ∷ v)) ≡ false
 line_end-closes q c v o h =

@@ -17,8 +17,9 @@ use Rattle.part_words.specs.js_grammar.Characters.{begins, width}
 use Rattle.part_words.specs.js_grammar.LexicalFaults.{behind, is_closed_string}
 use Rattle.part_words.specs.js_grammar.Lexemes.{a_string, division, is_escaped, is_separated, Opening}
 use Rattle.part_words.specs.js_grammar.Lexed.{IsLexeme}
-use Rattle.part_words.proofs.js_grammar.LongestLemmas.{both-left, append-nil, none_longer-at}
-use Rattle.part_words.proofs.js_grammar.Finding.{all-append, either, neither-left, neither-right}
+use Rattle.part_words.proofs.js_grammar.LongestLemmas.{both-left, none_longer-at}
+use Rattle.part_words.proofs.js_grammar.Finding.{all-append, neither-left, neither-right}
+use Rattle.part_words.proofs.js_grammar.Quotations.{quote_low}
 use Rattle.part_words.specs.declared.scan.Scanned.{Scanned}
 use Rattle.part_words.specs.Places.{Word, Peeks}
 use Rattle.part_words.specs.Scans.{IsScanned, IsStopped}
@@ -30,14 +31,7 @@ use Rattle.part_words.specs.Faults.{PartsEnd, fault_kind, kind_of_fault}
 use Rattle.js_base.specs.part_text.Escapes.{line_feeds}
 use Rattle.part_words.specs.js_grammar.Longest.{none_begins}
 use Rattle.part_words.specs.js_grammar.Strings.{closes_string}
-use Rattle.std.proofs.lemmas.List.{append_cancel_left}
-
--- a quote is ASCII
-quote_low : (q : ℕ) → one_of (34 ∷ 39 ∷ []) q ≡ true → q < 128
-quote_low q h = elim (either (34 == q) ((39 == q) || false) h) [
-  | inl e ↦ (let f = eqb-true 34 q e in omega arith)
-  | inr e ↦ elim (either (39 == q) false e) [ inl f ↦ (let g = eqb-true 39 q f in omega arith) | inr f ↦ absurd (let k = f in cc) ]
-]
+use Rattle.std.proofs.lemmas.List.{append_cancel_left, append-nil}
 
 differs_from : (c byte n : ℕ) → (c ≡ byte) ⊎ (128 ≤ c) → (byte ≡ n → ⊥) → n < 128 → c ≡ n → ⊥
 differs_from c byte n (inl e) h l k = h (sym e ∙ k)

@@ -1,5 +1,6 @@
 -- Template parts as lexemes, and texts in which none ends.
 use Rattle.std.proofs.Common.{◌≡◌, ℕ, ◌+◌, Bool, true, false, List, [], ◌∷◌, ◌++◌, refl, sym, ap, subst, ◌∙◌, length, Option, Some, None, not, ◌||◌, ◌==◌, arith}
+use Rattle.std.proofs.lemmas.List.{append-nil}
 use Rattle.std.specs.Prelude.{IsCharBoundary, cond, is_some}
 use Rattle.js_base.specs.declared.kind.Kind.{Kind}
 use Rattle.js_base.specs.declared.kind.Kind.TheVariants.{NoSubstitutionTemplate, TemplateHead, TemplateMiddle, TemplateTail}
@@ -11,7 +12,7 @@ use Rattle.part_words.specs.js_grammar.Templates.{closes_template, part_kind, te
 use Rattle.part_words.specs.js_grammar.Lexemes.{LexicalGoal, division, template_tail, is_escaped, is_separated, a_template}
 use Rattle.part_words.specs.js_grammar.Lexed.{IsLexeme}
 use Rattle.part_words.specs.js_grammar.LexicalFaults.{behind, Stopping, Unterminated, is_open_part, is_part}
-use Rattle.part_words.proofs.js_grammar.LongestLemmas.{append-nil, both}
+use Rattle.part_words.proofs.js_grammar.LongestLemmas.{both}
 use Rattle.part_words.proofs.js_grammar.CoreLemmas.{none_longer-from}
 use Rattle.part_words.specs.declared.scan.Scanned.{Scanned}
 use Rattle.part_words.specs.declared.scan.Fault.{Fault}

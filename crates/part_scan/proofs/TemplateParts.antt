@@ -1,9 +1,10 @@
 -- What a scan of a template part has read.
 use Rattle.std.proofs.Common.{◌≡◌, ℕ, Bool, true, false, List, [], ◌∷◌, ◌++◌, refl, sym, ap, subst, ◌∙◌, append_assoc, length, Option, Some, None, not, ◌&&◌, ◌==◌, inl, inr}
+use Rattle.std.proofs.lemmas.List.{append-nil}
 use Rattle.std.specs.Prelude.{IsUtf8, IsCharBoundary}
 use Rattle.part_words.specs.js_grammar.LexicalFaults.{behind}
 use Rattle.part_words.specs.js_grammar.Templates.{closes_template}
-use Rattle.part_words.proofs.js_grammar.LongestLemmas.{append-nil, fronts}
+use Rattle.part_words.proofs.js_grammar.LongestLemmas.{fronts}
 use Rattle.part_scan.specs.declared.template.Before.{Before}
 use Rattle.part_scan.specs.declared.template.Before.TheVariants.{Other, Backslash, Dollar}
 use Rattle.part_scan.specs.declared.template.Step.TheVariants.{On, Ends}

@@ -5,6 +5,7 @@ use Rattle.std.specs.List.{list_all, flat_map}
 use Rattle.std.specs.Char.{encode_utf8}
 use Rattle.std.specs.Char.Escape.{encode_utf16}
 use Rattle.std.proofs.lemmas.Bool.Decides.{nat_tests}
+use Rattle.std.proofs.lemmas.Bool.{and_parts}
 use Rattle.std.proofs.Math.Utf8.{scalar, scalar_cases}
 use Rattle.std.proofs.lemmas.List.{at_drop_more, at_drop_all, length_push}
 use Rattle.std.proofs.lemmas.List.Folds.{list_all-append}
@@ -17,14 +18,6 @@ use Rattle.part_text.specs.Decoding.{only_if, utf8_of}
 use Rattle.part_text.specs.Escapes.{Where, in_name, in_string, in_template, Stage, Step, outside, backslash, unicode, nul, due, braced, octal, plainly, begun, begun_unicode, single_escape, step, read_from, before_all, code_units, finish, line_feeds_after}
 use Rattle.part_text.specs.CodePointEscapes.{fits, is_point}
 use Rattle.part_text.specs.DecodingSteps.{state_of, points_of, progress_of, units_from, utf8_from}
-
-and-left : (a b : Bool) → (a && b) ≡ true → a ≡ true
-and-left true b h = refl
-and-left false b h = h
-
-and-right : (a b : Bool) → (a && b) ≡ true → b ≡ true
-and-right true b h = h
-and-right false b h = grind arith
 
 -- the stage fits, and what is complete are code points
 abbrev pub good : Option Step → Bool
@@ -93,11 +86,11 @@ good-made w s c r p f h e i = sym (ap good (made w s c r p f h e i)) ∙ good-st
 
 pub fits-made : (w : Where) (s : Stage) (c : ℕ) (r : Option Progress) (p : Progress) → fits s ≡ true → is_point c ≡ true
     → option_map progress_of r ≡ step w s c → r ≡ Some p → fits (state_of p.state) ≡ true
-fits-made w s c r p f h e i = and-left (fits (state_of p.state)) (list_all is_point (points_of p.points)) (good-made w s c r p f h e i)
+fits-made w s c r p f h e i = (and_parts (fits (state_of p.state)) (list_all is_point (points_of p.points)) (good-made w s c r p f h e i)).0
 
 pub points-made : (w : Where) (s : Stage) (c : ℕ) (r : Option Progress) (p : Progress) → fits s ≡ true → is_point c ≡ true
     → option_map progress_of r ≡ step w s c → r ≡ Some p → list_all is_point (points_of p.points) ≡ true
-points-made w s c r p f h e i = and-right (fits (state_of p.state)) (list_all is_point (points_of p.points)) (good-made w s c r p f h e i)
+points-made w s c r p f h e i = (and_parts (fits (state_of p.state)) (list_all is_point (points_of p.points)) (good-made w s c r p f h e i)).1
 
 pub units-made : (w : Where) (s : Stage) (c : ℕ) (r : Option Progress) (p : Progress) (us vs cs : List ℕ)
     → option_map progress_of r ≡ step w s c → r ≡ Some p → vs ≡ us ++ code_units (points_of p.points)

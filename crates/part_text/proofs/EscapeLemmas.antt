@@ -2,10 +2,11 @@
 use Rattle.std.proofs.Common.{◌≡◌, ℕ, zero, suc, ◌+◌, ◌-◌, ◌*◌, ◌==◌, Bool, true, false, List, [], ◌∷◌, ◌++◌, refl, sym, ap, subst, ◌∙◌, not, ◌&&◌, ◌||◌, Option, Some, None, ◌⊎◌, inl, inr, append_assoc, length, length-append, arith}
 use Rattle.std.specs.Prelude.{nat_le, is_some, chars, encode_utf8, encode_utf8_all, IsUtf8}
 use Rattle.std.proofs.lemmas.Bool.Decides.{nat_tests}
-use Rattle.std.proofs.lemmas.Bool.{eqb-true}
+use Rattle.std.proofs.lemmas.Bool.{eqb-true, and_right, ne_eqb}
 use Rattle.std.specs.declared.str.CharIndices.{CharIndices}
 use Rattle.std.specs.Str.Iter.{char_indices_rest, char_indices_offset, char_indices_steps}
 use Rattle.std.proofs.lemmas.Str.{chars_past_char, IsUtf8-past_char, chars-nil, encodes-chars}
+use Rattle.std.proofs.lemmas.List.{append-nil}
 use Rattle.part_text.specs.declared.decode.State.{State}
 use Rattle.part_text.specs.declared.decode.State.TheVariants.{Outside, Backslash, Nul, Point, Octal}
 use Rattle.part_text.specs.declared.code_point_escape.CodePointEscape.{CodePointEscape}
@@ -105,10 +106,6 @@ within nul c = grind (arith, nat_tests)
 within (due n v) c = grind (arith, nat_tests)
 within (braced any v) c = grind (arith, nat_tests)
 within (octal n v) c = grind (arith, nat_tests)
-
-append-nil : (w : List ℕ) → w ++ [] ≡ w
-append-nil [] = refl
-append-nil (c ∷ w) = ap (λ (v : List ℕ). c ∷ v) (append-nil w)
 
 -- of two fronts of one list, the second ends within the first, or goes on behind it
 pub front_past : (b v more : List ℕ) (c : ℕ) (rest : List ℕ) → b ++ c ∷ rest ≡ v ++ more → ((m : List ℕ) × (b ≡ v ++ m)) ⊎ ((u : List ℕ) × (v ≡ b ++ c ∷ u))
@@ -278,10 +275,6 @@ passed w d s a p h k r =
     let g : (v : List ℕ) → is_right ((w ++ d ∷ []) ++ v) ≡ right_from s (line_feeds_after false v) = λ v. ap is_right (append_assoc w (d ∷ []) v) ∙ r.goes_on (d ∷ v) ∙ ap (right_from s) (f v) in
     record { goes_on = g; of_string = r.of_string; within = λ n. grown w d p (r.within n) (now (w ++ d ∷ []) s false g ∙ n) (may_go_on (w ++ d ∷ []) s false g r.of_string n) }
 
-pub no_line_feed : (a b : Bool) → b ≡ false → (a && b) ≡ false
-no_line_feed true b h = h
-no_line_feed false b h = refl
-
 pub stopped : (w : List ℕ) (s : Stage) (a : Bool) (p d c : ℕ) (b : Bool) → Reads w s a p → CountsAs a d c b → step in_string s c ≡ None
     → WithinEscape w p × ((rest : List ℕ) → is_right (w ++ d ∷ rest) ≡ false)
 stopped w s a p d c b r k e =
@@ -379,18 +372,11 @@ along inside s t r next place c l h i =
         let g = bytes_push w c in
         omega arith
 
-differs : (c n : ℕ) → (c ≡ n → ⊥) → (c == n) ≡ false
-differs c n h = by (c == n) refl
-  where
-    by : (b : Bool) → (c == n) ≡ b → (c == n) ≡ false
-    by true e = absurd (h (eqb-true c n e))
-    by false e = e
-
 pub counts_plain : (a : Bool) (c : ℕ) → (c ≡ 13 → ⊥) → ((a ≡ true) × (c ≡ 10 → ⊥)) ⊎ (a ≡ false) → CountsAs a c c false
-counts_plain a c h k = counts a c (differs c 13 h) (by k)
+counts_plain a c h k = counts a c (ne_eqb c 13 h) (by k)
   where
     by : ((a ≡ true) × (c ≡ 10 → ⊥)) ⊎ (a ≡ false) → (a && (c == 10)) ≡ false
-    by (inl k) = no_line_feed a (c == 10) (differs c 10 k.1)
+    by (inl k) = and_right a (c == 10) (ne_eqb c 10 k.1)
     by (inr k) = rw k refl
 
 -- the iterator is at the end

@@ -2,6 +2,7 @@
 use Rattle.std.proofs.Common.{◌≡◌, ◌<◌, ◌≤◌, ◌==◌, ℕ, ◌+◌, Bool, true, false, List, [], ◌∷◌, ◌++◌, refl, sym, ap, subst, ◌∙◌, ◌||◌, append_assoc, Option, Some, None, ◌⊎◌, inl, inr, arith}
 use Rattle.std.proofs.lemmas.Bool.{cases_lt}
 use Rattle.std.proofs.lemmas.Bool.Decides.{nat_tests}
+use Rattle.std.proofs.lemmas.List.{append-nil}
 use Rattle.std.specs.Char.{len_utf8}
 use Rattle.js_base.specs.part_text.CodePointEscapes.{stage_of, fits}
 use Rattle.js_base.specs.part_text.declared.code_point_escape.CodePointEscape.{CodePointEscape}
@@ -10,7 +11,7 @@ use Rattle.js_base.specs.part_text.Escapes.{in_name, read_from, outside, backsla
 use Rattle.js_grammar.specs.Names.{has_backslash}
 use Rattle.js_grammar.specs.Characters.{begins}
 use Rattle.js_grammar.specs.LexicalFaults.{behind}
-use Rattle.js_grammar.proofs.LongestLemmas.{append-nil}
+use Rattle.js_grammar.proofs.CorePlain.{before-nil}
 use Rattle.part_words.specs.declared.name.Escape.{Escape}
 use Rattle.part_words.specs.Places.{Word, Peeks, Finds}
 use Rattle.part_words.specs.Names.{Spells, Refuses, is_refused, Unfinished, IsEscape}
@@ -38,10 +39,6 @@ no-finish (Braced any v) = refl
 
 read-step : (s : Stage) (c : ℕ) (cs : List ℕ) (o : Option Step) → step in_name s c ≡ o → read_from in_name s (c ∷ cs) ≡ elim o [ None ↦ None | Some t ↦ before_all t.gives (read_from in_name t.stage cs) ]
 read-step s c cs o h = ap (λ (a : Option Step). elim a [ None ↦ None | Some t ↦ before_all t.gives (read_from in_name t.stage cs) ]) h
-
-before-nil : (o : Option (List ℕ)) → before_all [] o ≡ o
-before-nil None = refl
-before-nil (Some zs) = refl
 
 -- the characters themselves stand for no code points yet
 whole : (w : List ℕ) (s : Stage) → Inside w s → code_points in_name w ≡ None

@@ -12,11 +12,12 @@ use Rattle.js_base.specs.Keywords.{keyword_of}
 use Rattle.js_grammar.specs.Characters.{is_identifier_start, is_identifier_part}
 use Rattle.js_grammar.specs.Names.{is_plain_name, has_backslash}
 use Rattle.js_grammar.specs.LexicalFaults.{behind}
-use Rattle.js_grammar.proofs.LongestLemmas.{both-left, both-right, both, not-true}
+use Rattle.js_grammar.proofs.LongestLemmas.{both-left, both-right, both}
 use Rattle.js_grammar.proofs.Finding.{all-append, all-mono, neither-left, neither-right}
 use Rattle.js_grammar.proofs.CoreFirst.{lt-true, lt-is}
 use Rattle.js_grammar.proofs.CorePlain.{no_backslash, points-plain}
 use Rattle.js_grammar.proofs.Runs.{ascii_width}
+use Rattle.js_grammar.proofs.CoreNames.{no_backslash_has}
 use Rattle.part_words.specs.declared.name.Letters.{Letters}
 use Rattle.part_words.specs.declared.name.Piece.{Piece}
 use Rattle.part_words.specs.Places.{Word, Peeks}
@@ -72,13 +73,6 @@ name-plain [] h = refl
 name-plain (c ∷ w) h = both (no_backslash c) (list_all no_backslash w) (start-plain c (both-left (is_identifier_start c) (list_all is_identifier_part w) h))
     (all-mono is_identifier_part no_backslash w part-plain (both-right (is_identifier_start c) (list_all is_identifier_part w) h))
 
-lacks-backslash : (w : List ℕ) → list_all no_backslash w ≡ true → has_backslash w ≡ false
-lacks-backslash [] h = refl
-lacks-backslash (c ∷ w) h =
-    let a = not-true (c == 92) (both-left (no_backslash c) (list_all no_backslash w) h) in
-    let b = lacks-backslash w (both-right (no_backslash c) (list_all no_backslash w) h) in
-    rw a b
-
 all-plain : (w : List ℕ) → has_backslash w ≡ false → list_all no_backslash w ≡ true
 all-plain [] h = refl
 all-plain (c ∷ w) h =
@@ -95,7 +89,7 @@ ascii-name k a r e = record {
   is = a.is;
   ends = r;
   kind = e;
-  escaped = sym (lacks-backslash a.word (name-plain a.word a.is));
+  escaped = sym (no_backslash_has a.word (name-plain a.word a.is));
 }
 
 -- a name of which one ASCII character was read, and others behind it

@@ -3,6 +3,8 @@ use Rattle.std.proofs.Common.{◌≡◌, ℕ, ◌==◌, Bool, true, false, List,
 use Rattle.std.specs.Prelude.{is_some}
 use Rattle.std.specs.List.{list_all}
 use Rattle.std.proofs.lemmas.List.Folds.{list_any-append}
+use Rattle.std.proofs.lemmas.List.{append-nil}
+use Rattle.std.proofs.lemmas.Bool.{and_right}
 use Rattle.js_base.specs.declared.kind.Kind.TheVariants.{PrivateIdentifier}
 use Rattle.js_base.specs.Keywords.{keyword_of}
 use Rattle.js_base.specs.part_text.Escapes.{in_name, before_all, code_points}
@@ -11,28 +13,21 @@ use Rattle.js_grammar.specs.Longest.{longest, none_longer}
 use Rattle.js_grammar.specs.Names.{is_plain_name, named, name_of, word_of, private_of, private_kind, has_backslash}
 use Rattle.js_grammar.specs.Lexemes.{kind_of, a_name, a_private_name}
 use Rattle.js_grammar.specs.LexicalFaults.{is_name_word}
-use Rattle.js_grammar.proofs.LongestLemmas.{both-left, both-right, both, not-true, append-nil}
+use Rattle.js_grammar.proofs.LongestLemmas.{both-left, both-right, both, not-true}
 use Rattle.js_grammar.proofs.CoreLemmas.{none_longer-from}
-use Rattle.js_grammar.proofs.CorePlain.{no_backslash, points-append}
+use Rattle.js_grammar.proofs.CorePlain.{no_backslash, points-append, before-all-append}
 use Rattle.js_grammar.proofs.Finding.{all-append}
+use Rattle.js_grammar.proofs.CoreNames.{named-plain, named-not, parts_stop}
 use Rattle.part_words.specs.Names.{Spells, Refuses, is_refused}
 use Rattle.part_words.proofs.Plain.{opened_by}
 
 -- characters that stand for code points
-before-append : (xs ys : List ℕ) (o : Option (List ℕ)) → before_all xs (before_all ys o) ≡ before_all (xs ++ ys) o
-before-append xs ys None = refl
-before-append xs ys (Some zs) = ap (λ (v : List ℕ). Some v) (sym (append_assoc xs ys zs))
-
-before-nil : (o : Option (List ℕ)) → before_all [] o ≡ o
-before-nil None = refl
-before-nil (Some zs) = refl
-
 pub spells-then : (w v ps qs : List ℕ) → Spells w ps → Spells v qs → Spells (w ++ v) (ps ++ qs)
 spells-then w v ps qs a b u =
     ap (code_points in_name) (append_assoc w v u)
     ∙ a (v ++ u)
     ∙ ap (before_all ps) (b u)
-    ∙ before-append ps qs (code_points in_name u)
+    ∙ before-all-append ps qs (code_points in_name u)
 
 pub spells-plain : (w : List ℕ) → list_all no_backslash w ≡ true → Spells w w
 spells-plain w h v = points-append in_name w v h
@@ -46,26 +41,12 @@ spells-some [] p ps a = absurd (let e = spells-whole [] (p ∷ ps) a in cc)
 spells-some (c ∷ cs) p ps a = (c, cs, refl)
 
 -- names
-named-plain : (w : List ℕ) → is_plain_name w ≡ true → named (Some w) ≡ Some w
-named-plain w h = ap (λ (b : Bool). elim b [ true ↦ Some w | false ↦ None ]) h
-
-named-not : (w : List ℕ) → is_plain_name w ≡ false → named (Some w) ≡ None
-named-not w h = ap (λ (b : Bool). elim b [ true ↦ Some w | false ↦ None ]) h
-
 pub name-of-spelt : (w ps : List ℕ) → Spells w ps → is_plain_name ps ≡ true → name_of w ≡ Some ps
 name-of-spelt w ps a h = ap named (spells-whole w ps a) ∙ named-plain ps h
 
-and-false : (a b : Bool) → b ≡ false → (a && b) ≡ false
-and-false true b e = e
-and-false false b e = refl
-
-parts_stop : (xs : List ℕ) (d : ℕ) (ys : List ℕ) → is_identifier_part d ≡ false → list_all is_identifier_part (xs ++ d ∷ ys) ≡ false
-parts_stop [] d ys h = rw h refl
-parts_stop (x ∷ xs) d ys h = and-false (is_identifier_part x) (list_all is_identifier_part (xs ++ d ∷ ys)) (parts_stop xs d ys h)
-
 plain_stops : (ps : List ℕ) (d : ℕ) (ys : List ℕ) → is_plain_name ps ≡ true → is_identifier_part d ≡ false → is_plain_name (ps ++ d ∷ ys) ≡ false
 plain_stops [] d ys h e = cc
-plain_stops (p ∷ ps) d ys h e = and-false (is_identifier_start p) (list_all is_identifier_part (ps ++ d ∷ ys)) (parts_stop ps d ys e)
+plain_stops (p ∷ ps) d ys h e = and_right (is_identifier_start p) (list_all is_identifier_part (ps ++ d ∷ ys)) (parts_stop ps d ys e)
 
 refused-after : (ps : List ℕ) (o : Option (List ℕ)) → is_plain_name ps ≡ true → is_refused is_identifier_part o ≡ true → named (before_all ps o) ≡ None
 refused-after ps None h r = refl

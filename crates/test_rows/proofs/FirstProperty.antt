@@ -8,6 +8,7 @@ use Rattle.js_grammar.specs.LexicalFaults.{Reached}
 use Rattle.js_grammar.specs.Productions.{Flags, at, plus_in, Assignment, Object, Property}
 use Rattle.js_grammar.specs.Table.{rule, rule_of}
 use Rattle.js_grammar.specs.Trees.{NodeKind, Label, Slots, Tree, end, tree, object_expression}
+use Rattle.js_grammar.specs.CoverInitialisers.{is_property}
 use Rattle.js_tree.specs.Holding.{AreDistinct, AreWithin, Holds, Stands, stands, StandsAll, no_slots, next_child, next_hole}
 use Rattle.js_tree.specs.Labels.{kind_of}
 use Rattle.js_tree.specs.Nodes.{Node, empty_program, node_at}
@@ -17,7 +18,7 @@ use Rattle.js_tree.proofs.HoldingLemmas.{AreWithin-left}
 use Rattle.js_cursor.specs.Parsers.{Parser}
 use Rattle.js_cursor.proofs.Moving.{reached_next}
 use Rattle.parse_shared.specs.laws_shared.Lexemes.{Lex}
-use Rattle.parse_targets.specs.Targets.{is_object, is_literal, is_property}
+use Rattle.parse_targets.specs.Targets.{is_object, is_literal}
 use Rattle.parse_targets.proofs.LiteralsAsTargets.{lexeme_between}
 use Rattle.parse_targets.proofs.ReusedNodes.{distinct_left}
 use Rattle.parse_targets.proofs.Targets.{Literal, of_array, of_object, array_line, by_braces, by_primary, literal_shape, may_literal, of_assignment}

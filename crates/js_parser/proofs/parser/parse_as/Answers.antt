@@ -1,16 +1,17 @@
-use Rattle.js_parser.proofs.Answering.{if_ok, fatal_stop}
+use Rattle.js_parser.proofs.Answering.{fatal_stop}
 use Rattle.js_core.proofs.Readings.{kept_for_start}
 use Rattle.js_parser.proofs.Starting.{answer_for}
 use Rattle.js_parser.proofs.parser.parse_as.Goals as goal
+use Rattle.std.proofs.lemmas.Result.{IfOk-weaker}
 
 pub returns-in-Ok-clause-answer : goal.returns-in-Ok-clause-answer
-returns-in-Ok-clause-answer c = if_ok c.taken.result (λ r h. answer_for c.in_ok-p.ensures (h _ _ _ _ c.in-Ok.ensures)) c.taken.ensures.answer
+returns-in-Ok-clause-answer c = IfOk-weaker c.taken.result _ _ (λ r h. answer_for c.in_ok-p.ensures (h _ _ _ _ c.in-Ok.ensures)) c.taken.ensures.answer
 
 pub returns-in-Err-Fatal-clause-answer : goal.returns-in-Err-Fatal-clause-answer
-returns-in-Err-Fatal-clause-answer c = if_ok c.refused.result (λ r h. answer_for c.in_ok-p.ensures (h _ _ _ (fatal_stop _ c.in-Err-Fatal.field-0-is c.in-Err-Fatal.ensures))) c.refused.ensures.answer
+returns-in-Err-Fatal-clause-answer c = IfOk-weaker c.refused.result _ _ (λ r h. answer_for c.in_ok-p.ensures (h _ _ _ (fatal_stop _ c.in-Err-Fatal.field-0-is c.in-Err-Fatal.ensures))) c.refused.ensures.answer
 
 pub returns-in-Ok-clause-kept : goal.returns-in-Ok-clause-kept
-returns-in-Ok-clause-kept c = if_ok c.taken.result (λ r h. kept_for_start c.new-config.ensures c.in_ok-p.ensures (h _ _ _ _ c.in-Ok.ensures)) c.taken.ensures.kept
+returns-in-Ok-clause-kept c = IfOk-weaker c.taken.result _ _ (λ r h. kept_for_start c.new-config.ensures c.in_ok-p.ensures (h _ _ _ _ c.in-Ok.ensures)) c.taken.ensures.kept
 
 pub returns-in-Err-Fatal-clause-kept : goal.returns-in-Err-Fatal-clause-kept
-returns-in-Err-Fatal-clause-kept c = if_ok c.refused.result (λ r h. kept_for_start c.new-config.ensures c.in_ok-p.ensures (h _ _ _ _ (fatal_stop _ c.in-Err-Fatal.field-0-is c.in-Err-Fatal.ensures))) c.refused.ensures.kept
+returns-in-Err-Fatal-clause-kept c = IfOk-weaker c.refused.result _ _ (λ r h. kept_for_start c.new-config.ensures c.in_ok-p.ensures (h _ _ _ _ (fatal_stop _ c.in-Err-Fatal.field-0-is c.in-Err-Fatal.ensures))) c.refused.ensures.kept

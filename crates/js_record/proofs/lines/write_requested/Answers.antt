@@ -1,8 +1,8 @@
 use Rattle.std.proofs.Common.{◌≡◌, ℕ, List, ◌++◌, cond, Bor, sym, ap, ◌∙◌}
+use Rattle.std.proofs.lemmas.Result.{on_ok_weaker}
 use Rattle.std.specs.Prelude.{codes}
 use Rattle.js_grammar.specs.RecordLines.{request_line}
 use Rattle.js_record.proofs.LineLemmas.{behind}
-use Rattle.js_record.proofs.ResultLemmas.{on_ok}
 use Rattle.js_record.proofs.lines.write_requested.Goals as goal
 use Rattle.js_record.proofs.lines.write_requested.Goals.{then-requested, else-requested}
 
@@ -14,7 +14,7 @@ returns c =
       | then-requested w ↦ ap (λ (v : Bor (List ℕ)). v.now) w.write_text-is ∙ ap (λ b. cond b (codes "import") (codes "export")) (sym w.if-requested.true)
       | else-requested w ↦ ap (λ (v : Bor (List ℕ)). v.now) w.write_text-is ∙ ap (λ b. cond b (codes "import") (codes "export")) (sym w.if-requested.false)
     ] in
-    on_ok c.write_text-5.result
+    on_ok_weaker c.write_text-5.result
     (λ e. behind out _ c.write_text.new.out.items _ end c.in_ok-write_text.ensures
     (behind c.write_text.new.out.items _ c.write.new.out.items _ end c.in_ok-write.ensures
     (behind c.write.new.out.items _ c.write_text-2.new.out.items _ end c.in_ok-write_text-2.ensures

@@ -1,11 +1,11 @@
 use Rattle.std.proofs.Common.{◌≡◌, [], None, unwrap_or, sym, ap, ◌∙◌}
+use Rattle.std.proofs.lemmas.Result.{IfOk-weaker}
 use Rattle.js_grammar.specs.NodeNames.{name_by}
 use Rattle.js_tree.specs.Labels.{kind_of}
 use Rattle.js_tree.specs.Nodes.{node_at}
 use Rattle.js_record.specs.NodeKinds.{is_word, is_string}
 use Rattle.js_record.specs.Shown.{label_at}
 use Rattle.js_record.proofs.KindLemmas.{word_read, word_name, string_name, no_word}
-use Rattle.js_record.proofs.ResultLemmas.{if_ok}
 use Rattle.js_record.proofs.reading.name_text.Goals as goal
 use Rattle.js_record.proofs.reading.name_text.Goals.{then-is_string+in_ok-text+in_default, else-is_string}
 
@@ -15,7 +15,7 @@ word_text-requires-clause-word c = word_read c.args.source.now (label_at c.args.
 pub returns-then-is_word : goal.returns-then-is_word
 returns-then-is_word c =
     let named = word_name c.args.source.now (label_at c.args.tree.now c.args.id) (node_at c.args.tree.now c.args.id).kind (ap is_word (sym c.kind-kind.ensures) ∙ sym c.if-is_word.ensures) in
-    if_ok c.word_text.result (λ x e. ap (λ o. unwrap_or o []) (e ∙ sym named)) c.word_text.ensures
+    IfOk-weaker c.word_text.result _ _ (λ x e. ap (λ o. unwrap_or o []) (e ∙ sym named)) c.word_text.ensures
 
 pub returns-in-Some : goal.returns-in-Some
 returns-in-Some c =
@@ -32,4 +32,4 @@ returns c =
       | then-is_string+in_ok-text+in_default w ↦ string_name text l k (ap is_string same ∙ sym w.if-is_string.ensures) ∙ sym w.in_ok-text.ensures ∙ w.in_default.is
       | else-is_string w ↦ no_word text l k (ap is_word same ∙ sym c.if-is_word.ensures) (ap is_string same ∙ sym w.if-is_string.ensures)
     ] in
-    if_ok c.from_str.result (λ x e. e ∙ ap (λ o. unwrap_or o []) (sym none)) c.from_str.ensures
+    IfOk-weaker c.from_str.result _ _ (λ x e. e ∙ ap (λ o. unwrap_or o []) (sym none)) c.from_str.ensures

@@ -1,5 +1,6 @@
 use Rattle.std.proofs.Common.{◌≡◌, List, ℕ, [], length, Bool, true, sym, ap, subst, arith, ◌∙◌}
 use Rattle.std.proofs.lemmas.Bool.{false≢true, eq-eqb, eqb-true}
+use Rattle.std.proofs.lemmas.Result.{IfOk-weaker}
 use Rattle.js_base.specs.declared.kind.Kind.{Kind}
 use Rattle.js_base.specs.declared.span.Span.{Span}
 use Rattle.js_grammar.specs.Brackets.{bracket, move}
@@ -7,7 +8,6 @@ use Rattle.parse_shared.specs.js_lex.Reading.{GivesBehind}
 use Rattle.parse_shared.specs.js_lex.States.{State}
 use Rattle.parse_shared.specs.js_cursor.Parsers.{Parser}
 use Rattle.laws_operators.specs.Closings.{BracketPassed, open_behind, tells_whole}
-use Rattle.laws_operators.proofs.parse_targets.ConvertedNodes.{map_ok}
 use Rattle.laws_operators.proofs.Closings.{arrow_found, passed_none, passed_on}
 use Rattle.parse_arrows.proofs.closing.is_arrow_behind_one.Goals as goal
 
@@ -33,4 +33,4 @@ returns-then-is_empty g c =
     let m = ap (λ (k : Kind). move (bracket k) (open_behind [] c.lexemes.brackets.items)) (sym c.kind.ensures) ∙ q.1 in
     let o = c.pass_bracket.new.brackets.ok.0 in
     let n : length c.pass_bracket.new.brackets.items ≡ 0 = (let k = eqb-true _ 0 (sym c.is_empty.ensures ∙ c.if-is_empty.true) in omega arith) in
-    map_ok c.is_arrow_at.result (λ found y. arrow_found c.pass_bracket.new.brackets.items c.requires.at.at.utf8 c.lexemes.invariant b w m (ap (λ (s : Span). s.end) c.span-place.ensures) n found y) c.is_arrow_at.ensures
+    IfOk-weaker c.is_arrow_at.result _ _ (λ found y. arrow_found c.pass_bracket.new.brackets.items c.requires.at.at.utf8 c.lexemes.invariant b w m (ap (λ (s : Span). s.end) c.span-place.ensures) n found y) c.is_arrow_at.ensures

@@ -4,7 +4,8 @@ use Rattle.js_base.specs.Contexts.{has_flag, in_flag}
 use Rattle.js_base.specs.declared.kind.Kind.TheVariants.{Do, While}
 use Rattle.parse_shared.proofs.laws_shared.Moving.{standing}
 use Rattle.parse_shared.proofs.laws_shared.Nesting.{later_room, nested_room, nests_later}
-use Rattle.laws_statements.proofs.CompoundStatements.{do_answers, do_stops, expected, passed_so, test_stops, while_missing}
+use Rattle.parse_shared.proofs.laws_shared.Expected.{expected}
+use Rattle.laws_statements.proofs.CompoundStatements.{do_answers, do_stops, passed_so, test_stops, while_missing}
 use Rattle.laws_statements.proofs.WordStatements.{word_here}
 use Rattle.parse_control.proofs.compound_statement.parse_do_while_statement.Goals as goal
 

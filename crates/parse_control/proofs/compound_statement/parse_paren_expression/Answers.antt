@@ -11,7 +11,8 @@ use Rattle.parse_shared.proofs.laws_shared.Bracketed.{opened_here, opened_later}
 use Rattle.parse_shared.proofs.laws_shared.Moving.{same_both, standing, stops_behind}
 use Rattle.parse_shared.proofs.laws_shared.Nesting.{nested_room}
 use Rattle.parse_shared.proofs.laws_shared.Verdicts.{after, grown_then}
-use Rattle.laws_statements.proofs.CompoundStatements.{expected, no_parens, parens_taken, parens_unclosed, parens_unread, unexpected}
+use Rattle.parse_shared.proofs.laws_shared.Expected.{unexpected, expected}
+use Rattle.laws_statements.proofs.CompoundStatements.{no_parens, parens_taken, parens_unclosed, parens_unread}
 use Rattle.parse_control.proofs.compound_statement.parse_paren_expression.Goals as goal
 
 pub returns-in_err-expect : goal.returns-in_err-expect

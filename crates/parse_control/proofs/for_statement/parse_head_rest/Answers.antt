@@ -4,7 +4,7 @@ use Rattle.js_base.specs.declared.kind.Kind.TheVariants.{In, Of, Semicolon}
 use Rattle.parse_primary.proofs.laws_primary.Members.{stands_so}
 use Rattle.parse_shared.proofs.laws_shared.Moving.{standing}
 use Rattle.parse_shared.proofs.laws_shared.Nesting.{later_room, nested_room, nests_later}
-use Rattle.laws_statements.proofs.CompoundStatements.{expected}
+use Rattle.parse_shared.proofs.laws_shared.Expected.{expected}
 use Rattle.laws_statements.proofs.ForHeads.{in_stops, in_taken, of_stops, of_taken, second_stops, semicolon_missing, semicolons_taken, test_stops, update_stops}
 use Rattle.laws_statements.proofs.WordStatements.{word_here}
 use Rattle.parse_control.proofs.for_statement.parse_head_rest.Goals as goal

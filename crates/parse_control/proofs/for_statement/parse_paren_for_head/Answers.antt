@@ -9,7 +9,7 @@ use Rattle.parse_primary.proofs.laws_primary.Parentheses.{unclosed}
 use Rattle.parse_shared.proofs.laws_shared.Bracketed.{opened_here, opened_later}
 use Rattle.parse_shared.proofs.laws_shared.Moving.{same_both, standing, stops_behind}
 use Rattle.parse_shared.proofs.laws_shared.Nesting.{nested_room, nests_later}
-use Rattle.laws_statements.proofs.CompoundStatements.{expected, unexpected}
+use Rattle.parse_shared.proofs.laws_shared.Expected.{unexpected, expected}
 use Rattle.laws_statements.proofs.ForHeads.{head_grown, head_stops, paren_missing, parens_head, unclosed_all}
 use Rattle.parse_control.proofs.for_statement.parse_paren_for_head.Goals as goal
 

@@ -5,7 +5,7 @@ use Rattle.js_base.specs.declared.kind.Kind.TheVariants.{LCurly, RCurly}
 use Rattle.parse_shared.proofs.laws_shared.Moving.{standing}
 use Rattle.parse_shared.proofs.laws_shared.Nesting.{nested_room, nests_later}
 use Rattle.parse_shared.proofs.laws_shared.Signs.{whole_sign}
-use Rattle.parse_control.proofs.laws_statements.CompoundStatements.{expected, unexpected}
+use Rattle.parse_shared.proofs.laws_shared.Expected.{unexpected, expected}
 use Rattle.parse_control.proofs.laws_statements.SwitchStatements.{block_taken, clauses_stop, no_block_here}
 use Rattle.parse_statements.proofs.switch_statement.parse_case_block.Goals as goal
 

@@ -4,7 +4,7 @@ use Rattle.js_base.specs.Contexts.{has_flag, in_flag}
 use Rattle.js_base.specs.declared.kind.Kind.TheVariants.{Colon}
 use Rattle.parse_shared.proofs.laws_shared.Moving.{standing}
 use Rattle.parse_shared.proofs.laws_shared.Nesting.{later_room, nested_room, nests_later}
-use Rattle.parse_control.proofs.laws_statements.CompoundStatements.{expected}
+use Rattle.parse_shared.proofs.laws_shared.Expected.{expected}
 use Rattle.parse_control.proofs.laws_statements.SwitchStatements.{begins_one, clause_further, clause_read, colon_missing, headed_same, list_stops}
 use Rattle.parse_statements.proofs.switch_statement.parse_clause.Goals as goal
 

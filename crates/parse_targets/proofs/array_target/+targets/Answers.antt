@@ -1,5 +1,6 @@
 use Rattle.std.proofs.Common.{◌≡◌, List, [], ◌∷◌, ◌++◌, ◌+◌, drop, length, nat_eq, Bool, Option, Some, None, true, false, ap, sym, subst, refl, arith, ◌∙◌, ℕ}
 use Rattle.std.proofs.lemmas.Option.{slice_get_read}
+use Rattle.std.proofs.lemmas.Result.{IfOk-weaker}
 use Rattle.js_base.specs.declared.span.Span.{Span}
 use Rattle.std.specs.Option.{option_map}
 use Rattle.parse_shared.specs.js_tree.declared.id.NodeId.{NodeId}
@@ -9,11 +10,12 @@ use Rattle.parse_shared.specs.js_tree.declared.flags.NodeFlags.{NodeFlags}
 use Rattle.parse_shared.specs.js_tree.declared.op.Op.TheVariants as op
 use Rattle.parse_shared.specs.js_tree.Labels.{kind_of, label_of}
 use Rattle.parse_shared.specs.js_tree.Nodes.{Node, label, node_at}
-use Rattle.parse_targets.specs.Targets.{is_elision, is_spread, is_assignment, is_object, is_literal, literal_places, relabelled, Noted, noted_in, is_property}
+use Rattle.parse_targets.specs.Targets.{is_elision, is_spread, is_assignment, is_object, is_literal, literal_places, relabelled, Noted, noted_in}
 use Rattle.parse_targets.specs.declared.widening.Widening.TheVariants.{Rest}
-use Rattle.parse_targets.proofs.ConvertedNodes.{ElementAnswer, ElementLoop, ElementsAnswer, RestAnswer, TargetAnswer, literal_none, literal_some, argument_below, argument_less, argument_stood, child_less, child_stood, element_hole, element_item, elements_keep, elements_none, elements_some, item_assigned, item_property, no_elision, no_property, no_spread_element, no_assignment, item_spread, item_target, last_child, loop_begins, loop_ends, loop_hole, loop_next, loop_refuses, map_ok, next_child', no_more, relabels, rest_made, rest_not_last, rest_unconverted, rest_without, target_literal, target_simple}
+use Rattle.parse_targets.proofs.ConvertedNodes.{ElementAnswer, ElementLoop, ElementsAnswer, RestAnswer, TargetAnswer, literal_none, literal_some, argument_below, argument_less, argument_stood, child_less, child_stood, element_hole, element_item, elements_keep, elements_none, elements_some, item_assigned, item_property, no_elision, no_property, no_spread_element, no_assignment, item_spread, item_target, last_child, loop_begins, loop_ends, loop_hole, loop_next, loop_refuses, next_child', no_more, relabels, rest_made, rest_not_last, rest_unconverted, rest_without, target_literal, target_simple}
 use Rattle.parse_targets.proofs.PropertyNodes.{property_shorthand, property_without, property_refused, property_made, value_less, value_stood}
 use Rattle.parse_targets.proofs.array_target.+targets.Goals as goal
+use Rattle.js_grammar.specs.CoverInitialisers.{is_property}
 
 pub convert_literal-returns-in_default : goal.convert_literal-returns-in_default
 convert_literal-returns-in_default t c =
@@ -88,16 +90,16 @@ convert_elements-returns t c =
     elements_some {id = c.args.id} (loop_ends {id = c.args.id} (c.elements.invariant).elements (no_more c.in_ok-children.children.items c.elements.next (omega arith)))
 
 pub convert_item-returns-in-SpreadElement : goal.convert_item-returns-in-SpreadElement
-convert_item-returns-in-SpreadElement t c = map_ok c.convert_rest.result (λ found v. item_spread c.args.in_object {id = c.args.id} c.args.is_last found (ap (λ k. is_spread (kind_of k)) (sym c.kind.ensures ∙ c.in-SpreadElement.is)) v) c.convert_rest.ensures
+convert_item-returns-in-SpreadElement t c = IfOk-weaker c.convert_rest.result _ _ (λ found v. item_spread c.args.in_object {id = c.args.id} c.args.is_last found (ap (λ k. is_spread (kind_of k)) (sym c.kind.ensures ∙ c.in-SpreadElement.is)) v) c.convert_rest.ensures
 
 pub convert_item-returns-in-AssignmentExpression : goal.convert_item-returns-in-AssignmentExpression
-convert_item-returns-in-AssignmentExpression t c = map_ok c.convert_assignment.result (λ found v. item_assigned c.args.in_object {id = c.args.id} c.args.is_last found (ap (λ k. is_assignment (kind_of k)) (sym c.kind.ensures ∙ c.in-AssignmentExpression.is)) v) c.convert_assignment.ensures
+convert_item-returns-in-AssignmentExpression t c = IfOk-weaker c.convert_assignment.result _ _ (λ found v. item_assigned c.args.in_object {id = c.args.id} c.args.is_last found (ap (λ k. is_assignment (kind_of k)) (sym c.kind.ensures ∙ c.in-AssignmentExpression.is)) v) c.convert_assignment.ensures
 
 pub convert_item-returns-in-ObjectProperty : goal.convert_item-returns-in-ObjectProperty
-convert_item-returns-in-ObjectProperty t c = map_ok c.convert_property.result (λ found v. item_property c.args.in_object {id = c.args.id} c.args.is_last found (ap (λ k. is_property (kind_of k)) (sym c.kind.ensures ∙ c.in-ObjectProperty.is)) v) c.convert_property.ensures
+convert_item-returns-in-ObjectProperty t c = IfOk-weaker c.convert_property.result _ _ (λ found v. item_property c.args.in_object {id = c.args.id} c.args.is_last found (ap (λ k. is_property (kind_of k)) (sym c.kind.ensures ∙ c.in-ObjectProperty.is)) v) c.convert_property.ensures
 
 pub convert_item-returns-in_default : goal.convert_item-returns-in_default
-convert_item-returns-in_default t c = map_ok c.convert_target.result (λ found v. item_target c.args.in_object {id = c.args.id} c.args.is_last found (ap (λ k. is_spread (kind_of k)) (sym c.kind.ensures) ∙ no_spread_element c.kind.result c.in_default.not-SpreadElement) (ap (λ k. is_assignment (kind_of k)) (sym c.kind.ensures) ∙ no_assignment c.kind.result c.in_default.not-AssignmentExpression) (ap (λ k. is_property (kind_of k)) (sym c.kind.ensures) ∙ no_property c.kind.result c.in_default.not-ObjectProperty) v) c.convert_target.ensures
+convert_item-returns-in_default t c = IfOk-weaker c.convert_target.result _ _ (λ found v. item_target c.args.in_object {id = c.args.id} c.args.is_last found (ap (λ k. is_spread (kind_of k)) (sym c.kind.ensures) ∙ no_spread_element c.kind.result c.in_default.not-SpreadElement) (ap (λ k. is_assignment (kind_of k)) (sym c.kind.ensures) ∙ no_assignment c.kind.result c.in_default.not-AssignmentExpression) (ap (λ k. is_property (kind_of k)) (sym c.kind.ensures) ∙ no_property c.kind.result c.in_default.not-ObjectProperty) v) c.convert_target.ensures
 
 pub convert_rest-returns-then-not-is_last : goal.convert_rest-returns-then-not-is_last
 convert_rest-returns-then-not-is_last t c = subst (λ (b : Bool). RestAnswer c.args.in_object c.args.ast.now c.args.ast.now c.args.id (noted_in c.args.notes.now) (record { places = c.args.notes.now.places.items; misplaced = Some c.span-span.result }) b None) (sym c.if-not-is_last.true) (rest_not_last {id = c.args.id} c.args.in_object c.span-span.ensures refl)
@@ -129,7 +131,7 @@ convert_rest-returns t c =
     subst (λ (b : Bool). RestAnswer c.args.in_object c.args.ast.now c.make_rest.new.ast c.args.id (noted_in c.args.notes.now) w b (Some c.in_ok-node.node)) (sym c.if-not-is_last.false) (rest_made {id = c.args.id} {c = c.in-Some.argument} c.in-Some.ensures {mid = m} {notes = w} c.args.in_object v c.in_ok-node.ensures (relabels node.AssignmentTargetRest (node_at c.args.ast.now c.args.id) c.span-span.ensures) c.span-span.ensures (c.in_ok-push.ensures.items ∙ ap (λ (x : Noted). x.places ++ Rest c.span-span.result ∷ []) told) (ap (λ (x : Noted). x.misplaced) told))
 
 pub convert_property-returns-then-flags : goal.convert_property-returns-then-flags
-convert_property-returns-then-flags t c = map_ok c.convert_shorthand.result (λ found v. property_shorthand {id = c.args.id} found c.flags-flags.ensures c.if-flags.true v) c.convert_shorthand.ensures
+convert_property-returns-then-flags t c = IfOk-weaker c.convert_shorthand.result _ _ (λ found v. property_shorthand {id = c.args.id} found c.flags-flags.ensures c.if-flags.true v) c.convert_shorthand.ensures
 
 pub convert_property-returns-in_default : goal.convert_property-returns-in_default
 convert_property-returns-in_default t c = property_without {id = c.args.id} c.flags-flags.ensures c.if-flags.false c.in_default.ensures
@@ -148,7 +150,7 @@ convert_property-returns t c =
     property_made {id = c.args.id} c.in-Some.name c.in-Some.value c.in-Some.ensures c.flags-flags.ensures c.if-flags.false v c.in_ok-node.ensures q
 
 pub convert_target-returns-then-is_literal : goal.convert_target-returns-then-is_literal
-convert_target-returns-then-is_literal t c = map_ok c.convert_literal.result (λ found v. target_literal {id = c.args.id} found (ap (λ k. is_literal (kind_of k)) (sym c.kind.ensures) ∙ (sym c.is_literal.ensures ∙ c.if-is_literal.true)) v) c.convert_literal.ensures
+convert_target-returns-then-is_literal t c = IfOk-weaker c.convert_literal.result _ _ (λ found v. target_literal {id = c.args.id} found (ap (λ k. is_literal (kind_of k)) (sym c.kind.ensures) ∙ (sym c.is_literal.ensures ∙ c.if-is_literal.true)) v) c.convert_literal.ensures
 
 pub convert_target-returns : goal.convert_target-returns
 convert_target-returns t c = target_simple {id = c.args.id} c.simple_target.result (ap (λ k. is_literal (kind_of k)) (sym c.kind.ensures) ∙ (sym c.is_literal.ensures ∙ c.if-is_literal.false)) c.simple_target.ensures.node

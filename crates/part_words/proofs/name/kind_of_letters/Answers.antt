@@ -1,6 +1,6 @@
 use Rattle.std.proofs.Common.{sym, ◌∙◌, ap, []}
+use Rattle.std.proofs.lemmas.List.{append-nil}
 use Rattle.js_base.specs.Keywords.{keyword_of}
-use Rattle.js_grammar.proofs.LongestLemmas.{append-nil}
 use Rattle.part_words.proofs.name.kind_of_letters.Goals as goal
 
 pub returns-then-letters : goal.returns-then-letters
