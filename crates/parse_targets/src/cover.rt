@@ -1,6 +1,7 @@
 //! Expressions read as targets (ECMA-262, sections 8.6.4 and 13.15).
 
 ghost use Rattle.std.specs.Prelude.{◌≡◌, ◌<◌, ◌≤◌, ℕ, length, [], IfOk, None, get_or};
+ghost use Rattle.js_grammar.specs.TreeForms.{is_parenthesized};
 ghost use Rattle.parse_targets.specs.Prelude.{EndsParse, GivesUp, goal, Holds, IsAt, kind_of, Label, Mark, node_at, Slots, Standing};
 ghost use Rattle.parse_targets.specs.Taken.{TellsOnce, no_target_at, not_simple_at};
 ghost use Rattle.parse_targets.specs.Targets.{Converted, IsTarget, OfNode, Only, Stood, Two, one_node, slot_of, target_of, unnoted};
@@ -12,7 +13,7 @@ use parse_shared::{NodeId, NodeKind, ParserAstBuilder, ParserConfig, ParserImpl,
 
 /// Whether it is an expression in parentheses.
 fn is_parens(kind: NodeKind) -> bool
-    ensures { result ≡ target.is_parens (kind_of kind) }
+    ensures { result ≡ is_parenthesized (kind_of kind) }
 {
     match kind {
         NodeKind::ParenthesizedExpression => true,
