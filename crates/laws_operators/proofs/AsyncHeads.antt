@@ -57,7 +57,8 @@ use Rattle.laws_operators.specs.Arrows.{AsyncHead, list_head, name_head, AsyncHe
 use Rattle.laws_operators.specs.declared.forms.ArrowHead.{ArrowHead}
 use Rattle.laws_operators.specs.HeadOperands.{NoTargetPart}
 use Rattle.laws_operators.specs.Lists.{NoParameters, parameters_of}
-use Rattle.laws_operators.proofs.Arrows.{from_unmoved, given_behind, head_one, no_arrow, no_arrow_behind, no_async_here, no_head_no_line, no_plain_led, plain_head_flags, unmoved, unmoved_went_on, went_back, no_async_escaped}
+use Rattle.laws_patterns.proofs.laws_primary.AsyncWords.{given_behind}
+use Rattle.laws_operators.proofs.Arrows.{from_unmoved, head_one, no_arrow, no_arrow_behind, no_async_here, no_head_no_line, no_plain_led, plain_head_flags, unmoved, unmoved_went_on, went_back, no_async_escaped}
 use Rattle.laws_operators.proofs.CalledFronts.{Front, word_alone, with_arguments, word_front}
 use Rattle.laws_shared.specs.js_lex.Reading.{Tells, is_right_angle}
 use Rattle.laws_shared.proofs.js_lex.Again.{cut_same}
