@@ -3,22 +3,16 @@ use Rattle.std.specs.Prelude.{ℕ, Bool, true, not, ◌&&◌, List, [], ◌∷�
 use Rattle.std.specs.List.{list_any}
 use Rattle.js_grammar.specs.BoundNames.{bound_names}
 use Rattle.js_grammar.specs.NodeNames.{name_at}
-use Rattle.js_grammar.specs.Trees.{NodeKind, export_all_declaration, export_from_declaration, export_named_declaration, export_declaration, export_default_declaration, Slots, end, hole, tree, Tree}
+use Rattle.js_grammar.specs.Trees.{NodeKind, export_all_declaration, export_from_declaration, export_named_declaration, export_declaration, export_default_declaration, Slots, end, hole, tree, Tree, after_first}
 
 -- the name in the first slot
 abbrev pub first_name : List ℕ → Slots → List ℕ
 first_name text (tree l cs us) = name_at text l
 first_name text us = []
 
--- the slots behind the first
-abbrev pub behind : Slots → Slots
-behind end = end
-behind (hole us) = us
-behind (tree l cs us) = us
-
 -- of an ExportSpecifier: the name in its second slot
 abbrev pub second_name : List ℕ → Slots → List ℕ
-second_name text us = first_name text (behind us)
+second_name text us = first_name text (after_first us)
 
 -- of an ExportsList
 abbrev pub names_of_list : List ℕ → Slots → List (List ℕ)
@@ -29,7 +23,7 @@ names_of_list text (tree l cs us) = second_name text cs ∷ names_of_list text u
 -- Of an ExportDeclaration, by its kind and its slots. `export *` with no name has none.
 abbrev pub exported_by : List ℕ → NodeKind → Slots → List (List ℕ)
 exported_by text export_named_declaration us = names_of_list text us
-exported_by text export_from_declaration (tree source cs us) = names_of_list text (behind us)
+exported_by text export_from_declaration (tree source cs us) = names_of_list text (after_first us)
 exported_by text export_all_declaration (tree name cs (tree source ds us)) = name_at text name ∷ []
 exported_by text export_declaration (tree declaration cs us) = map (name_at text) (bound_names declaration cs)
 exported_by text export_default_declaration (tree exported cs us) = codes "default" ∷ []

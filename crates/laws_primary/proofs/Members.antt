@@ -1,4 +1,5 @@
 -- Members, `new` and optional chains, from what the calls that read them answer.
+use Rattle.laws_shared.proofs.PlainSigns.{bracket_plain, closing_bracket_plain}
 use Rattle.laws_shared.proofs.Signs.{none_seen, stands_there, stands_not}
 use Rattle.std.proofs.Common.{ℕ, ◌≡◌, ◌≤◌, ◌<◌, ◌+◌, ◌⊎◌, inl, inr, max, List, [], ◌∷◌, length, Option, Some, None, Bool, true, false, not, ◌&&◌, ◌||◌, IsTrue, refl, sym, ap, subst, arith, ◌∙◌, nat_lt, ◌++◌}
 use Rattle.std.specs.Prelude.{Result, Ok, Err, MatchResult}
@@ -879,14 +880,6 @@ part_name {text} {f} {mid} {v} {left} {name} x = record {
 }
 
 -- an expression in brackets
-bracket_plain : (is_word LBrack || same_kind PrivateIdentifier LBrack) ≡ false
-unfolding words
-bracket_plain = refl
-
-closing_plain : (is_word RBrack || same_kind PrivateIdentifier RBrack) ≡ false
-unfolding words
-closing_plain = refl
-
 module _ {text : List ℕ} {f : Flags} {p q : Parser} (a : At text f p) (k : p.token.kind ≡ LBrack) (m : Moved text f p q) where
   bracket_opened : {ids : List (Option NodeId)} {g : G} → Partway text f (seq (tok LBrack) g) g p q ids ids
   bracket_opened = part_sign LBrack a k (plain_sign LBrack a k refl refl bracket_plain) refl m
@@ -912,7 +905,7 @@ module _ {text : List ℕ} {f : Flags} {p q : Parser} (a : At text f p) (k : p.t
     index_closed c v = moves (uncut x.answer.at (ap (same_kind RAngle) c), ap unpassable c) v x.answer.at
 
     pub index_part : {u : Parser} (ids : List (Option NodeId)) → r.token.kind ≡ RBrack → Moved text f r u → Partway text f (indexed f) nothing p u ids (ids ++ Some index ∷ [])
-    index_part ids c d = parts (index_read ids) (part_last RBrack x.answer.at c (plain_sign RBrack x.answer.at c refl refl closing_plain) refl d)
+    index_part ids c d = parts (index_read ids) (part_last RBrack x.answer.at c (plain_sign RBrack x.answer.at c refl refl closing_bracket_plain) refl d)
 
 module _ {text : List ℕ} {f : Flags} {p : Parser} (a : At text f p) where
   pub call_link : {q : Parser} {id left : NodeId} {start : ℕ} → StandsHere p LParen true → WithArguments node.CallExpression false start left p q id → Linked text f start left p q id

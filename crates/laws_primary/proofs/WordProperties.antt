@@ -47,6 +47,7 @@ use Rattle.laws_shared.proofs.Moving.{beside_nodes, same_both, same_with, stops_
 use Rattle.laws_shared.proofs.Paths.{Path, ◌⟼◌, ◌⟶◌, ◌⟶✗◌, by_symbol_as, fails_at, flagged_by, flagged_here, label_here, last_called, noded, one_read, passes_test, token}
 use Rattle.laws_shared.proofs.Escapes.{read_as, keyword_plain}
 use Rattle.laws_shared.proofs.Giving.{fails_unescaped}
+use Rattle.laws_shared.proofs.PlainSigns.{eq_plain}
 use Rattle.laws_shared.proofs.Signs.{other_kind, plain_sign}
 use Rattle.laws_shared.proofs.Verdicts.{grown_then, verdict_of}
 use Rattle.laws_primary.proofs.Members.{name_of, word_signless, word_signless}
@@ -120,10 +121,6 @@ words_are = refl
 no_word_ends : is_word Eof ≡ false
 unfolding words
 no_word_ends = refl
-
-eq_plain : (is_word Eq || same_kind PrivateIdentifier Eq) ≡ false
-unfolding words
-eq_plain = refl
 
 abbrev literals : G
 literals = string ◇ number ◇ never
