@@ -16,7 +16,6 @@ use Rattle.js_grammar.specs.Lexemes.{is_escaped, division}
 use Rattle.js_grammar.specs.Parsing.{plain, Reads}
 use Rattle.js_grammar.specs.Productions.{Flags, at, Program}
 use Rattle.js_grammar.specs.Table.{rule, rule_of}
-pub use Rattle.js_grammar.proofs.ExportedNames.{cons_some}
 use Rattle.js_grammar.proofs.Behind.{lexed_behind}
 use Rattle.js_grammar.proofs.Looks.{covers}
 use Rattle.js_grammar.proofs.Calculus.{◌▹◌, more_of, here_at, ends, label_is, slots_are}
@@ -190,6 +189,9 @@ module _ {text : List ℕ} {source : Goal} {f : Flags} {s : ℕ} {front : Slots 
 
   none_at_all : NoList text Text (with_directives Text f) s → HasNoReadingBy true text source o
   none_at_all n t r = no_list n (any_body source (body_of r))
+
+pub cons_some : {K : Type 0} (x : K) (xs : List K) → x ∷ xs ≡ [] → ⊥
+cons_some x xs e = cc
 
 -- the lexeme of the plain goal that stands there has no fault
 abbrev Right : List ℕ → Spot → Type 0

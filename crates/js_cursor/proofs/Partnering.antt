@@ -4,7 +4,7 @@ use Rattle.std.specs.Prelude.{codes, bytes_eq, nat_eq}
 use Rattle.std.specs.List.{starts_with}
 use Rattle.std.proofs.lemmas.List.{take_all, length-drop}
 use Rattle.std.specs.Cmp.Lexicographic.{pointwise}
-use Rattle.std.proofs.lemmas.Bool.{false≢true}
+use Rattle.std.proofs.lemmas.Bool.{false≢true, eqb-true}
 use Rattle.js_base.specs.declared.kind.Kind.TheVariants.{Undetermined, Eof}
 use Rattle.js_base.specs.declared.span.Span.{Span}
 use Rattle.js_base.specs.declared.token.Token.{Token}
@@ -12,8 +12,7 @@ use Rattle.js_tree.specs.js_grammar.Grammar.{Lexeme, Lexemes, last, next}
 use Rattle.js_tree.specs.js_grammar.Lexed.{Lexes, end_of, join}
 use Rattle.js_tree.specs.js_grammar.Marks.{Plain, NoPlain, begins_marker, begins_middle, begins_closing, middle_marker, closing_marker, seven_from}
 use Rattle.js_tree.proofs.js_grammar.Parts.{joins}
-use Rattle.js_tree.proofs.js_grammar.ExportedNames.{same_bytes}
-use Rattle.js_tree.proofs.js_grammar.LongestLemmas.{both-right}
+use Rattle.js_tree.proofs.js_grammar.LongestLemmas.{both-left, both-right}
 use Rattle.js_tree.proofs.js_grammar.Finding.{eqb-turn}
 use Rattle.js_lex.specs.Kept.{Extends}
 use Rattle.js_lex.specs.Reading.{Tells}
@@ -29,6 +28,12 @@ turned [] [] = refl
 turned [] (y ∷ b) = refl
 turned (x ∷ a) [] = refl
 turned (x ∷ a) (y ∷ b) = λ i. eqb-turn x y i && turned a b i
+
+pub same_bytes : (a b : List ℕ) → bytes_eq a b ≡ true → a ≡ b
+same_bytes [] [] h = refl
+same_bytes [] (y ∷ b) h = absurd (false≢true h)
+same_bytes (x ∷ a) [] h = absurd (false≢true h)
+same_bytes (x ∷ a) (y ∷ b) h = λ i. eqb-true x y (both-left (x == y) (bytes_eq a b) h) i ∷ same_bytes a b (both-right (x == y) (bytes_eq a b) h) i
 
 pub begins_so : (signs text bytes : List ℕ) (t : Token) (i : ℕ) (r : Bool) → length signs ≡ 7 → (t.is_on_new_line || (t.span.start == 0)) ≡ true → bytes ≡ text → i ≡ t.span.start → r ≡ starts_with nat_eq (take (length bytes - i) (drop i bytes)) signs → r ≡ begins_marker signs text (lexeme_of t)
 begins_so signs text bytes t i r l f b s e =

@@ -23,7 +23,7 @@ use Rattle.js_tree.specs.js_grammar.Marks.{Mark, StandsAt, LexemeAt, IsLexemeOf,
 use Rattle.js_cursor.specs.Markers.{lexeme_of, Related, Scanned}
 use Rattle.js_cursor.specs.declared.marker.Partners.{Partners}
 use Rattle.js_lex.specs.States.{State}
-use Rattle.js_tree.proofs.js_grammar.ExportedNames.{same_bytes}
+use Rattle.js_cursor.proofs.Partnering.{same_bytes}
 use Rattle.js_tree.proofs.js_grammar.LongestLemmas.{both-right}
 use Rattle.js_tree.specs.js_grammar.Settings.{Goal}
 use Rattle.js_lex.specs.Reading.{cut, is_right_angle, Tells, GivesLexeme, GivesNone}

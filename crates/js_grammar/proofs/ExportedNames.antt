@@ -29,9 +29,6 @@ times-append : (n : List ℕ) (xs ys : List (List ℕ)) → times n (xs ++ ys) �
 times-append n [] ys = omega arith
 times-append n (x ∷ xs) ys = let h = times-append n xs ys in omega arith
 
-pub same_bytes : (n x : List ℕ) → bytes_eq n x ≡ true → n ≡ x
-same_bytes n x e = (bytes_eq-Decides n x).0 e
-
 itself : (n : List ℕ) → bytes_eq n n ≡ true
 itself n = (bytes_eq-Decides n n).1 refl
 
@@ -58,7 +55,7 @@ once (x ∷ xs) h n =
     go (not-true (list_any (bytes_eq x) xs) p.0) (once xs p.1 n) (bytes_eq n x) refl
   where
     go : list_any (bytes_eq x) xs ≡ false → times n xs ≤ 1 → (b : Bool) → bytes_eq n x ≡ b → one b + times n xs ≤ 1
-    go a r true e = let z : times n xs ≡ 0 = ap (λ (m : List ℕ). times m xs) (same_bytes n x e) ∙ never x xs a in omega arith
+    go a r true e = let z : times n xs ≡ 0 = ap (λ (m : List ℕ). times m xs) ((bytes_eq-Decides n x).0 e) ∙ never x xs a in omega arith
     go a r false e = omega arith
 
 differ : (xs : List (List ℕ)) → ((n : List ℕ) → times n xs ≤ 1) → no_two xs ≡ true
@@ -78,8 +75,8 @@ held n (e ∷ es) = bytes_eq n e.0 || held n es
 some_none : {A : Type 0} (x : A) → Some x ≡ None → ⊥
 some_none x e = cc
 
-pub cons_some : {A : Type 0} (x : A) (xs : List A) → x ∷ xs ≡ [] → ⊥
-cons_some x xs e = cc
+cons_nil : {A : Type 0} {P : Type 0} (x : A) (xs : List A) → x ∷ xs ≡ [] → P
+cons_nil x xs e = let none : ⊥ = cc in absurd none
 
 not_held : (n : List ℕ) (es : List (List ℕ × Span)) → span_of_binding es n ≡ None → held n es ≡ false
 not_held n [] h = refl
@@ -110,7 +107,7 @@ with_held b [] h n = one_or (bytes_eq n b.name)
 with_held b (e ∷ es) h n = go (λ y. with_held b es y n) (bytes_eq b.name e.0) refl h
   where
     apart : bytes_eq b.name e.0 ≡ false → bytes_eq n e.0 ≡ true → (d : Bool) → bytes_eq n b.name ≡ d → d ≡ false
-    apart x y true z = let k : b.name ≡ e.0 = sym (same_bytes n b.name z) ∙ same_bytes n e.0 y in absurd (true≢false (sym ((bytes_eq-Decides b.name e.0).1 k) ∙ x))
+    apart x y true z = let k : b.name ≡ e.0 = sym ((bytes_eq-Decides n b.name).0 z) ∙ (bytes_eq-Decides n e.0).0 y in absurd (true≢false (sym ((bytes_eq-Decides b.name e.0).1 k) ∙ x))
     apart x y false z = refl
 
     further : Rest b es n → bytes_eq b.name e.0 ≡ false → held b.name es ≡ false → (d : Bool) → bytes_eq n e.0 ≡ d → one (d || held n (with_binding es b)) ≡ one (d || held n es) + one (bytes_eq n b.name)
@@ -129,7 +126,7 @@ at_place b o = elim o [ None ↦ [] | Some s ↦ record { name = b.name; span = 
 
 unreplaced : (b : NameSpan) (o : Option Span) (rest : List NameSpan) → at_place b o ++ rest ≡ [] → (o ≡ None) × (rest ≡ [])
 unreplaced b None rest h = (refl, h)
-unreplaced b (Some s) rest h = absurd (cons_some _ rest h)
+unreplaced b (Some s) rest h = cons_nil _ rest h
 
 replaced_once : (es : List (List ℕ × Span)) (bs : List NameSpan) → replaced es bs ≡ [] → (n : List ℕ) → one (held n es) + times n (names bs) ≤ 1
 replaced_once es [] h n = small (held n es)
@@ -161,7 +158,7 @@ none_replaced es (b ∷ bs) f =
 few : (ss : List Span) → duplicate_defaults ss ≡ [] → length ss ≤ 1
 few [] h = omega arith
 few (a ∷ []) h = omega arith
-few (a ∷ b ∷ more) h = absurd (cons_some _ [] h)
+few (a ∷ b ∷ more) h = cons_nil _ [] h
 
 none_doubled : (ss : List Span) → length ss ≤ 1 → duplicate_defaults ss ≡ []
 none_doubled [] h = refl
@@ -473,15 +470,15 @@ module _ (text : List ℕ) where
 
   first_nil : {A : Type 0} (xs ys : List A) → xs ++ ys ≡ [] → xs ≡ []
   first_nil [] ys h = refl
-  first_nil (x ∷ xs) ys h = absurd (cons_some x (xs ++ ys) h)
+  first_nil (x ∷ xs) ys h = cons_nil x (xs ++ ys) h
 
   second_nil : {A : Type 0} (xs ys : List A) → xs ++ ys ≡ [] → ys ≡ []
   second_nil [] ys h = h
-  second_nil (x ∷ xs) ys h = absurd (cons_some x (xs ++ ys) h)
+  second_nil (x ∷ xs) ys h = cons_nil x (xs ++ ys) h
 
   unmapped : {A B : Type 0} (f : A → B) (xs : List A) → map f xs ≡ [] → xs ≡ []
   unmapped f [] h = refl
-  unmapped f (x ∷ xs) h = absurd (cons_some (f x) (map f xs) h)
+  unmapped f (x ∷ xs) h = cons_nil (f x) (map f xs) h
 
   abbrev twice_in : Tree → List Diagnostic
   twice_in t = let p = part_of_all t in map (duplicate_export (fold with_binding [] p.bindings)) (replaced [] p.bindings)
@@ -497,7 +494,7 @@ module _ (text : List ℕ) where
 
       go : (n : List ℕ) (b : Bool) → bytes_eq n default_name ≡ b → times n (exported_names_of t) ≤ 1
       go n true e =
-          let s : times n (exported_names_of t) ≡ times default_name (exported_names_of t) = ap (λ (m : List ℕ). times m (exported_names_of t)) (same_bytes n default_name e) in
+          let s : times n (exported_names_of t) ≡ times default_name (exported_names_of t) = ap (λ (m : List ℕ). times m (exported_names_of t)) ((bytes_eq-Decides n default_name).0 e) in
           let f = few (told_in t) (second_nil (twice_in t) (duplicate_defaults (told_in t)) h) in
           let l = told_length t in
           omega arith
