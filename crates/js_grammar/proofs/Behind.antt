@@ -31,7 +31,7 @@ left_behind P s is_nothing l = l
 left_behind P s (is_lexeme {x = x} {ls = ls} p) l = s x ls l
 left_behind P s (is_look p) l = l
 left_behind P s (is_text p) l = l
-left_behind P s (is_ahead d) l = left_behind P s d l
+left_behind P s (is_ahead d) l = l
 left_behind P s is_empty_slot l = l
 left_behind P s (is_seq d e) l = left_behind P s e (left_behind P s d l)
 left_behind P s (is_left d) l = left_behind P s d l

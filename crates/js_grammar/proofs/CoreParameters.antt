@@ -2,6 +2,7 @@
 use Rattle.std.proofs.Common.{ℕ, ◌≡◌, Bool, true, false, not, ◌&&◌, ◌||◌, IsTrue, List, [], ◌∷◌, refl, sym, ap, subst, ◌∙◌, rules}
 use Rattle.std.proofs.lemmas.Bool.{false≢true, not-true, and_parts, and_from}
 use Rattle.std.proofs.Math.Bool.{beq}
+use Rattle.std.specs.Cmp.{booleans_Decides}
 use Rattle.js_base.specs.declared.kind.Kind.{Kind}
 use Rattle.js_base.specs.Kinds.{one_of_kinds, every_kind}
 use Rattle.js_grammar.specs.Trees.{Slots, Tree, tree}
@@ -139,8 +140,7 @@ unfolding core_rule
 like_rule n m s = subst (λ (a : Name). Like (core_of n.name n.flags) (core_of a m.flags)) s.0 (subst (λ (f : Flags). Like (core_of n.name n.flags) (core_of n.name f)) (sym s.2) (like_at n.name s.1 n.flags m.flags))
 
 same : (a b : Bool) → beq a b ≡ true → a ≡ true → b ≡ true
-same true b h e = h
-same false b h e = absurd (false≢true e)
+same a b h e = sym ((booleans_Decides a b).0 h) ∙ e
 
 passes_too : (p q : Look) (k : Kind) (w e : Bool) → agree_at p q k ≡ true → not e ≡ true → p k w e ≡ true → q k w e ≡ true
 passes_too p q k true false h n c = same (p k true false) (q k true false) (and_parts _ _ h).0 c

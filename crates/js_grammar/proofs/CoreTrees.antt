@@ -1,16 +1,16 @@
 -- No early error is in a tree that the core grammar derives, none of its nodes adds to the record of a module, and none is marked as pure.
-use Rattle.std.proofs.Common.{ℕ, ◌≡◌, ◌+◌, ◌/◌, ◌%◌, ◌-◌, ◌++◌, ◌∷◌, Bool, true, false, not, cond, ◌&&◌, List, [], map, refl, sym, subst, ap, ◌∙◌, rules, arith, nat_eq}
+use Rattle.std.proofs.Common.{ℕ, ◌≡◌, ◌+◌, ◌/◌, ◌%◌, ◌-◌, ◌++◌, ◌∷◌, Bool, true, false, not, cond, ◌&&◌, List, [], refl, sym, subst, ap, ◌∙◌, rules, arith, nat_eq}
 use Rattle.std.proofs.lemmas.Bool.{false≢true, and_parts, and_from, not-true}
-use Rattle.js_grammar.specs.Trees.{NodeKind, switch_statement, try_statement, reg_exp_literal, template_literal, with_clause, method_definition, property_definition, accessor_property, import_declaration, export_all_declaration, export_from_declaration, export_named_declaration, export_declaration, export_default_declaration, import_expression, import_meta, function_expression, arrow_function_expression, Op, Span, Label, Slots, end, hole, tree, Tree, append}
+use Rattle.js_grammar.specs.Trees.{NodeKind, switch_statement, try_statement, reg_exp_literal, template_literal, with_clause, method_definition, property_definition, accessor_property, import_declaration, export_all_declaration, export_from_declaration, export_named_declaration, export_declaration, export_default_declaration, import_expression, import_meta, function_expression, arrow_function_expression, Op, Span, Label, Slots, end, hole, tree, Tree}
 use Rattle.js_grammar.specs.Grammar.{Lexemes, ahead, seq, alt, when, many, commas, such, marked, node, ended, keep, label_of, Takes, Derives, is_nothing, is_lexeme, is_look, is_text, is_ahead, is_empty_slot, is_seq, is_left, is_right, is_when, is_many, is_commas, is_such, is_marked, is_node, is_ended, is_keep, is_kept}
 use Rattle.js_grammar.specs.Productions.{Flags, Name, Symbol, G, Property, Element, Program, pure_flag, has_flag, with_pife}
 use Rattle.js_grammar.specs.Table.{rule_of}
 use Rattle.js_grammar.specs.CoreGrammar.{core_of, core_rule}
 use Rattle.js_grammar.specs.EarlyRules.{Rule, everywhere, one_default, catch_or_finally, not_u_and_v, Place, cooked_at, attribute_keys_differ, no_private_constructor, no_field_constructor, no_static_prototype, plain_constructor, EarlyOk, anywhere}
-use Rattle.js_grammar.specs.Modules.{adds, found_in, record_errors, in_order_of_ends, part_of}
-use Rattle.js_grammar.specs.ModuleRecords.{errors_of_parts}
+use Rattle.js_grammar.specs.Modules.{adds, record_errors}
 use Rattle.js_grammar.specs.TreeForms.{with_labels, not_pure, without_pure}
 use Rattle.js_grammar.proofs.CoreParameters.{is_member}
+use Rattle.js_grammar.proofs.EachNode.{append_each, tree_each, root_each, each_so, no_record_errors, without_marks}
 
 -- kinds of which some rule says something
 abbrev told : NodeKind → Bool
@@ -74,17 +74,6 @@ pife_plain function_expression o n s h = subst (λ (b : Bool). not b ≡ true) (
 pife_plain arrow_function_expression o n s h = subst (λ (b : Bool). not b ≡ true) (sym (pife_apart n)) h
 pife_plain k o n s h = h
 
-append_plain : (a b : Slots) → everywhere plain_label a ≡ true → everywhere plain_label b ≡ true → everywhere plain_label (append a b) ≡ true
-append_plain end b h k = k
-append_plain (hole a) b h k = append_plain a b h k
-append_plain (tree l cs a) b h k = let x = and_parts (plain_label l cs) _ h in let y = and_parts (everywhere plain_label cs) _ x.1 in and_from _ _ x.0 (and_from _ _ y.0 (append_plain a b y.1 k))
-
-tree_plain : (l : Label) (cs us : Slots) → plain_label l cs ≡ true → everywhere plain_label cs ≡ true → everywhere plain_label us ≡ true → everywhere plain_label (tree l cs us) ≡ true
-tree_plain l cs us a b c = and_from _ _ a (and_from _ _ b c)
-
-root_plain : (l : Label) (cs us : Slots) → everywhere plain_label (tree l cs us) ≡ true → (plain_label l cs ≡ true) × (everywhere plain_label cs ≡ true)
-root_plain l cs us h = let x = and_parts (plain_label l cs) _ h in (x.0, (and_parts (everywhere plain_label cs) _ x.1).0)
-
 taken_plain : {g : G} {ks ts us : Slots} {i j : ℕ} {ls rest : Lexemes} → Takes core_rule g ks ts i ls us j rest → Plain g → everywhere plain_label ks ≡ true → everywhere plain_label us ≡ true → everywhere plain_label ts ≡ true
 taken_plain is_nothing p k u = u
 taken_plain (is_lexeme c) p k u = u
@@ -99,14 +88,14 @@ taken_plain (is_when c x) p k u = taken_plain x p k u
 taken_plain (is_many x) p k u = taken_plain x ((p, p), tt) k u
 taken_plain (is_commas {b = true} x) p k u = taken_plain x (p, ((tt, (p, tt)), tt)) k u
 taken_plain (is_commas {b = false} x) p k u = taken_plain x (p, ((tt, p), tt)) k u
-taken_plain (is_such {n = n} {l = l} {cs = cs} {us = us} x c) p k u = let r = root_plain l cs end (taken_plain x (plain_line n p) refl refl) in tree_plain l cs us r.0 r.1 u
+taken_plain (is_such {n = n} {l = l} {cs = cs} {us = us} x c) p k u = let r = root_each plain_label l cs end (taken_plain x (plain_line n p) refl refl) in tree_each plain_label l cs us r.0 r.1 u
 taken_plain (is_marked {h = h} {n = n} {l = l} {cs = cs} {us = us} x) p k u =
-    let r = root_plain l cs end (taken_plain x (plain_line n p.0) refl refl) in
-    tree_plain (h l) cs us (subst (λ (f : Label → Label). plain_label (f l) cs ≡ true) (sym p.1) (pife_plain l.kind l.op l.flags l.span r.0)) r.1 u
-taken_plain (is_node {m = m} {cs = cs} {us = us} {j = j} {ls = ls} {rest = rest} x) p k u = tree_plain (label_of m ls j rest) cs us p.0 (taken_plain x p.1 k refl) u
-taken_plain (is_ended {cs = cs} {us = us} q x y) p k u = subst (λ (v : Slots). everywhere plain_label v ≡ true) (sym q) (append_plain cs us (taken_plain x p k refl) (taken_plain y (tt, tt) k u))
+    let r = root_each plain_label l cs end (taken_plain x (plain_line n p.0) refl refl) in
+    tree_each plain_label (h l) cs us (subst (λ (f : Label → Label). plain_label (f l) cs ≡ true) (sym p.1) (pife_plain l.kind l.op l.flags l.span r.0)) r.1 u
+taken_plain (is_node {m = m} {cs = cs} {us = us} {j = j} {ls = ls} {rest = rest} x) p k u = tree_each plain_label (label_of m ls j rest) cs us p.0 (taken_plain x p.1 k refl) u
+taken_plain (is_ended {cs = cs} {us = us} q x y) p k u = subst (λ (v : Slots). everywhere plain_label v ≡ true) (sym q) (append_each plain_label cs us (taken_plain x p k refl) (taken_plain y (tt, tt) k u))
 taken_plain (is_keep x y) p k u = taken_plain y p.1 (taken_plain x p.0 k refl) u
-taken_plain (is_kept {ks = ks} {us = us} q) p k u = subst (λ (v : Slots). everywhere plain_label v ≡ true) (sym q) (append_plain ks us k u)
+taken_plain (is_kept {ks = ks} {us = us} q) p k u = subst (λ (v : Slots). everywhere plain_label v ≡ true) (sym q) (append_each plain_label ks us k u)
 
 pub derived_plain : (n : Symbol) (t : Tree) → is_member n.name ≡ false → {i j : ℕ} {ls rest : Lexemes} → Derives core_rule n t i ls j rest → everywhere plain_label (tree t.label t.slots end) ≡ true
 derived_plain n t e d = taken_plain d (plain_line n e) refl refl
@@ -135,12 +124,7 @@ abbrev Spares : Rule → Type 0
 Spares r = (k : NodeKind) (o : Op) (n : ℕ) (s : Span) (cs : Slots) → told k ≡ false → r (record { kind = k; op = o; flags = n; span = s }) cs ≡ true
 
 all_spared : (r : Rule) → Spares r → (us : Slots) → everywhere spared_label us ≡ true → everywhere r us ≡ true
-all_spared r f end h = refl
-all_spared r f (hole us) h = all_spared r f us h
-all_spared r f (tree l cs us) h =
-    let x = and_parts (spared_label l cs) _ h in
-    let y = and_parts (everywhere spared_label cs) _ x.1 in
-    and_from _ _ (f l.kind l.op l.flags l.span cs (not-true (told l.kind) x.0)) (and_from _ _ (all_spared r f cs y.0) (all_spared r f us y.1))
+all_spared r f us h = each_so spared_label r (λ l cs x. f l.kind l.op l.flags l.span cs (not-true (told l.kind) x)) us h
 
 default_spared : Spares one_default
 default_spared switch_statement o n s cs h = absurd (false≢true (sym h))
@@ -211,16 +195,8 @@ early_spared text t h = let us = tree t.label t.slots end in record {
 adds_nothing : (k : NodeKind) → told k ≡ false → adds k ≡ false
 adds_nothing k h = search (rules, h)
 
-none_found : (us : Slots) → everywhere spared_label us ≡ true → found_in us ≡ []
-none_found end h = refl
-none_found (hole us) h = none_found us h
-none_found (tree l cs us) h =
-    let x = and_parts (spared_label l cs) _ h in
-    let y = and_parts (everywhere spared_label cs) _ x.1 in
-    λ i. none_found cs y.0 i ++ (cond (adds_nothing l.kind (not-true (told l.kind) x.0) i) (record { label = l; slots = cs } ∷ []) [] ++ none_found us y.1 i)
-
 pub record_spared : (text : List ℕ) (t : Tree) → everywhere spared_label (tree t.label t.slots end) ≡ true → record_errors text t ≡ []
-record_spared text t h = ap (λ (ts : List Tree). errors_of_parts (map (part_of text) (in_order_of_ends ts))) (none_found (tree t.label t.slots end) h)
+record_spared text t h = no_record_errors spared_label (λ l cs x. adds_nothing l.kind (not-true (told l.kind) x)) text t h
 
 -- no node is marked as pure
 mark_plain : (l : Label) (cs : Slots) → plain_label l cs ≡ true → not_pure l ≡ l
@@ -231,16 +207,5 @@ mark_plain l cs h = ap (λ (n : ℕ). record l { flags = n }) (ap (λ (b : Bool)
     not_marked false true h = absurd (false≢true h)
     not_marked false false h = refl
 
-marks_plain : (us : Slots) → everywhere plain_label us ≡ true → with_labels not_pure us ≡ us
-marks_plain end h = refl
-marks_plain (hole us) h = ap hole (marks_plain us h)
-marks_plain (tree l cs us) h =
-    let x = and_parts (plain_label l cs) _ h in
-    let y = and_parts (everywhere plain_label cs) _ x.1 in
-    λ i. tree (mark_plain l cs x.0 i) (marks_plain cs y.0 i) (marks_plain us y.1 i)
-
 pub pure_plain : (t : Tree) → everywhere plain_label (tree t.label t.slots end) ≡ true → without_pure t ≡ t
-pure_plain t h =
-    let x = and_parts (plain_label t.label t.slots) _ h in
-    let y = and_parts (everywhere plain_label t.slots) _ x.1 in
-    λ i. record { label = mark_plain t.label t.slots x.0 i; slots = marks_plain t.slots y.0 i }
+pure_plain t h = without_marks plain_label mark_plain t h

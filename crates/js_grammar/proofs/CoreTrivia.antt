@@ -8,7 +8,7 @@ use Rattle.js_base.specs.Kinds.{one_of_kinds}
 use Rattle.js_base.specs.Texts.{text_of}
 use Rattle.js_base.specs.part_text.Characters.{one_of, is_decimal, is_line_terminator}
 use Rattle.js_grammar.specs.Characters.{width, is_identifier_start, is_white_space, has_line_terminator, begins}
-use Rattle.js_grammar.specs.Longest.{longest, none_longer, joined}
+use Rattle.js_grammar.specs.Longest.{longest, none_longer, joined, none_begins}
 use Rattle.js_grammar.specs.Trivia.{after, within_line, closes_comment, is_blank, is_single_line_comment, is_multi_line_comment, is_html_open, is_html_close, is_html_comment, is_trivia_piece, are_trivia, lack_html_comments}
 use Rattle.js_base.specs.Keywords.{keyword_of}
 use Rattle.js_grammar.specs.Names.{is_plain_name}

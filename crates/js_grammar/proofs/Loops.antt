@@ -208,18 +208,18 @@ module _ {N : Type 0} {rule : N → Grammar N} (C : FirstSets rule) where
   -- The rules of operators, for any table of levels, where each operator stands at one level.
   module _ (level : ℕ → N) (top : ℕ) (kind : ℕ → NodeKind) (feet : ℕ → Grammar N) (ops : ℕ → List Kind) where
     -- the next lexeme tells the part
-    pub part_at : (m c q : ℕ) (x : Link N) → Step (level_tower level top kind feet ops) m c q x → (k : Kind) (w e : Bool) → starts C.first x.part full k w e ≡ true → OneOf k (ops q) × (x ≡ operation_link level kind q k)
+    pub part_at : (m c q : ℕ) (x : Link N) → Step (level_tower {rule = rule} level top kind feet ops) m c q x → (k : Kind) (w e : Bool) → starts C.first x.part full k w e ≡ true → OneOf k (ops q) × (x ≡ operation_link level kind q k)
     part_at m c q x a k w e h =
         let y = of_operations level kind q (ops q) a.3 in
         let same : y.0 ≡ k = kind_of_same y.0 k (and_parts _ _ (subst (λ v. starts C.first v.part full k w e ≡ true) y.2 h)).0 in
         (subst (λ v. OneOf v (ops q)) same y.1, y.2 ∙ ap (λ v. operation_link level kind q v) same)
 
-    pub operators_follow : {m c : ℕ} {X' : Test} → ((q : ℕ) (ts : Slots) (y : Lexeme) → OneOf y.kind (ops q) → m ≤ q → q ≤ c → q ≤ top → Admits X' ts y) → Follows C.first (level_tower level top kind feet ops) m c X'
+    pub operators_follow : {m c : ℕ} {X' : Test} → ((q : ℕ) (ts : Slots) (y : Lexeme) → OneOf y.kind (ops q) → m ≤ q → q ≤ c → q ≤ top → Admits X' ts y) → Follows C.first (level_tower {rule = rule} level top kind feet ops) m c X'
     operators_follow {m} {c} i = record { goes = λ q x a ts y t. i q ts y (part_at m c q x a y.kind y.newline y.escaped t).0 a.0 a.1 a.2 }
 
     -- the operator here stands at one level
     pub one_operator : {Lex : ℕ → Lexeme → Type 0} {X : Test} {m c s q : ℕ} {l : Label} {cs : Slots} (k : Kind) → ((y : Lexeme) → Lex s y → y.kind ≡ k) → m ≤ q → q ≤ c → q ≤ top → OneOf k (ops q) → ((q' : ℕ) → OneOf k (ops q') → q' ≡ q) → ((y : Lexeme) → Lex s y → Admits X (tree l cs end) y → ⊥)
-        → Alone Lex X (level_tower level top kind feet ops) m c s q (operation_link level kind q k) l cs
+        → Alone Lex X (level_tower {rule = rule} level top kind feet ops) m c s q (operation_link level kind q k) l cs
     one_operator {Lex} {X} {m} {c} {s} {q} {l} {cs} k z a b d i u g = record {
       step = (a, b, d, to_operations level kind q (ops q) i);
       other = λ q' x' st y n t. let r = part_at m c q' x' st y.kind y.newline y.escaped t in let same = z y n in let v = u q' (subst (λ a. OneOf a (ops q')) same r.0) in inl (v, r.1 ∙ (ap (λ a. operation_link level kind q' a) same ∙ ap (λ a. operation_link level kind a k) v));
@@ -227,7 +227,7 @@ module _ {N : Type 0} {rule : N → Grammar N} (C : FirstSets rule) where
     }
 
     -- no operator of the levels between may stand here
-    pub operators_end : {Lex : ℕ → Lexeme → Type 0} {X X' : Test} {ks : Slots} {m c s from s' : ℕ} {rn : Way} {l : Label} {cs : Slots} → Heads X' X → Around Lex X (level_tower level top kind feet ops) m s from c l cs s' rn → ((q : ℕ) → m ≤ q → q ≤ c → (y : Lexeme) → Lex s' y → OneOf y.kind (ops q) → ⊥) → Reads rule Lex X' ks (such (level m) always) s s' (tree l cs) rn
+    pub operators_end : {Lex : ℕ → Lexeme → Type 0} {X X' : Test} {ks : Slots} {m c s from s' : ℕ} {rn : Way} {l : Label} {cs : Slots} → Heads X' X → Around Lex X (level_tower {rule = rule} level top kind feet ops) m s from c l cs s' rn → ((q : ℕ) → m ≤ q → q ≤ c → (y : Lexeme) → Lex s' y → OneOf y.kind (ops q) → ⊥) → Reads rule Lex X' ks (such (level m) always) s s' (tree l cs) rn
     operators_end {m = m} {c = c} g a n = finish refl g a (λ q x st y l t. let r = part_at m c q x st y.kind y.newline y.escaped t in n q st.0 st.1 y l r.0)
 
   -- the links that may begin with a lexeme of this kind
@@ -261,21 +261,21 @@ module _ {N : Type 0} {rule : N → Grammar N} (C : FirstSets rule) where
   -- The rules of a chain: a symbol n that is base, or a link behind itself.
   module _ {n : N} {base g : Grammar N} (e : Same rule (rule n) (alt base g)) (lk : Links n g) where
     abbrev pub Chained : (ℕ → Lexeme → Type 0) → Test → ℕ → ℕ → Label → Slots → ℕ → Way → Type 0
-    Chained Lex X s from l cs s' way = Around Lex X (chain n base g) 0 s from 1 l cs s' way
+    Chained Lex X s from l cs s' way = Around Lex X (chain {rule = rule} n base g) 0 s from 1 l cs s' way
 
-    of_step : (c q : ℕ) (x : Link N) → Step (chain n base g) 0 c q x → (q ≡ 0) × Among n g x
+    of_step : (c q : ℕ) (x : Link N) → Step (chain {rule = rule} n base g) 0 c q x → (q ≡ 0) × Among n g x
     of_step c q x a = (zero_only a.2, a.3)
 
-    follows : {c : ℕ} {F' : Look} → all_links lk (λ x. covers (starts C.first x.part full) F') ≡ true → Follows C.first (chain n base g) 0 c (plain F')
+    follows : {c : ℕ} {F' : Look} → all_links lk (λ x. covers (starts C.first x.part full) F') ≡ true → Follows C.first (chain {rule = rule} n base g) 0 c (plain F')
     follows {c} {F'} i = record { goes = λ q x a ts y t. (covered (starts C.first x.part full) F' (each_link lk (λ x. covers (starts C.first x.part full) F') i x (of_step c q x a).1) y.kind y.newline y.escaped t, refl) }
 
     pub chain_start : {Lex : ℕ → Lexeme → Type 0} {X : Test} {F' : Look} {s from s' : ℕ} {rn : Way} {l : Label} {cs : Slots} → Reads rule Lex (plain F') end base s s' (tree l cs) rn → covers X.base F' ≡ true → all_links lk (λ x. covers (starts C.first x.part full) F') ≡ true → ((y : Lexeme) → Lex s y → y.from ≡ from) → Chained Lex X s from l cs s' rn
-    chain_start {Lex} {X} {F'} r h i b = start {Lex = Lex} {w = chain n base g} {m = 0} {X = X} {X' = plain F'} (chain_lawful n base g e lk) (λ q h. refl) (omega arith) r (λ ts y p. (covered X.base F' h _ _ _ p.0, refl)) (follows i) b
+    chain_start {Lex} {X} {F'} r h i b = start {Lex = Lex} {w = chain {rule = rule} n base g} {m = 0} {X = X} {X' = plain F'} (chain_lawful n base g e lk) (λ q h. refl) (omega arith) r (λ ts y p. (covered X.base F' h _ _ _ p.0, refl)) (follows i) b
 
     pub chain_start_fails : {Lex : ℕ → Lexeme → Type 0} {X : Test} {F' : Look} {ks : Slots} {s : ℕ} → Fails rule Lex (plain F') end base s → covers X.base F' ≡ true → all_links lk (λ x. covers (starts C.first x.part full) F') ≡ true → Fails rule Lex X ks (such n always) s
-    chain_start_fails {Lex} {X} {F'} r h i = weaken_fails (start_fails {Lex = Lex} {w = chain n base g} {m = 0} {X = plain X.base} {X' = plain F'} (chain_lawful n base g e lk) (λ q h. refl) refl (omega arith) r (λ l cs vs y p. p) (λ ts y p. (covered X.base F' h _ _ _ p.0, refl)) (follows i)) (λ ts y p. (p.0, refl))
+    chain_start_fails {Lex} {X} {F'} r h i = weaken_fails (start_fails {Lex = Lex} {w = chain {rule = rule} n base g} {m = 0} {X = plain X.base} {X' = plain F'} (chain_lawful n base g e lk) (λ q h. refl) refl (omega arith) r (λ l cs vs y p. p) (λ ts y p. (covered X.base F' h _ _ _ p.0, refl)) (follows i)) (λ ts y p. (p.0, refl))
 
-    alone : {Lex : ℕ → Lexeme → Type 0} {X : Test} {s' : ℕ} {x : Link N} {l : Label} {cs : Slots} (k : Kind) → ((y : Lexeme) → Lex s' y → y.kind ≡ k) → Among n g x → ((x' : Link N) → OneOf x' (beginning lk k) → (x' ≡ x) ⊎ Fails rule Lex (plain full) end x'.part s') → ((y : Lexeme) → Lex s' y → Admits X (tree l cs end) y → ⊥) → Alone Lex X (chain n base g) 0 1 s' 0 x l cs
+    alone : {Lex : ℕ → Lexeme → Type 0} {X : Test} {s' : ℕ} {x : Link N} {l : Label} {cs : Slots} (k : Kind) → ((y : Lexeme) → Lex s' y → y.kind ≡ k) → Among n g x → ((x' : Link N) → OneOf x' (beginning lk k) → (x' ≡ x) ⊎ Fails rule Lex (plain full) end x'.part s') → ((y : Lexeme) → Lex s' y → Admits X (tree l cs end) y → ⊥) → Alone Lex X (chain {rule = rule} n base g) 0 1 s' 0 x l cs
     alone {Lex} {X} {s'} {x} {l} {cs} k h a b f = record {
       step = (omega arith, omega arith, omega arith, a);
       other = λ q' x' st y i t. let z = of_step 1 q' x' st in at_level q' x' z.0 (b x' (in_beginning lk k x' z.1 (subst (λ v. some_of (starts C.first x'.part full v) ≡ true) (h y i) (some_at (starts C.first x'.part full y.kind) y.newline y.escaped t))));

@@ -1,5 +1,5 @@
 -- The trees that the productions that are built derive: which early errors they can't have, that they add nothing to the record of a module, and that none of their nodes is marked as pure.
-use Rattle.std.proofs.Common.{ℕ, ◌≡◌, ◌+◌, ◌/◌, ◌%◌, ◌-◌, ◌++◌, ◌∷◌, Bool, true, false, not, cond, ◌&&◌, ◌||◌, List, [], map, refl, sym, subst, ap, ◌∙◌, rules, IsTrue}
+use Rattle.std.proofs.Common.{ℕ, ◌≡◌, ◌+◌, ◌/◌, ◌%◌, ◌-◌, ◌++◌, ◌∷◌, Bool, true, false, not, cond, ◌&&◌, ◌||◌, List, [], refl, sym, subst, ap, ◌∙◌, rules, IsTrue}
 use Rattle.std.proofs.lemmas.Bool.{false≢true, not-true, and_parts, and_from}
 use Rattle.js_grammar.specs.Trees.{NodeKind, switch_statement, switch_case, try_statement, template_literal, with_clause, method_definition, property_definition, accessor_property, import_declaration, export_all_declaration, export_from_declaration, export_named_declaration, export_declaration, export_default_declaration, import_expression, import_meta, function_expression, arrow_function_expression, Op, no_op, Label, Span, Slots, end, hole, tree, Tree, append}
 use Rattle.js_grammar.specs.Grammar.{Make, Lexemes, ◌▸◌, ◌◇◌, empty_slot, ahead, seq, alt, when, many, commas, such, marked, node, ended, keep, label_of, Takes, Derives, is_nothing, is_lexeme, is_look, is_text, is_ahead, is_empty_slot, is_seq, is_left, is_right, is_when, is_many, is_commas, is_such, is_marked, is_node, is_ended, is_keep, is_kept}
@@ -9,11 +9,11 @@ use Rattle.js_base.specs.declared.kind.Kind.TheVariants.{Colon}
 use Rattle.js_grammar.specs.Words.{'default', 'finally', 'switch', 'try'}
 use Rattle.js_grammar.specs.Table.{rule, rule_of}
 use Rattle.js_grammar.specs.EarlyRules.{Rule, everywhere, one_default, catch_or_finally, not_u_and_v, Place, anywhere, tag, tagged, cooked_at, templates_cooked, attribute_keys_differ, no_private_constructor, no_field_constructor, no_static_prototype, plain_constructor, EarlyOk}
-use Rattle.js_grammar.specs.Modules.{adds, found_in, record_errors, in_order_of_ends, part_of}
-use Rattle.js_grammar.specs.ModuleRecords.{errors_of_parts}
+use Rattle.js_grammar.specs.Modules.{adds, record_errors}
 use Rattle.js_grammar.proofs.CoverInitialisers.{line_marked}
 use Rattle.js_grammar.proofs.Renamed.{remarked, first_of, second_of, mark_of}
 use Rattle.js_grammar.proofs.CoreTrees.{pife_apart}
+use Rattle.js_grammar.proofs.EachNode.{append_each, tree_each, root_each, each_so, no_record_errors, without_marks}
 use Rattle.js_grammar.specs.TreeForms.{with_labels, not_pure, without_pure}
 
 -- nonterminals that no production that is built leads to
@@ -323,17 +323,6 @@ pife_fine function_expression o n s cs h = subst (λ (b : Bool). (not b && true)
 pife_fine arrow_function_expression o n s cs h = subst (λ (b : Bool). (not b && true) ≡ true) (sym (pife_apart n)) h
 pife_fine k o n s cs h = h
 
-append_fine : (a b : Slots) → everywhere fine_label a ≡ true → everywhere fine_label b ≡ true → everywhere fine_label (append a b) ≡ true
-append_fine end b h k = k
-append_fine (hole a) b h k = append_fine a b h k
-append_fine (tree l cs a) b h k = let x = and_parts (fine_label l cs) _ h in let y = and_parts (everywhere fine_label cs) _ x.1 in and_from _ _ x.0 (and_from _ _ y.0 (append_fine a b y.1 k))
-
-tree_fine : (l : Label) (cs us : Slots) → fine_label l cs ≡ true → everywhere fine_label cs ≡ true → everywhere fine_label us ≡ true → everywhere fine_label (tree l cs us) ≡ true
-tree_fine l cs us a b c = and_from _ _ a (and_from _ _ b c)
-
-root_fine : (l : Label) (cs us : Slots) → everywhere fine_label (tree l cs us) ≡ true → (fine_label l cs ≡ true) × (everywhere fine_label cs ≡ true)
-root_fine l cs us h = let x = and_parts (fine_label l cs) _ h in (x.0, (and_parts (everywhere fine_label cs) _ x.1).0)
-
 taken_fine : {g : G} {ks ts us : Slots} {i j : ℕ} {ls rest : Lexemes} → Takes rule g ks ts i ls us j rest → Fine g → everywhere fine_label ks ≡ true → everywhere fine_label us ≡ true → everywhere fine_label ts ≡ true
 taken_fine is_nothing p k u = u
 taken_fine (is_lexeme c) p k u = u
@@ -348,14 +337,14 @@ taken_fine (is_when c x) p k u = taken_fine x p k u
 taken_fine (is_many x) p k u = taken_fine x ((p, p), tt) k u
 taken_fine (is_commas {b = true} x) p k u = taken_fine x (p, ((tt, (p, tt)), tt)) k u
 taken_fine (is_commas {b = false} x) p k u = taken_fine x (p, ((tt, p), tt)) k u
-taken_fine (is_such {n = n} {l = l} {cs = cs} {us = us} x c) p k u = let r = root_fine l cs end (taken_fine x (fine_line n p) refl refl) in tree_fine l cs us r.0 r.1 u
+taken_fine (is_such {n = n} {l = l} {cs = cs} {us = us} x c) p k u = let r = root_each fine_label l cs end (taken_fine x (fine_line n p) refl refl) in tree_each fine_label l cs us r.0 r.1 u
 taken_fine (is_marked {h = h} {n = n} {l = l} {cs = cs} {us = us} x) p k u =
-    let r = root_fine l cs end (taken_fine x (fine_line n p.0) refl refl) in
-    tree_fine (h l) cs us (subst (λ (f : Label → Label). fine_label (f l) cs ≡ true) (sym p.1) (pife_fine l.kind l.op l.flags l.span cs r.0)) r.1 u
-taken_fine (is_node {m = m} {a = a} {cs = cs} {us = us} {j = j} {ls = ls} {rest = rest} x) p k u = tree_fine (label_of m ls j rest) cs us (node_fine m a p.0 x (label_of m ls j rest).span) (taken_fine x p.1 k refl) u
-taken_fine (is_ended {cs = cs} {us = us} q x y) p k u = subst (λ (v : Slots). everywhere fine_label v ≡ true) (sym q) (append_fine cs us (taken_fine x p k refl) (taken_fine y (tt, tt) k u))
+    let r = root_each fine_label l cs end (taken_fine x (fine_line n p.0) refl refl) in
+    tree_each fine_label (h l) cs us (subst (λ (f : Label → Label). fine_label (f l) cs ≡ true) (sym p.1) (pife_fine l.kind l.op l.flags l.span cs r.0)) r.1 u
+taken_fine (is_node {m = m} {a = a} {cs = cs} {us = us} {j = j} {ls = ls} {rest = rest} x) p k u = tree_each fine_label (label_of m ls j rest) cs us (node_fine m a p.0 x (label_of m ls j rest).span) (taken_fine x p.1 k refl) u
+taken_fine (is_ended {cs = cs} {us = us} q x y) p k u = subst (λ (v : Slots). everywhere fine_label v ≡ true) (sym q) (append_each fine_label cs us (taken_fine x p k refl) (taken_fine y (tt, tt) k u))
 taken_fine (is_keep x y) p k u = taken_fine y p.1 (taken_fine x p.0 k refl) u
-taken_fine (is_kept {ks = ks} {us = us} q) p k u = subst (λ (v : Slots). everywhere fine_label v ≡ true) (sym q) (append_fine ks us k u)
+taken_fine (is_kept {ks = ks} {us = us} q) p k u = subst (λ (v : Slots). everywhere fine_label v ≡ true) (sym q) (append_each fine_label ks us k u)
 
 pub derived_fine : (n : Symbol) (t : Tree) → far n.name ≡ false → {i j : ℕ} {ls rest : Lexemes} → Derives rule n t i ls j rest → everywhere fine_label (tree t.label t.slots end) ≡ true
 derived_fine n t e d = taken_fine d (fine_line n e) refl refl
@@ -367,12 +356,7 @@ abbrev Spares : Rule → Type 0
 Spares r = (l : Label) (cs : Slots) → fine_label l cs ≡ true → r l cs ≡ true
 
 all_spared : (r : Rule) → Spares r → (us : Slots) → everywhere fine_label us ≡ true → everywhere r us ≡ true
-all_spared r f end h = refl
-all_spared r f (hole us) h = all_spared r f us h
-all_spared r f (tree l cs us) h =
-    let x = and_parts (fine_label l cs) _ h in
-    let y = and_parts (everywhere fine_label cs) _ x.1 in
-    and_from _ _ (f l cs x.0) (and_from _ _ (all_spared r f cs y.0) (all_spared r f us y.1))
+all_spared r f us h = each_so fine_label r f us h
 
 default_spared : Spares one_default
 default_spared l cs h = (and_parts (one_default l cs) _ (and_parts (plain l.kind l.flags) _ h).1).0
@@ -433,34 +417,15 @@ early_fine text t h a b = let us = tree t.label t.slots end in record {
 adds_nothing : (k : NodeKind) → absent k ≡ false → adds k ≡ false
 adds_nothing k h = search (rules, h)
 
-none_found : (us : Slots) → everywhere fine_label us ≡ true → found_in us ≡ []
-none_found end h = refl
-none_found (hole us) h = none_found us h
-none_found (tree l cs us) h =
-    let x = and_parts (fine_label l cs) _ h in
-    let y = and_parts (everywhere fine_label cs) _ x.1 in
-    λ i. none_found cs y.0 i ++ (cond (adds_nothing l.kind (here_not_absent l cs x.0) i) (record { label = l; slots = cs } ∷ []) [] ++ none_found us y.1 i)
-
 pub record_fine : (text : List ℕ) (t : Tree) → everywhere fine_label (tree t.label t.slots end) ≡ true → record_errors text t ≡ []
-record_fine text t h = ap (λ (ts : List Tree). errors_of_parts (map (part_of text) (in_order_of_ends ts))) (none_found (tree t.label t.slots end) h)
+record_fine text t h = no_record_errors fine_label (λ l cs x. adds_nothing l.kind (here_not_absent l cs x)) text t h
 
 -- no node is marked as pure
 mark_fine : (l : Label) (cs : Slots) → fine_label l cs ≡ true → not_pure l ≡ l
 mark_fine l cs h = ap (λ (n : ℕ). record l { flags = n }) (ap (λ (b : Bool). cond b (l.flags - pure_flag) l.flags) (not-true (has_flag pure_flag l.flags) (and_parts (not (absent l.kind)) _ (and_parts (plain l.kind l.flags) _ h).0).1))
 
-marks_fine : (us : Slots) → everywhere fine_label us ≡ true → with_labels not_pure us ≡ us
-marks_fine end h = refl
-marks_fine (hole us) h = ap hole (marks_fine us h)
-marks_fine (tree l cs us) h =
-    let x = and_parts (fine_label l cs) _ h in
-    let y = and_parts (everywhere fine_label cs) _ x.1 in
-    λ i. tree (mark_fine l cs x.0 i) (marks_fine cs y.0 i) (marks_fine us y.1 i)
-
 pub pure_fine : (t : Tree) → everywhere fine_label (tree t.label t.slots end) ≡ true → without_pure t ≡ t
-pure_fine t h =
-    let x = and_parts (fine_label t.label t.slots) _ h in
-    let y = and_parts (everywhere fine_label t.slots) _ x.1 in
-    λ i. record { label = mark_fine t.label t.slots x.0 i; slots = marks_fine t.slots y.0 i }
+pure_fine t h = without_marks fine_label mark_fine t h
 
 -- ---- the two rules don't look at the mark
 

@@ -1,6 +1,6 @@
 -- A core text has no lexical fault.
 use Rattle.std.proofs.Common.{◌≡◌, ℕ, ◌+◌, ◌==◌, Bool, true, false, List, [], ◌∷◌, ◌++◌, refl, sym, ap, subst, ◌∙◌, not, ◌&&◌, ◌||◌, Option, Some, None, inl, inr}
-use Rattle.std.specs.Prelude.{codes, IsUtf8, is_some, bytes_eq}
+use Rattle.std.specs.Prelude.{codes, IsUtf8, is_some, bytes_eq, chars}
 use Rattle.std.specs.List.{list_all}
 use Rattle.std.proofs.lemmas.Bool.{eqb-true, or_cases}
 use Rattle.std.proofs.lemmas.List.{append-nil}
