@@ -1,5 +1,5 @@
 -- Two kinds with one code are one kind; a claim on each of the list is one on every kind.
-use Rattle.std.proofs.Common.{ℕ, zero, suc, List, [], ◌∷◌, length, get_or, ◌≡◌, ◌<◌, Bool, true, ◌&&◌, refl, ap, sym, ◌∙◌, eqb-true, lit<, arith, subst}
+use Rattle.std.proofs.Common.{ℕ, zero, suc, List, [], ◌∷◌, length, get_or, ◌≡◌, ◌<◌, Bool, true, refl, ap, sym, ◌∙◌, eqb-true, lit<, arith, subst}
 use Rattle.std.proofs.lemmas.Bool.{and_parts}
 use Rattle.js_base.specs.Kinds.{Kind, kinds, code, same_kind, Break, Case, Catch, Class, Const, Continue, Debugger, Default, Delete, Do, Else, Enum, Export, Extends, False, Finally, For, Function, If, Import, In, Instanceof, New, Null, Return, Super, Switch, This, Throw, True, Try, Typeof, Var, Void, While, With, Let, Static, Implements, Interface, Package, Private, Protected, Public, Yield, Await, Async, Of, Get, Set, As, From, Assert, Accessor, Using, Defer, Source, Meta, Target, Satisfies, Constructor, TypeWord, LParen, RParen, LCurly, RCurly, LBrack, RBrack, Semicolon, Comma, Colon, Dot, Dot3, Arrow, At, Tilde, Bang, Question, QuestionDot, Question2, Question2Eq, Plus, Plus2, PlusEq, Minus, Minus2, MinusEq, Star, Star2, StarEq, Star2Eq, Slash, SlashEq, Percent, PercentEq, Eq, Eq2, Eq3, Neq, Neq2, LAngle, LtEq, RAngle, GtEq, ShiftLeft, ShiftLeftEq, ShiftRight, ShiftRightEq, ShiftRight3, ShiftRight3Eq, Amp, Amp2, AmpEq, Amp2Eq, Pipe, Pipe2, PipeEq, Pipe2Eq, Caret, CaretEq, Ident, PrivateIdentifier, Str, Decimal, Float, Binary, Octal, Hex, PositiveExponential, NegativeExponential, DecimalBigInt, BinaryBigInt, OctalBigInt, HexBigInt, RegExp, NoSubstitutionTemplate, TemplateHead, TemplateMiddle, TemplateTail, HashbangComment, Eof, Undetermined, every_kind}
 
