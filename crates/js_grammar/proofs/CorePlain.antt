@@ -1,5 +1,5 @@
 -- Characters without a backslash stand for themselves, in a name and in a string.
-use Rattle.std.proofs.Common.{◌≡◌, ◌<◌, ◌≤◌, ℕ, ◌==◌, Bool, true, false, List, [], ◌∷◌, ◌++◌, refl, sym, ap, ◌∙◌, not, ◌&&◌, ◌||◌, Option, Some, None, append_assoc}
+use Rattle.std.proofs.Common.{◌≡◌, ℕ, ◌==◌, Bool, true, false, List, [], ◌∷◌, ◌++◌, refl, sym, ap, ◌∙◌, not, Option, Some, None, append_assoc}
 use Rattle.std.specs.List.{list_all}
 use Rattle.js_base.specs.part_text.Escapes.{Where, Stage, Step, outside, backslash, go, plainly, step, read_from, before_all, line_feeds, line_feeds_after}
 use Rattle.js_grammar.proofs.LongestLemmas.{both-left, both-right, not-true}

@@ -1,5 +1,5 @@
 -- No early error is in a tree that the core grammar derives, none of its nodes adds to the record of a module, and none is marked as pure.
-use Rattle.std.proofs.Common.{ℕ, ◌≡◌, ◌+◌, ◌/◌, ◌%◌, ◌-◌, ◌++◌, ◌∷◌, Bool, true, false, not, cond, ◌&&◌, List, [], refl, sym, subst, ap, ◌∙◌, rules, arith, nat_eq}
+use Rattle.std.proofs.Common.{ℕ, ◌≡◌, ◌+◌, ◌/◌, ◌%◌, ◌-◌, Bool, true, false, not, cond, ◌&&◌, List, [], refl, sym, subst, ap, ◌∙◌, rules, arith, nat_eq}
 use Rattle.std.proofs.lemmas.Bool.{false≢true, and_parts, and_from, not-true}
 use Rattle.js_grammar.specs.Trees.{NodeKind, switch_statement, try_statement, reg_exp_literal, template_literal, with_clause, method_definition, property_definition, accessor_property, import_declaration, export_all_declaration, export_from_declaration, export_named_declaration, export_declaration, export_default_declaration, import_expression, import_meta, function_expression, arrow_function_expression, Op, Span, Label, Slots, end, hole, tree, Tree}
 use Rattle.js_grammar.specs.Grammar.{Lexemes, ahead, seq, alt, when, many, commas, such, marked, node, ended, keep, label_of, Takes, Derives, is_nothing, is_lexeme, is_look, is_text, is_ahead, is_empty_slot, is_seq, is_left, is_right, is_when, is_many, is_commas, is_such, is_marked, is_node, is_ended, is_keep, is_kept}

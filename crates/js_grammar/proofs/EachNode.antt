@@ -1,5 +1,5 @@
 -- What holds of each node among slots.
-use Rattle.std.proofs.Common.{ℕ, ◌≡◌, Bool, true, false, cond, ◌&&◌, List, [], ◌∷◌, ◌++◌, map, refl, ap}
+use Rattle.std.proofs.Common.{ℕ, ◌≡◌, true, false, cond, List, [], ◌∷◌, ◌++◌, map, refl, ap}
 use Rattle.std.proofs.lemmas.Bool.{and_parts, and_from}
 use Rattle.js_grammar.specs.EarlyRules.{Rule, everywhere}
 use Rattle.js_grammar.specs.ModuleRecords.{errors_of_parts}

@@ -1,5 +1,5 @@
 -- Tests on lists: members, and what `find` gives.
-use Rattle.std.proofs.Common.{◌≡◌, ℕ, ◌==◌, Bool, true, false, List, [], ◌∷◌, ◌++◌, refl, subst, ◌||◌, Option, Some, None, ◌⊎◌, inl, inr, not, sym, ◌∙◌}
+use Rattle.std.proofs.Common.{◌≡◌, ℕ, ◌==◌, Bool, true, false, List, [], ◌∷◌, ◌++◌, refl, subst, ◌||◌, Option, Some, None, inl, inr, not, sym, ◌∙◌}
 use Rattle.std.specs.Prelude.{is_some, cond}
 use Rattle.std.specs.List.{list_all, find}
 use Rattle.std.proofs.lemmas.Bool.{eqb-true, or_cases, false≢true, eq-eqb}

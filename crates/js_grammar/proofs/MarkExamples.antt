@@ -12,11 +12,11 @@ use Rattle.js_base.specs.Texts.{words, punctuators}
 use Rattle.js_base.specs.part_text.Characters.{one_of}
 use Rattle.js_grammar.specs.Grammar.{Lexeme, Lexemes, last, next}
 use Rattle.js_grammar.specs.Words.{'new', 'with'}
-use Rattle.js_grammar.specs.Settings.{Goal, script}
+use Rattle.js_grammar.specs.Settings.{script}
 use Rattle.js_grammar.specs.Lexemes.{division}
 use Rattle.js_grammar.specs.Lexed.{Lex, Lexes, Stands, all_faults, end_of}
 use Rattle.js_grammar.specs.LexicalFaults.{Reached, Faulty}
-use Rattle.js_grammar.specs.Marks.{IsLexemeOf, a_lexeme, a_sign, a_fault, goes_on, begins_with_greater, of_kinds, another_word, opens, is_part, closing_width, EdgeOf, the_start, the_end, inside_start, inside_end, none, StandsAt}
+use Rattle.js_grammar.specs.Marks.{IsLexemeOf, a_lexeme, a_sign, a_fault, goes_on, begins_with_greater, of_kinds, another_word, opens, is_part, EdgeOf, the_start, the_end, inside_start, inside_end, none, StandsAt}
 use Rattle.js_grammar.proofs.Alike.{stands-same}
 use Rattle.js_grammar.proofs.Choices.{choice}
 use Rattle.js_grammar.proofs.Standing.{stand, lexeme_of}

@@ -1,5 +1,5 @@
 -- Left-recursive symbols, one above the other, and the loop that reads them: behind what a symbol begins with stand parts, each of which makes a node around what stands before it. For any grammar.
-use Rattle.std.specs.Prelude.{ℕ, ◌+◌, ◌≤◌, ◌≡◌, Bool, IsTrue, cond, nat_eq}
+use Rattle.std.specs.Prelude.{ℕ, ◌≤◌, ◌≡◌, Bool, IsTrue, cond, nat_eq}
 use Rattle.js_grammar.specs.Trees.{NodeKind, Op, Label, Slots, end, tree}
 use Rattle.js_grammar.specs.Grammar.{Lexeme, Lexemes, here, Make, exact, Grammar, never, seq, alt, when, such, node, Takes}
 use Rattle.js_grammar.specs.Lexed.{Lexes}

@@ -5,6 +5,7 @@ use Rattle.std.specs.List.{list_all}
 use Rattle.std.proofs.lemmas.Bool.{and_left, and_right}
 use Rattle.std.proofs.Math.Bool.{and-false, and-true, not-not, or-false}
 use Rattle.std.proofs.lemmas.List.Folds.{list_all-append, list_any-append}
+use Rattle.std.proofs.lemmas.List.{append-nil}
 use Rattle.js_base.specs.part_text.Characters.{is_line_terminator}
 use Rattle.part_words.specs.js_grammar.Characters.{has_line_terminator, begins, width}
 use Rattle.part_words.specs.js_grammar.Longest.{longest, none_longer, none_begins}
@@ -184,7 +185,7 @@ never_closed star all f w more e = go (closes_comment false w) refl
     goes_on false = (42, 47 ∷ [], refl)
 
     clash : (m : List ℕ) (c : ℕ) (x : List ℕ) → closes_comment false w ≡ true → all ≡ w ++ m → closes_comment star (c ∷ x) ≡ true → ⊥
-    clash [] c x h e k = let a = closed false w c x h in let b : closes_comment false (w ++ c ∷ x) ≡ closes_comment star (c ∷ x) = subst (λ (u : List ℕ). closes_comment false (u ++ c ∷ x) ≡ closes_comment star (c ∷ x)) (e ∙ Rattle.part_words.proofs.js_grammar.LongestLemmas.append-nil w) (f (c ∷ x)) in cc
+    clash [] c x h e k = let a = closed false w c x h in let b : closes_comment false (w ++ c ∷ x) ≡ closes_comment star (c ∷ x) = subst (λ (u : List ℕ). closes_comment false (u ++ c ∷ x) ≡ closes_comment star (c ∷ x)) (e ∙ append-nil w) (f (c ∷ x)) in cc
     clash (d ∷ m) c x h e k = let a : closes_comment false (w ++ ((d ∷ m) ++ c ∷ x)) ≡ false = closed false w d (m ++ c ∷ x) h in let b : closes_comment false (w ++ ((d ∷ m) ++ c ∷ x)) ≡ closes_comment star (c ∷ x) = subst (λ (u : List ℕ). closes_comment false u ≡ closes_comment star (c ∷ x)) (ap (λ (u : List ℕ). u ++ c ∷ x) e ∙ append_assoc w (d ∷ m) (c ∷ x)) (f (c ∷ x)) in cc
 
     go : (b : Bool) → closes_comment false w ≡ b → closes_comment false w ≡ false

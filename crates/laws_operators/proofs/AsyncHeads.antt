@@ -51,13 +51,13 @@ use Rattle.laws_shared.proofs.Signs.{other_kind}
 use Rattle.laws_shared.proofs.Escapes.{read_as, read_plain, plain_or_word}
 use Rattle.laws_shared.proofs.Verdicts.{grown_then}
 use Rattle.laws_patterns.proofs.laws_primary.Operands.{name_signless}
+use Rattle.laws_patterns.proofs.laws_primary.AsyncWords.{given_behind}
 use Rattle.parse_targets.proofs.ArraysBeforeSigns.{array_part, is_cover}
 use Rattle.parse_targets.proofs.Assigned.{arrow_passes, assign_part, assign_slots, no_branch, no_yield, only_arrow, to_choice}
 use Rattle.laws_operators.specs.Arrows.{AsyncHead, list_head, name_head, AsyncHeadBegins, AsyncPassed, AttemptsHead, BeforeArrow, led_head, told_led, BehindWord, FindsAnyHead, FindsAsyncHead, FindsHead, Head, HeadBehindAsync, read_clean, read_unclean, IsHeadBefore, IsHeadOf, NoAsyncHere, NoLed, NoLine, OnlyLed, PlainHead, a_head, told_head, SearchesHead, SearchesPlainHead, ToldHead, Unmoved, WentOn, lead_of, line_of}
 use Rattle.laws_operators.specs.declared.forms.ArrowHead.{ArrowHead}
 use Rattle.laws_operators.specs.HeadOperands.{NoTargetPart}
 use Rattle.laws_operators.specs.Lists.{NoParameters, parameters_of}
-use Rattle.laws_patterns.proofs.laws_primary.AsyncWords.{given_behind}
 use Rattle.laws_operators.proofs.Arrows.{from_unmoved, head_one, no_arrow, no_arrow_behind, no_async_here, no_head_no_line, no_plain_led, plain_head_flags, unmoved, unmoved_went_on, went_back, no_async_escaped}
 use Rattle.laws_operators.proofs.CalledFronts.{Front, word_alone, with_arguments, word_front}
 use Rattle.laws_shared.specs.js_lex.Reading.{Tells, is_right_angle}
