@@ -19,6 +19,7 @@ use Rattle.js_grammar.proofs.BuiltLines.{in_whole, by_built}
 use Rattle.js_grammar.proofs.CoreDerivations.{core_derives, every_at}
 use Rattle.js_grammar.proofs.CoreLexed.{core_lexemes, are_pieces, pieces_lexed}
 use Rattle.js_grammar.proofs.CoreParameters.{same_parameters}
+use Rattle.js_grammar.proofs.ExportedNames.{differ_by_record}
 use Rattle.js_grammar.proofs.CoreTrees.{derived_plain, derived_spared, early_spared, record_spared, pure_plain}
 
 -- from the core grammar under some parameters to the one that is built under others, and back
@@ -53,7 +54,7 @@ module _ {text : List ℕ} (goal : Goal) (o : Options) (u : IsUtf8 text) (s : Co
           derived = in_whole (at Program (program_flags goal o)) (without_pure t) (to_whole (record { in_ = refl; v8 = refl; wide = refl }) (without_pure t) (core_lexemes text u s script r.lexemes (pieces_lexed script u r.core r.lexed)) r.derived);
         };
         early = early_spared text t h;
-        exports = record_spared text t h;
+        exports = differ_by_record text t (record_spared text t h);
       }
 
   read : (t : Tree) → IsWhole Program text goal o t → IsReading text o.allow_v8 (without_pure t)

@@ -2,8 +2,6 @@
 use Rattle.std.specs.Prelude.{ℕ, ◌≡◌, true, List, ◌++◌, codes}
 use Rattle.std.specs.List.{All}
 use Rattle.js_base.specs.declared.diagnostic.Diagnostic.{Diagnostic}
-use Rattle.js_base.specs.declared.diagnostic.DiagnosticClass.TheVariants.{Lexical}
-use Rattle.js_base.specs.Diagnostics.{class_of}
 use Rattle.js_base.specs.Spans.{LiesIn}
 use Rattle.js_grammar.specs.CoreTexts.{starts}
 use Rattle.js_grammar.specs.LexicalFaults.{Reached, FaultyBehind, is_invalid_character}
@@ -18,12 +16,11 @@ pub record IsFault (source : Goal) (text : List ℕ) (d : Diagnostic) : Type 0 w
   pub no_hashbang : is_invalid_character d.kind ≡ true → d.span.start ≡ 0 → starts (codes "#!") text ≡ true → ⊥
   pub alone : Unrelated d.first d.second
 
--- Diagnostics of a text: faults of lexemes, of the class Lexical, and behind them what the parser found. Each has what its kind says at its span, which lies in the text and splits no character.
+-- Diagnostics of a text: faults of lexemes, which are all of the class Lexical (`faults_lexical`), and behind them what the parser found. Each has what its kind says at its span, which lies in the text and splits no character.
 pub record AreOf (goal : Goal) (text : List ℕ) (found : List Diagnostic) : Type 0 where
   pub faults : List Diagnostic
   pub told : List Diagnostic
   pub in_order : found ≡ faults ++ told
   pub faulty : All (IsFault goal text) faults
-  pub lexical : All (λ d. class_of d.kind ≡ Lexical) faults
   pub marked : All (Mark goal text) told
   pub lie : All (λ d. LiesIn d.span text) found

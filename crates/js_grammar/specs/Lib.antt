@@ -30,6 +30,7 @@ pub mod Brackets
 pub mod NodeNames
 pub mod ModuleRecords
 pub mod Modules
+pub mod ExportedNames
 pub mod RecordLines
 pub mod EarlyRules
 pub mod Options
@@ -50,3 +51,8 @@ pub mod CommandLine
 pub mod Output
 pub mod TableLaws
 pub mod CoverInitialisers
+pub mod ReadLexemes
+pub mod TextReadings
+pub mod BuiltTexts
+pub mod Outputs
+pub mod ExportLaws

@@ -8,6 +8,7 @@ use Rattle.js_base.specs.declared.diagnostic.Diagnostic.{Diagnostic}
 use Rattle.js_base.specs.declared.span.Span.{Span}
 use Rattle.js_grammar.specs.BoundNames.{bound_names}
 use Rattle.js_grammar.specs.NodeNames.{name_at, string_by, span_of}
+pub use Rattle.js_grammar.specs.ExportedNames.{behind}
 use Rattle.js_grammar.specs.ModuleRecords.{NameSpan, ImportImportName, imported, namespace_object, imported_default, ImportEntry, taken, all, all_but_default, no_import, exported, exported_default, no_export, ExportLocalName, local, local_default, no_local, ExportEntry, ModuleRecord, Request, Part, nothing, record_of_parts, errors_of_parts, default_places}
 use Rattle.js_grammar.specs.Trees.{NodeKind, import_declaration, import_namespace_specifier, import_default_specifier, export_all_declaration, export_from_declaration, export_named_declaration, export_declaration, export_default_declaration, import_expression, import_meta, identifier_reference, function_declaration, class_declaration, Label, Slots, end, hole, tree, Tree}
 
@@ -15,7 +16,7 @@ use Rattle.js_grammar.specs.Trees.{NodeKind, import_declaration, import_namespac
 abbrev pub named : List ℕ → Label → NameSpan
 named text l = record { name = name_at text l; span = span_of l }
 
--- the name in the first slot, and the slots behind it
+-- the name in the first slot
 abbrev pub no_name : NameSpan
 no_name = record { name = []; span = record { start = 0; end = 0 } }
 
@@ -23,11 +24,6 @@ abbrev pub first_name : List ℕ → Slots → NameSpan
 first_name text end = no_name
 first_name text (hole us) = no_name
 first_name text (tree l cs us) = named text l
-
-abbrev pub behind : Slots → Slots
-behind end = end
-behind (hole us) = us
-behind (tree l cs us) = us
 
 abbrev pub second_name : List ℕ → Slots → NameSpan
 second_name text us = first_name text (behind us)

@@ -9,7 +9,7 @@ use Rattle.js_grammar.specs.CoreTexts.{max_len}
 use Rattle.js_grammar.specs.Settings.{Goal, script, module_goal}
 use Rattle.js_grammar.specs.Options.{Options, program_flags}
 use Rattle.js_grammar.specs.EarlyRules.{EarlyOk}
-use Rattle.js_grammar.specs.Modules.{record_errors}
+use Rattle.js_grammar.specs.ExportedNames.{exports_differ}
 use Rattle.js_grammar.specs.TreeForms.{without_pure, lacks_parens}
 
 -- The symbol derives the tree from the lexemes of the whole text, the end aside.
@@ -25,7 +25,7 @@ pub record IsWhole (n : Name) (text : List ℕ) (goal : Goal) (o : Options) (t :
   pub short : length text ≤ max_len
   pub derived : IsDerived (at n (program_flags goal o)) goal text (without_pure t)
   pub early : EarlyOk text t
-  pub exports : record_errors text t ≡ []
+  pub exports : IsTrue (exports_differ text t)
 
 -- The tree t has been made of such a tree by leaving out the nodes of parentheses.
 pub record IsWholeWithoutParens (n : Name) (text : List ℕ) (goal : Goal) (o : Options) (t : Tree) : Type 0 where

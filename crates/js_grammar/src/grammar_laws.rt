@@ -2,6 +2,7 @@
 
 ghost use Rattle.js_grammar.specs.CoreReadings.{CoreLines, CoreOmission, CoreDerivations, CoreLexemes, CorePieces, CoreReading};
 ghost use Rattle.js_grammar.specs.CoreLaws.{CoreParameters, CoreValidity};
+ghost use Rattle.js_grammar.specs.ExportLaws.{DifferByRecord};
 
 /// Each line of the core grammar is the line of the whole one, cut down to core lexemes.
 pub fn law_of_core_lines()
@@ -41,4 +42,9 @@ pub fn law_of_core_parameters()
 /// For a core text the trees that are valid at a goal are the readings by the core grammar.
 pub fn law_core()
     ensures { CoreValidity }
+{}
+
+/// The exported names of a tree differ exactly where the record of its module has no errors.
+pub fn law_of_exported_names()
+    ensures { DifferByRecord }
 {}

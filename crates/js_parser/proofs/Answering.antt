@@ -5,8 +5,6 @@ use Rattle.std.specs.Prelude.{IsCharBoundary, IsUtf8, Result, Ok, Err, IfOk}
 use Rattle.std.proofs.lemmas.List.Elements.{All-append, All-take, All-weaker, All-nil}
 use Rattle.js_base.specs.declared.diagnostic.Diagnostic.{Diagnostic}
 use Rattle.js_base.specs.declared.diagnostic.DiagnosticKind.TheVariants.{OverlongSource}
-use Rattle.js_base.specs.declared.diagnostic.DiagnosticClass.TheVariants.{Lexical}
-use Rattle.js_base.specs.Diagnostics.{class_of}
 use Rattle.js_base.specs.declared.options.ParseOptions.{ParseOptions}
 use Rattle.js_base.specs.declared.source_type.SourceType.{SourceType}
 use Rattle.js_base.specs.declared.span.Span.{Span}
@@ -47,7 +45,6 @@ use Rattle.js_core.specs.Taken.{IsOf, ReadOrNot, ProgramTaken, ProgramRefused, P
 use Rattle.js_cursor.specs.declared.stop.Stop.{Stop}
 use Rattle.js_cursor.specs.declared.stop.Stop.TheVariants.{Fatal}
 use Rattle.js_core.specs.laws_shared.Classes.{IsEarly}
-use Rattle.js_core.proofs.laws_shared.Classes.{lexical_by}
 use Rattle.js_core.specs.laws_shared.States.{NodesLie}
 use Rattle.js_core.proofs.laws_shared.Kept.{none_of_two}
 
@@ -86,7 +83,6 @@ module _ {text : List ℕ} {s : SourceType} {p : Parser} (t : IsOf text s p) whe
     told = p.errors;
     in_order = e;
     faulty = h;
-    lexical = All-weaker (IsFault (goal_of s) text) (λ d. class_of d.kind ≡ Lexical) (λ d f. lexical_by d.kind f.faulty) kept h;
     marked = marks;
     lie = subst (All (λ d. LiesIn d.span text)) (sym e) (All-append (λ d. LiesIn d.span text) kept p.errors (faults_lie kept h) marks_lie);
   }
@@ -189,7 +185,6 @@ taken_answer {text} {s} {o} {asks} {p} {ids} span nodes out kept early covers a 
             told = leftover early covers;
             in_order = found_is;
             faulty = All-nil (IsFault (goal_of s) text);
-            lexical = All-nil (λ d. class_of d.kind ≡ Lexical);
             marked = left_marked;
             lie = subst (All (λ d. LiesIn d.span text)) (sym found_is) left_lie;
           };

@@ -21,12 +21,13 @@ use Rattle.js_grammar.specs.TableLaws.{begins_unbuilt, BeginNoUnbuilt}
 use Rattle.js_grammar.specs.TreeForms.{without_pure}
 use Rattle.js_grammar.specs.Trivia.{are_trivia}
 use Rattle.js_grammar.proofs.BuiltLines.{in_whole, by_built}
+use Rattle.js_grammar.proofs.ExportedNames.{differ_by_record}
 use Rattle.js_grammar.proofs.NoEnd.{ends_once_by, ends_behind}
 use Rattle.js_cursor.specs.js_lex.Reading.{LexemeBehind}
 use Rattle.js_cursor.proofs.js_lex.TriviaLemmas.{some_width}
 use Rattle.js_core.specs.laws_shared.Lexemes.{Faultless, is_read}
 use Rattle.js_parser.specs.Language.{is_built, AllBuilt, AreBuilt, ReadingsAreValid}
-use Rattle.js_parser.specs.Language as language
+use Rattle.js_grammar.specs.BuiltTexts as built
 use Rattle.js_core.specs.Readings.{parameters, AreRead, Reading, from_text_start, behind_a_hashbang}
 use Rattle.js_parser.proofs.BuiltTrees.{derived_fine, early_fine, record_fine, pure_fine, flags_without, cooked_without}
 use Rattle.js_parser.proofs.CoreTexts.{plainly}
@@ -84,16 +85,16 @@ module _ (text : List ℕ) (goal : Goal) where
   faultless s (next x ls) l c = ((l.0, (and_parts (is_read x) _ c.0).0), faultless x.to ls l.1 c.1)
 
   are_read : (ls : Lexemes) → Lexes (Lex (passing_of goal) text) 0 ls → AreBuilt text ls → AreRead text goal ls
-  are_read ls l (Rattle.js_parser.specs.Language.from_text_start c) = from_text_start (faultless 0 ls l c)
-  are_read ls l (Rattle.js_parser.specs.Language.behind_a_hashbang y ms b e c) = behind_a_hashbang (record { comment = y; stands = b; others = ms; is = e; lexed = faultless y.to ms (subst (λ (v : Lexemes). Lexes (Lex (passing_of goal) text) 0 v) e l).1 c })
+  are_read ls l (Rattle.js_grammar.specs.BuiltTexts.from_text_start c) = from_text_start (faultless 0 ls l c)
+  are_read ls l (Rattle.js_grammar.specs.BuiltTexts.behind_a_hashbang y ms b e c) = behind_a_hashbang (record { comment = y; stands = b; others = ms; is = e; lexed = faultless y.to ms (subst (λ (v : Lexemes). Lexes (Lex (passing_of goal) text) 0 v) e l).1 c })
 
 all_begin_none : (ls : Lexemes) → AllBuilt ls → BeginNoUnbuilt ls
 all_begin_none (last x) c = (and_parts (is_read x) _ c).1
 all_begin_none (next x ls) c = ((and_parts (is_read x) _ c.0).1, all_begin_none ls c.1)
 
 begin_none : {text : List ℕ} (ls : Lexemes) → AreBuilt text ls → BeginNoUnbuilt ls
-begin_none ls (Rattle.js_parser.specs.Language.from_text_start c) = all_begin_none ls c
-begin_none ls (Rattle.js_parser.specs.Language.behind_a_hashbang y ms b e c) =
+begin_none ls (Rattle.js_grammar.specs.BuiltTexts.from_text_start c) = all_begin_none ls c
+begin_none ls (Rattle.js_grammar.specs.BuiltTexts.behind_a_hashbang y ms b e c) =
     subst BeginNoUnbuilt (sym e) (subst (λ (k : Kind). not (begins_unbuilt k) ≡ true) (sym (kind_of_hashbang b)) refl, all_begin_none ms c)
 
 -- ---- trees
@@ -119,7 +120,7 @@ module _ {text : List ℕ} (goal : Goal) (o : Options) where
           derived = subst (λ (v : Tree). Derives whole (at Program (parameters goal o)) v 0 d.lexemes d.place (last d.final)) (sym (pure_fine t h)) (in_whole (at Program (parameters goal o)) t d.derived);
         };
         early = early_fine text t h r.early.not_u_and_v r.early.cooked;
-        exports = record_fine text t h;
+        exports = differ_by_record text t (record_fine text t h);
       }
 
   reading : (t : Tree) (w : IsWhole Program text goal o t) → AreBuilt text w.derived.lexemes → Reading text goal o (without_pure t)

@@ -3,33 +3,16 @@ use Rattle.std.proofs.Common.{ℕ, ◌≡◌, true, List, [], ◌∷◌, ◌++�
 use Rattle.std.specs.List.{All}
 use Rattle.std.proofs.lemmas.List.Elements.{All-pop, All-push, All-same}
 use Rattle.js_base.specs.declared.diagnostic.Diagnostic.{Diagnostic}
-use Rattle.js_base.specs.declared.diagnostic.DiagnosticClass.TheVariants.{Lexical}
 use Rattle.js_base.specs.declared.diagnostic.DiagnosticKind.{DiagnosticKind}
-use Rattle.js_base.specs.declared.diagnostic.DiagnosticKind.TheVariants as fault
 use Rattle.js_base.specs.declared.span.Span.{Span}
 use Rattle.js_base.specs.Diagnostics.{class_of}
-use Rattle.js_grammar.specs.LexicalFaults.{FaultyBehind}
-use Rattle.js_grammar.specs.Settings.{Goal}
+pub use Rattle.js_grammar.proofs.FaultClasses.{lexical_by}
 use Rattle.js_cursor.specs.Moves.{GivesUp, IsHere, IsUnexpected, Keeps, a_fault, a_marker, a_lexeme}
 use Rattle.js_cursor.specs.Parsers.{Parser}
 use Rattle.js_cursor.specs.Places.{IsAt, IsFault, goal}
 use Rattle.js_cursor.specs.declared.stop.Stop.{Stop}
 use Rattle.js_cursor.specs.declared.stop.Stop.TheVariants.{Fatal, NoMemory}
 use Rattle.laws_shared.specs.Classes.{IsEarly, EndsParse, ends_parse}
-
--- what may be wrong with a lexeme is of the lexical class
-pub lexical_by : {source : Goal} {text : List ℕ} {s from to : ℕ} (k : DiagnosticKind) → FaultyBehind k source text s from to → class_of k ≡ Lexical
-lexical_by fault.InvalidCharacter f = refl
-lexical_by fault.BinaryFile f = refl
-lexical_by fault.UnterminatedString f = refl
-lexical_by fault.UnterminatedTemplate f = refl
-lexical_by fault.UnterminatedRegexp f = refl
-lexical_by fault.UnterminatedComment f = refl
-lexical_by fault.InvalidEscape f = refl
-lexical_by fault.InvalidNumber f = refl
-lexical_by fault.RegExpFlag f = refl
-lexical_by fault.HtmlCommentInModule f = refl
-lexical_by _ f = absurd f.condition.2
 
 -- what is told of what can't stand at a place ends a parse
 pub unexpected_ends : {p : Parser} → IsAt p → (d : Diagnostic) → IsUnexpected p d → EndsParse d

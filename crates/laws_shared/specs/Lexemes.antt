@@ -2,12 +2,13 @@
 use Rattle.std.specs.Prelude.{ℕ, ◌-◌, ◌≡◌, Bool, true, false, not, cond, ◌&&◌, List, [], ◌∷◌, ◌++◌, length, take, IsTrue}
 use Rattle.js_base.specs.declared.diagnostic.Diagnostic.{Diagnostic}
 use Rattle.js_base.specs.declared.kind.Kind.{Kind}
-use Rattle.js_base.specs.declared.kind.Kind.TheVariants.{Ident, Yield, Await, At, PrivateIdentifier, HashbangComment, Undetermined, RegExp, TemplateMiddle, TemplateTail, Slash, SlashEq, RCurly}
+use Rattle.js_base.specs.declared.kind.Kind.TheVariants.{Ident, Yield, Await, RegExp, TemplateMiddle, TemplateTail, Slash, SlashEq, RCurly}
 use Rattle.js_base.specs.Kinds.{same_kind, one_of_kinds}
 use Rattle.js_base.specs.KindSets.{binding_identifier_kinds}
 use Rattle.js_grammar.specs.Grammar.{Lexeme, Lexemes, next}
-use Rattle.js_grammar.specs.Lexed.{Lex as StandsBehind, Lexes, all_faults, passing_of}
+use Rattle.js_grammar.specs.Lexed.{Lex as StandsBehind, Lexes, all_faults}
 use Rattle.js_grammar.specs.Lexemes.{LexicalGoal, division, regular_expression, template_tail}
+pub use Rattle.js_grammar.specs.ReadLexemes.{unread_kinds, is_read_kind, is_read, Faultless}
 use Rattle.js_grammar.specs.Settings.{Goal}
 use Rattle.js_base.specs.declared.span.Span.{Span}
 use Rattle.js_base.specs.declared.token.Token.{Token}
@@ -24,13 +25,6 @@ abbrev pub may_name : Bool → Bool → Kind → Bool
 may_name yields awaits Yield = not yields
 may_name yields awaits Await = not awaits
 may_name yields awaits k = one_of_kinds binding_identifier_kinds k
-
--- The kinds that aren't read, and that of a token where no lexeme stands.
-abbrev pub unread_kinds : List Kind
-unread_kinds = At ∷ PrivateIdentifier ∷ HashbangComment ∷ Undetermined ∷ []
-
-abbrev pub is_read_kind : Kind → Bool
-is_read_kind k = not (one_of_kinds unread_kinds k)
 
 -- The signs that may stand where a regular expression begins: which of them it is depends on the lexical goal (ECMA-262, 12).
 abbrev pub slashes : List Kind
@@ -64,10 +58,6 @@ escaped_word k e = e && not (same_kind Ident k)
 abbrev pub keyword_kind : Token → Kind
 keyword_kind t = cond t.escaped Ident t.kind
 
--- a lexeme of these kinds
-abbrev pub is_read : Lexeme → Bool
-is_read y = is_read_kind y.kind
-
 -- y may be the next lexeme behind the place s, and is one of those
 abbrev pub Lex : List ℕ → ℕ → Lexeme → Type 0
 Lex text s y = StandsBehind all_faults text s y × IsTrue (is_read y)
@@ -78,10 +68,6 @@ is_plain y = is_read y && not (one_of_kinds other_goals y.kind)
 
 abbrev pub Plain : List ℕ → ℕ → Lexeme → Type 0
 Plain text s y = StandsBehind all_faults text s y × IsTrue (is_plain y)
-
--- A lexeme that is read may stand there with no fault: in a module no HTML-like comment stands before it (ECMA-262, B.1.1)
-abbrev pub Faultless : Goal → List ℕ → ℕ → Lexeme → Type 0
-Faultless source text s y = StandsBehind (passing_of source) text s y × IsTrue (is_read y)
 
 -- the lexeme of the plain lexical goal that stands there has no fault
 abbrev pub IsRight : Goal → List ℕ → ℕ → Type 0

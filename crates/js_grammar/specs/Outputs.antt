@@ -1,0 +1,39 @@
+-- What is put out for a text: the lines of its only reading, or of diagnostics, where it has none.
+use Rattle.std.specs.Prelude.{ℕ, ◌≡◌, Bool, true, false, List, []}
+use Rattle.js_base.specs.declared.diagnostic.Diagnostic.{Diagnostic}
+use Rattle.js_grammar.specs.Trees.{Tree}
+use Rattle.js_grammar.specs.BuiltTexts.{AreBuilt}
+use Rattle.js_grammar.specs.Found.{AreOf}
+use Rattle.js_grammar.specs.Lines.{tree_text, diagnostic_text}
+use Rattle.js_grammar.specs.Options.{options_of, read_at}
+use Rattle.js_grammar.specs.Productions.{Program}
+use Rattle.js_grammar.specs.Readings.{IsWhole}
+use Rattle.js_grammar.specs.Settings.{Settings}
+use Rattle.js_grammar.specs.TextReadings.{HasNoReading, IsOnlyReading}
+use Rattle.js_grammar.specs.TreeForms.{without_pure}
+
+-- The tree is valid for the text by all productions and all early rules of the language, as `IsValid` says where parentheses are kept.
+abbrev pub Valid : Settings → List ℕ → Tree → Type 0
+Valid s text t = IsWhole Program text (read_at s.goal) (options_of s) t
+
+-- The output is the lines of the text's only reading. It is valid, and where the lexemes of the text are read and begin no production that isn't built, no other tree is, but for the mark `pure`.
+pub record Accepts (s : Settings) (text out : List ℕ) : Type 0 where
+  pub tree : Tree
+  pub only : IsOnlyReading text (read_at s.goal) (options_of s) tree
+  pub lines : out ≡ tree_text tree
+  pub valid : Valid s text tree
+  pub only_valid : (t : Tree) (v : Valid s text t) → AreBuilt text v.derived.lexemes → without_pure t ≡ tree
+
+-- The text has no reading, and no valid tree over lexemes that are read and begin no production that isn't built; the output is the lines of diagnostics, one at least. Each has its mark, and a span in the text.
+pub record Refuses (s : Settings) (text out : List ℕ) : Type 0 where
+  pub found : List Diagnostic
+  pub some : found ≡ [] → ⊥
+  pub told : AreOf (read_at s.goal) text found
+  pub lines : out ≡ diagnostic_text found
+  pub none : HasNoReading text (read_at s.goal) (options_of s)
+  pub none_valid : (t : Tree) (v : Valid s text t) → AreBuilt text v.derived.lexemes → ⊥
+
+-- true, where the text is refused
+abbrev pub Gives : Settings → List ℕ → Bool → List ℕ → Type 0
+Gives s text false out = Accepts s text out
+Gives s text true out = Refuses s text out
