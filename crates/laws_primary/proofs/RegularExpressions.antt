@@ -77,6 +77,7 @@ use Rattle.laws_primary.proofs.Operands.{behind_primary, by_path}
 
 -- ---- kinds
 
+-- which of the two signs it is that is read again
 pub which_sign : (k : Kind) → one_of_kinds slashes k ≡ true → (k ≡ Slash) ⊎ (k ≡ SlashEq)
 which_sign k h = go (same_kind Slash k) refl h
   where
