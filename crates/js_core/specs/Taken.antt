@@ -8,6 +8,7 @@ use Rattle.parse_shared.specs.js_tree.declared.id.NodeId.{NodeId}
 use Rattle.parse_shared.specs.js_tree.Holding.{HoldsAll, program_tree}
 use Rattle.parse_shared.specs.js_cursor.Parsers.{Parser}
 use Rattle.parse_shared.specs.js_cursor.Places.{IsAt}
+use Rattle.parse_shared.specs.js_cursor.Ways.{CameTo, stage}
 use Rattle.parse_shared.specs.js_cursor.declared.stop.Stop.{Stop}
 use Rattle.parse_shared.specs.js_cursor.declared.stop.Stop.TheVariants.{Fatal, NoMemory}
 use Rattle.js_core.specs.Kept.{IsKeptOf}
@@ -45,9 +46,10 @@ pub record ProgramTaken (text : List ℕ) (s : SourceType) (o : ParseOptions) (a
   pub early : All IsEarly p.errors
   pub lies : NodesLie text p.nodes
 
--- A fatal diagnostic ended the parse, the last one. The program has no reading, not even in the widest form.
+-- A fatal diagnostic ended the parse, the last one, at a place to which lexemes lead; what the lexer kept was found on the way there. The program has no reading, not even in the widest form.
 pub record ProgramRefused (text : List ℕ) (s : SourceType) (o : ParseOptions) (p : Parser) : Type 0 where
   pub is_of : IsOf text s p
+  pub came : CameTo (goal_of s) text (stage p)
   pub stopped : EndedByLast p.errors
   pub lies : NodesLie text p.nodes
   pub some : p.errors ≡ [] → ⊥

@@ -30,7 +30,8 @@ use Rattle.js_core.proofs.Lists.{first_empty, second_empty}
 use Rattle.js_core.specs.Readings.{HasNoReading, HasNoReadingBy, IsOnlyReadingBy, AreOf}
 use Rattle.js_parser.specs.Broken.{told_in}
 use Rattle.js_parser.specs.declared.early.Position.TheVariants.{Anywhere}
-use Rattle.js_parser.specs.FaultsTold.{without_last}
+use Rattle.js_parser.specs.FaultsTold.{is_stopped_by_fault, without_last}
+use Rattle.js_cursor.specs.Ways.{stage}
 use Rattle.js_parser.specs.Leftover.{leftover, with_leftover}
 use Rattle.js_parser.specs.NodeSpans.{SlotsLie}
 use Rattle.js_parser.proofs.Leftovers.{all_early, covered, early_marked, in_program, told_in_program, leftover_early, leftover_marked, leftover_none, none_before, none_leftover, none_read, only_read, spans_lie, spans_marked}
@@ -173,6 +174,7 @@ taken_answer {text} {s} {o} {asks} {p} {ids} span nodes out kept early covers a 
           childless = λ z. absurd (false≢true z);
           no_tokens = λ z. absurd (false≢true z);
           stopped_only = λ z. absurd (false≢true z);
+          ends_at = λ z. absurd (false≢true z);
           left = λ t r. absurd (by_cover.1 some t r);
         }
     go [] q =
@@ -207,6 +209,7 @@ taken_answer {text} {s} {o} {asks} {p} {ids} span nodes out kept early covers a 
           childless = λ z. absurd (false≢true z);
           no_tokens = λ z. absurd (false≢true z);
           stopped_only = λ z. absurd (false≢true z);
+          ends_at = λ z. absurd (false≢true z);
           left = λ t r.
               let same : t ≡ program = (read.only t r).0 in
               (sym same, refl, found_is ∙ (left_is ∙ ap (λ (v : Tree). leftover (told_in text Anywhere v.slots) (map placed (initialised_in v.slots))) (sym same)));
@@ -248,8 +251,8 @@ all_without_last : (P : Diagnostic → Type 0) (b : Bool) (ds : List Diagnostic)
 all_without_last P true ds h = All-take P (length ds - 1) ds h
 all_without_last P false ds h = h
 
-pub refused_answer : {text : List ℕ} {s : SourceType} {o : ParseOptions} {p : Parser} {ids : List (Option NodeId)} (ns : List Node) (span : Span) (nodes : List Node) (faults_told : List Diagnostic) (out kept : LexerOutput) (b : Bool) → span.start ≡ 0 → span.end ≡ length p.text → faults_told ≡ without_last b p.lexer.kept.errors → ids ≡ [] → nodes ≡ with_program (program_node span ids) ns → ns ≡ p.nodes → out ≡ record kept { tokens = []; errors = faults_told ++ p.errors } → LieIn p.lexer.text kept → ProgramRefused text s o p → IsAnswer text (goal_of s) (options_of o) nodes out true
-refused_answer {text} {s} {o} {p} {ids} ns span nodes told out kept f a b k z t same e l h = record {
+pub refused_answer : {text : List ℕ} {s : SourceType} {o : ParseOptions} {p : Parser} {ids : List (Option NodeId)} (ns : List Node) (span : Span) (nodes : List Node) (faults_told : List Diagnostic) (out kept : LexerOutput) (b : Bool) → b ≡ is_stopped_by_fault (stage p) p.errors → kept ≡ p.lexer.kept → span.start ≡ 0 → span.end ≡ length p.text → faults_told ≡ without_last b p.lexer.kept.errors → ids ≡ [] → nodes ≡ with_program (program_node span ids) ns → ns ≡ p.nodes → out ≡ record kept { tokens = []; errors = faults_told ++ p.errors } → LieIn p.lexer.text kept → ProgramRefused text s o p → IsAnswer text (goal_of s) (options_of o) nodes out true
+refused_answer {text} {s} {o} {p} {ids} ns span nodes told out kept f g w a b k z t same e l h = record {
   told = told_all h.is_of told out.errors (ap (λ (x : LexerOutput). x.errors) e) are_faults;
   lie = lies h.is_of (record kept { tokens = [] }) out told e (record { comments = l.comments; irregular_whitespaces = l.irregular_whitespaces; tokens = All-nil (λ (d : Token). LiesIn d.span p.lexer.text); errors = l.errors }) are_faults;
   tree = program_tree (record { start = 0; end = length text }) end;
@@ -265,6 +268,13 @@ refused_answer {text} {s} {o} {p} {ids} ns span nodes told out kept f a b k z t 
   childless = λ q. refl;
   no_tokens = λ q. ap (λ (x : LexerOutput). x.tokens) e;
   stopped_only = λ q. h.none_loosely;
+  ends_at = λ q. record {
+    stop = stage p;
+    came = h.came;
+    errors = ap (λ (x : LexerOutput). x.errors) e ∙ ap (λ (v : List Diagnostic). v ++ p.errors) (k ∙ ap (λ (c : Bool). without_last c p.lexer.kept.errors) g);
+    comments = ap (λ (x : LexerOutput). x.comments) e ∙ ap (λ (x : LexerOutput). x.comments) w;
+    blanks = ap (λ (x : LexerOutput). x.irregular_whitespaces) e ∙ ap (λ (x : LexerOutput). x.irregular_whitespaces) w;
+  };
   left = λ u r. absurd (h.none u r);
 }
   where

@@ -1,0 +1,51 @@
+-- How moves lead from one stage of a text to another.
+use Rattle.std.proofs.Common.{ℕ, ◌≡◌, List, ◌++◌, ap, refl, subst, sym, ◌∙◌}
+use Rattle.js_base.specs.declared.diagnostic.Diagnostic.{Diagnostic}
+use Rattle.js_base.specs.declared.span.Span.{Span}
+use Rattle.js_base.specs.declared.token.Token.{Token}
+use Rattle.js_tree.specs.js_grammar.Lexemes.{LexicalGoal, division}
+use Rattle.js_tree.specs.js_grammar.Settings.{Goal}
+use Rattle.js_lex.specs.Comments.{each_at, comment_at, irregular_at, html_fault_at}
+use Rattle.js_lex.specs.Reading.{in_a_module, GivesNext}
+use Rattle.js_lex.specs.States.{State, goal_of}
+use Rattle.js_lex.specs.declared.comment.Comment.{Comment}
+use Rattle.js_cursor.specs.Moves.{Passed, ReadAgain}
+use Rattle.js_cursor.specs.Parsers.{Parser}
+use Rattle.js_cursor.specs.Places.{goal}
+use Rattle.js_cursor.specs.Ways.{Stage, stage, ComesWith, Way, stays, passes, reads_again, further}
+
+pub comes_with : {a b : State} {t : Token} (n : GivesNext division a b t) → ComesWith a.goal a.text a.place t (each_at (comment_at t.span.start) a.place n.pieces) (each_at irregular_at a.place n.pieces) (each_at (html_fault_at (in_a_module a.goal)) a.place n.pieces ++ n.faults)
+comes_with n = record { trivia = n.pieces; stands = n.stands; start = n.start; stopping = n.faults; outcome = n.outcome; comments_are = refl; blanks_are = refl; faults_are = refl }
+
+-- the same, whatever text, goal and place are called
+pub comes_there : {source goal : Goal} {text other : List ℕ} {i j : ℕ} {t : Token} {comments : List Comment} {blanks : List Span} {faults : List Diagnostic} → source ≡ goal → text ≡ other → i ≡ j → ComesWith source text i t comments blanks faults → ComesWith goal other j t comments blanks faults
+comes_there {source} {goal} {text} {other} {i} {j} {t} {comments} {blanks} {faults} g e p c = subst (λ v. ComesWith v other j t comments blanks faults) g (subst (λ v. ComesWith source v j t comments blanks faults) e (subst (λ v. ComesWith source text v t comments blanks faults) p c))
+
+pub way_on : {source : Goal} {text : List ℕ} {a b c : Stage} → Way source text a b → Way source text b c → Way source text a c
+way_on f stays = f
+way_on f (passes w l t k) = passes (way_on f w) l t k
+way_on f (reads_again g w r) = reads_again g (way_on f w) r
+
+pub way_in : {source goal : Goal} {text other : List ℕ} {a b : Stage} → source ≡ goal → text ≡ other → Way source text a b → Way goal other a b
+way_in {source} {goal} {text} {other} {a} {b} g e w = subst (λ v. Way v other a b) g (subst (λ v. Way source v a b) e w)
+
+pub way_to : {source : Goal} {text : List ℕ} {a b c : Stage} → b ≡ c → Way source text a b → Way source text a c
+way_to {source} {text} {a} e w = subst (λ s. Way source text a s) e w
+
+pub way_passed : {p q : Parser} → Passed p q → Way (goal p) p.text (stage p) (stage q)
+way_passed {p} {q} h = way_to there (passes stays h.stood h.tells (comes_there reads_for reads h.last (comes_with h.next)))
+  where
+    reads : p.lexer.text ≡ p.text
+    reads = sym h.next.same.text ∙ (h.at.reads ∙ h.stays.text)
+
+    reads_for : p.lexer.goal ≡ goal p
+    reads_for = sym h.next.same.goal ∙ (h.at.reads_for ∙ ap goal_of h.stays.source_type)
+
+    there : further (stage p) h.lexeme q.token (each_at (comment_at q.token.span.start) p.lexer.place h.next.pieces) (each_at irregular_at p.lexer.place h.next.pieces) (each_at (html_fault_at (in_a_module p.lexer.goal)) p.lexer.place h.next.pieces ++ h.next.faults) ≡ stage q
+    there = λ i. record { place = sym h.moved i; token = q.token; comments = sym h.next.grows.comments_grow i; blanks = sym h.next.grows.blanks_grow i; faults = sym h.next.grows.faults_grow i }
+
+pub way_again : {g : LexicalGoal} {p q : Parser} → ReadAgain g p q → Way (goal p) p.text (stage p) (stage q)
+way_again {g} {p} {q} h = way_to there (reads_again g stays h.reads_as)
+  where
+    there : record (stage p) { token = q.token; faults = p.lexer.kept.errors ++ h.faults } ≡ stage q
+    there = λ i. record { place = sym h.place i; token = q.token; comments = sym h.again.comments i; blanks = sym h.again.blanks i; faults = sym h.again.errors i }
