@@ -25,9 +25,8 @@ use Rattle.parse_shared.specs.js_tree.declared.id.NodeId.{NodeId}
 use Rattle.parse_shared.specs.js_tree.Holding.{HoldsAll, program_tree}
 use Rattle.parse_shared.specs.js_cursor.Parsers.{Parser}
 use Rattle.parse_shared.specs.js_cursor.Places.{goal}
-use Rattle.parse_shared.specs.js_cursor.Ways.{Begins, at_start as from_start, behind_hashbang, ComesWith, Stage, stage}
-use Rattle.parse_shared.proofs.js_cursor.Ways.{comes_with, comes_there, way_in}
-use Rattle.parse_shared.specs.js_lex.declared.comment.Comment.{Comment}
+use Rattle.parse_shared.specs.js_cursor.Ways.{Begins, stage}
+use Rattle.parse_shared.proofs.js_cursor.Ways.{begins_behind, begins_first, way_in}
 use Rattle.parse_shared.specs.js_cursor.Moves.{is_last}
 use Rattle.parse_shared.specs.js_cursor.Starts.{Starts}
 use Rattle.parse_shared.specs.js_cursor.Tokens.{IsToken, whole as whole_token, sign as sign_token, nothing as no_token}
@@ -399,20 +398,6 @@ module _ {old new : State} {t : Token} (g : GivesNext division old new t) (z : I
       (subst (λ (n : ℕ). TriviaKept text n comments blanks) place
       (subst (λ (v : List ℕ). TriviaKept v old.place comments blanks) reads (trivia_kept g))))
 
-  -- all that is kept comes with the token
-  starts_with : (P : Stage → Type 0) (j : ℕ) → ((u : Token) (comments : List Comment) (blanks : List Span) (faults : List Diagnostic) → ComesWith source text i u comments blanks faults → P (record { place = j; token = u; comments = comments; blanks = blanks; faults = faults })) → P (record { place = j; token = t; comments = new.kept.comments; blanks = new.kept.irregular_whitespaces; faults = new.kept.errors })
-  starts_with P j f =
-      let comments = each_at (comment_at t.span.start) old.place g.pieces in
-      let blanks = each_at irregular_at old.place g.pieces in
-      let faults = each_at (html_fault_at (in_a_module old.goal)) old.place g.pieces ++ g.faults in
-      subst P (λ k. record {
-        place = j;
-        token = t;
-        comments = sym (g.grows.comments_grow ∙ ap (λ (v : List Comment). v ++ comments) z.comments) k;
-        blanks = sym (g.grows.blanks_grow ∙ ap (λ (v : List Span). v ++ blanks) z.irregular_whitespaces) k;
-        faults = sym (g.grows.faults_grow ∙ ap (λ (v : List Diagnostic). v ++ faults) z.errors) k;
-      }) (f t comments blanks faults (comes_there reads_for reads place (comes_with g)))
-
 -- where a production may be read, it may be read in wider forms
 in_wider_forms : {text : List ℕ} {f : Flags} {p : Parser} → At text f p → At text (widened true f) p
 in_wider_forms a = record { text_is = a.text_is; flags_are = ap (widened true) a.flags_are; at = a.at; plain = a.plain; behind = a.behind; heads = a.heads; kept_last = a.kept_last }
@@ -528,7 +513,7 @@ module _ {b : Bool} {p : Parser} (s : Starts p.text p.source_type p.options b p)
       parameters_are = at_start s;
       opens = at_the_start (none_begins first_next.0);
       loosely = loosely_at_start (none_begins first_next.0);
-      starts = starts_with g s.kept_none s.reads s.reads_for s.at_start (Begins (goal p) p.text) p.prev_token_end (λ t c b d k. subst (λ (z : Stage). Begins (goal p) p.text z) (λ i. record { place = sym s.prev_token_end i; token = t; comments = c; blanks = b; faults = d }) (from_start (λ x y. none_begins first_next.0 (x, y)) k));
+      starts = begins_first p g s.kept_none s.reads s.reads_for s.at_start s.prev_token_end (λ x y. none_begins first_next.0 (x, y));
       read_as = refl;
       place = s.prev_token_end;
       faults = faults_first g s.kept_none s.reads s.reads_for s.at_start;
@@ -586,7 +571,7 @@ module _ {b : Bool} {p : Parser} (s : Starts p.text p.source_type p.options b p)
       parameters_are = at_start s;
       opens = behind_a_comment comment_stands;
       loosely = loosely_behind comment_stands;
-      starts = subst (λ (r : Parser). Begins (goal p) p.text (stage r)) (sym n.stays) (starts_with d.next kept_nothing s.at.reads s.at.reads_for ends_there (Begins (goal p) p.text) m.prev_token_end (λ t c b e k. subst (λ (z : Stage). Begins (goal p) p.text z) (λ i. record { place = sym d.moved i; token = t; comments = c; blanks = b; faults = e }) (behind_hashbang comment_stands k)));
+      starts = subst (λ (r : Parser). Begins (goal p) p.text (stage r)) (sym n.stays) (begins_behind m d.next kept_nothing s.at.reads s.at.reads_for ends_there d.moved comment_stands);
       read_as = ap (λ (r : Parser). r.source_type) n.stays ∙ d.stays.source_type;
       place = ap (λ (r : Parser). r.prev_token_end) n.stays ∙ d.moved;
       faults = subst (λ (r : Parser). KeptFor (goal p) p.text d.lexeme.to r.lexer.kept.errors) (sym n.stays) (faults_first d.next kept_nothing s.at.reads s.at.reads_for ends_there);

@@ -3,16 +3,18 @@ use Rattle.std.proofs.Common.{ℕ, ◌≡◌, List, ◌++◌, ap, refl, subst, s
 use Rattle.js_base.specs.declared.diagnostic.Diagnostic.{Diagnostic}
 use Rattle.js_base.specs.declared.span.Span.{Span}
 use Rattle.js_base.specs.declared.token.Token.{Token}
-use Rattle.js_tree.specs.js_grammar.Lexemes.{LexicalGoal, division}
+use Rattle.js_tree.specs.js_grammar.Grammar.{Lexeme}
+use Rattle.js_tree.specs.js_grammar.Lexemes.{LexicalGoal, division, hashbang}
 use Rattle.js_tree.specs.js_grammar.Settings.{Goal}
 use Rattle.js_lex.specs.Comments.{each_at, comment_at, irregular_at, html_fault_at}
-use Rattle.js_lex.specs.Reading.{in_a_module, GivesNext}
+use Rattle.js_lex.specs.Kept.{IsEmpty}
+use Rattle.js_lex.specs.Reading.{in_a_module, GivesNext, LexemeBehind}
 use Rattle.js_lex.specs.States.{State, goal_of}
 use Rattle.js_lex.specs.declared.comment.Comment.{Comment}
 use Rattle.js_cursor.specs.Moves.{Passed, ReadAgain}
 use Rattle.js_cursor.specs.Parsers.{Parser}
 use Rattle.js_cursor.specs.Places.{goal}
-use Rattle.js_cursor.specs.Ways.{Stage, stage, ComesWith, Way, stays, passes, reads_again, further}
+use Rattle.js_cursor.specs.Ways.{Stage, stage, Begins, at_start, behind_hashbang, ComesWith, Way, stays, passes, reads_again, further}
 
 pub comes_with : {a b : State} {t : Token} (n : GivesNext division a b t) → ComesWith a.goal a.text a.place t (each_at (comment_at t.span.start) a.place n.pieces) (each_at irregular_at a.place n.pieces) (each_at (html_fault_at (in_a_module a.goal)) a.place n.pieces ++ n.faults)
 comes_with n = record { trivia = n.pieces; stands = n.stands; start = n.start; stopping = n.faults; outcome = n.outcome; comments_are = refl; blanks_are = refl; faults_are = refl }
@@ -49,3 +51,28 @@ way_again {g} {p} {q} h = way_to there (reads_again g stays h.reads_as)
   where
     there : record (stage p) { token = q.token; faults = p.lexer.kept.errors ++ h.faults } ≡ stage q
     there = λ i. record { place = sym h.place i; token = q.token; comments = sym h.again.comments i; blanks = sym h.again.blanks i; faults = sym h.again.errors i }
+
+-- what a lexer that has kept nothing keeps with a token
+module _ (p : Parser) {old : State} (g : GivesNext division old p.lexer p.token) (z : IsEmpty old.kept) {source : Goal} {text : List ℕ} {i : ℕ} (reads : old.text ≡ text) (reads_for : old.goal ≡ source) (place : old.place ≡ i) where
+  all_comes : ComesWith source text i p.token p.lexer.kept.comments p.lexer.kept.irregular_whitespaces p.lexer.kept.errors
+  all_comes = comes_there reads_for reads place (record {
+    trivia = g.pieces;
+    stands = g.stands;
+    start = g.start;
+    stopping = g.faults;
+    outcome = g.outcome;
+    comments_are = g.grows.comments_grow ∙ ap (λ (v : List Comment). v ++ each_at (comment_at p.token.span.start) old.place g.pieces) z.comments;
+    blanks_are = g.grows.blanks_grow ∙ ap (λ (v : List Span). v ++ each_at irregular_at old.place g.pieces) z.irregular_whitespaces;
+    faults_are = g.grows.faults_grow ∙ ap (λ (v : List Diagnostic). v ++ (each_at (html_fault_at (in_a_module old.goal)) old.place g.pieces ++ g.faults)) z.errors;
+  })
+
+  placed : {j : ℕ} → j ≡ i → Begins source text (record { place = i; token = p.token; comments = p.lexer.kept.comments; blanks = p.lexer.kept.irregular_whitespaces; faults = p.lexer.kept.errors }) → Begins source text (record { place = j; token = p.token; comments = p.lexer.kept.comments; blanks = p.lexer.kept.irregular_whitespaces; faults = p.lexer.kept.errors })
+  placed e b = subst (λ (k : ℕ). Begins source text (record { place = k; token = p.token; comments = p.lexer.kept.comments; blanks = p.lexer.kept.irregular_whitespaces; faults = p.lexer.kept.errors })) (sym e) b
+
+-- of the first token
+pub begins_first : (p : Parser) {old : State} → GivesNext division old p.lexer p.token → IsEmpty old.kept → {source : Goal} {text : List ℕ} → old.text ≡ text → old.goal ≡ source → old.place ≡ 0 → p.prev_token_end ≡ 0 → ((x : Lexeme) → LexemeBehind hashbang text 0 x → ⊥) → Begins source text (stage p)
+begins_first p g z r f i e n = placed p g z r f i e (at_start n (all_comes p g z r f i))
+
+-- of the one behind a hashbang comment
+pub begins_behind : (p : Parser) {old : State} → GivesNext division old p.lexer p.token → IsEmpty old.kept → {source : Goal} {text : List ℕ} {x : Lexeme} → old.text ≡ text → old.goal ≡ source → old.place ≡ x.to → p.prev_token_end ≡ x.to → LexemeBehind hashbang text 0 x → Begins source text (stage p)
+begins_behind p g z r f i e l = placed p g z r f i e (behind_hashbang l (all_comes p g z r f i))
