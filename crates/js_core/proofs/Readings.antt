@@ -25,7 +25,8 @@ use Rattle.parse_shared.specs.js_tree.declared.id.NodeId.{NodeId}
 use Rattle.parse_shared.specs.js_tree.Holding.{HoldsAll, program_tree}
 use Rattle.parse_shared.specs.js_cursor.Parsers.{Parser}
 use Rattle.parse_shared.specs.js_cursor.Places.{goal}
-use Rattle.parse_shared.specs.js_cursor.Ways.{Begins, stage}
+use Rattle.parse_shared.specs.js_cursor.Checkpoints.{Follows}
+use Rattle.parse_shared.specs.js_cursor.Ways.{Begins, CameTo, stage}
 use Rattle.parse_shared.proofs.js_cursor.Ways.{begins_behind, begins_first, way_in}
 use Rattle.parse_shared.specs.js_cursor.Moves.{is_last}
 use Rattle.parse_shared.specs.js_cursor.Starts.{Starts}
@@ -433,6 +434,10 @@ module _ {text : List ℕ} {f : Flags} {source : SourceType} {o : ParseOptions} 
   narrow : f.wide ≡ true → ⊥
   narrow w = false≢true (sym (ap (λ (g : Flags). g.wide) b.parameters_are) ∙ w)
 
+  -- where lexemes lead from there
+  came : {q : Parser} → Follows v q → CameTo (goal_of source) text (stage q)
+  came g = record { first = stage v; begins = b.starts; way = way_in (ap goal_of b.read_as) b.stands.text_is g.way }
+
   module _ {q : Parser} {ids : List (Option NodeId)} (t : Taken text f Text (with_directives Text f) (statements Text f) v q ids) where
     walk : Walked text (record { source = goal_of source; keeps_tokens = v.lexer.keeps_tokens; place = s; kept = record v.lexer.kept { tokens = kept_before v.lexer v.token } }) (spot q) t.pass
     walk = walked_from (λ i. record { source = goal_of (b.read_as i); keeps_tokens = v.lexer.keeps_tokens; place = b.place i; kept = record v.lexer.kept { tokens = kept_before v.lexer v.token } }) t.walked
@@ -466,6 +471,8 @@ module _ {text : List ℕ} {f : Flags} {source : SourceType} {o : ParseOptions} 
     all_taken : {keeps : Bool} {js : List (Option NodeId)} → is_last q.token.kind ≡ true → v.lexer.keeps_tokens ≡ keeps → HoldsAll q.nodes 1 (length q.nodes) js (front (t.slots end)) → ProgramTaken text source o keeps q js
     all_taken k same h = record {
       is_of = record { at = t.at.at; text_is = t.at.text_is; source_type = t.same.follows.source_type ∙ b.read_as };
+      came = came t.same.follows;
+      last = k;
       slots = front (t.slots end);
       holds = h;
       outcome = by_kind (last_kind q.token.kind k);
@@ -479,7 +486,7 @@ module _ {text : List ℕ} {f : Flags} {source : SourceType} {o : ParseOptions} 
   stops_so : (q : Parser) (e : Stop) → AllRefused Text v q e → ProgramStops text source o q e
   stops_so q Fatal h = let r = h text f b.stands in record {
     is_of = record { at = r.at; text_is = r.follows.text ∙ b.stands.text_is; source_type = r.follows.source_type ∙ b.read_as };
-    came = record { first = stage v; begins = b.starts; way = way_in (ap goal_of b.read_as) b.stands.text_is r.follows.way };
+    came = came r.follows;
     stopped = r.stopped (All-same IsEarly v.errors [] b.errors (All-nil IsEarly));
     lies = subst (λ (w : List ℕ). NodesLie w q.nodes) (r.follows.text ∙ b.stands.text_is) (r.lies b.lies);
     some = grown_some r.grown;

@@ -7,6 +7,7 @@ use Rattle.parse_shared.specs.js_lex.States.{goal_of}
 use Rattle.parse_shared.specs.js_tree.declared.id.NodeId.{NodeId}
 use Rattle.parse_shared.specs.js_tree.Holding.{HoldsAll, program_tree}
 use Rattle.parse_shared.specs.js_cursor.Parsers.{Parser}
+use Rattle.parse_shared.specs.js_cursor.Moves.{is_last}
 use Rattle.parse_shared.specs.js_cursor.Places.{IsAt}
 use Rattle.parse_shared.specs.js_cursor.Ways.{CameTo, stage}
 use Rattle.parse_shared.specs.js_cursor.declared.stop.Stop.{Stop}
@@ -32,9 +33,11 @@ pub record FoundNothing (p : Parser) : Type 0 where
 abbrev pub ReadOrNot : List ℕ → SourceType → ParseOptions → Parser → Slots → Type 0
 ReadOrNot text s o p cs = (FoundNothing p × IsOnlyReadingBy true text (goal_of s) (options_of o) (program_tree (record { start = 0; end = p.token.span.end }) cs)) ⊎ ((FoundNothing p → ⊥) × HasNoReadingBy true text (goal_of s) (options_of o))
 
--- These are the children of the program.
+-- These are the children of the program, which ends where the text does, or where no lexeme stands; lexemes lead there, and what the lexer kept was found on the way.
 pub record ProgramTaken (text : List ℕ) (s : SourceType) (o : ParseOptions) (asks : Bool) (p : Parser) (ids : List (Option NodeId)) : Type 0 where
   pub is_of : IsOf text s p
+  pub came : CameTo (goal_of s) text (stage p)
+  pub last : is_last p.token.kind ≡ true
   pub slots : Slots
   pub holds : HoldsAll p.nodes 1 (length p.nodes) ids slots
   pub outcome : ReadOrNot text s o p slots

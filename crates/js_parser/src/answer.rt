@@ -1,6 +1,6 @@
 //! What a parse answers.
 
-ghost use Rattle.std.specs.Prelude.{ℕ, ◌≡◌, ◌++◌, Bool, false, List, [], IfOk, OnOk};
+ghost use Rattle.std.specs.Prelude.{ℕ, ◌≡◌, ◌++◌, Bool, false, true, List, [], IfOk, OnOk};
 ghost use Rattle.js_base.specs.declared.options.ParseOptions.{ParseOptions};
 ghost use Rattle.js_base.specs.declared.source_type.SourceType.{SourceType};
 ghost use Rattle.js_cursor.specs.Places.{IsAt};
@@ -98,7 +98,7 @@ pub fn refused(source_type: SourceType, p: RuntimeParser<'_>) -> Result<ParserRe
     requires { IsAt p }
     ensures answer { IfOk result (λ r. (text : List ℕ) (s : SourceType) (o : ParseOptions) → ProgramRefused text s o p.entry → IsAnswer text (goal_of s) (options_of o) r.program.tree (output_of r) r.fatal_error) }
     ensures kept { IfOk result (λ r. (text : List ℕ) (s : SourceType) (o : ParseOptions) (asks : Bool) → ProgramRefused text s o p.entry → KeepsRight text (goal_of s) (options_of o) asks (output_of r)) }
-    ensures told { IfOk result (λ r. r.diagnostics ≡ told_at_stop (stage p.entry) p.entry.errors) }
+    ensures told { IfOk result (λ r. r.diagnostics ≡ told_at_stop true (stage p.entry) p.entry.errors) }
     ensures no_flow { IfOk result (λ r. r.is_flow_language ≡ false) }
     ensures source_type { IfOk result (λ r. r.program.source_type ≡ source_type) }
 {
