@@ -26,8 +26,8 @@ use Rattle.parse_shared.specs.js_tree.Holding.{HoldsAll, program_tree}
 use Rattle.parse_shared.specs.js_cursor.Parsers.{Parser}
 use Rattle.parse_shared.specs.js_cursor.Places.{goal}
 use Rattle.parse_shared.specs.js_cursor.Checkpoints.{Follows}
-use Rattle.parse_shared.specs.js_cursor.Ways.{Begins, CameTo, stage}
-use Rattle.parse_shared.proofs.js_cursor.Ways.{begins_behind, begins_first, way_in}
+use Rattle.parse_shared.specs.js_cursor.Stages.{Begins, CameTo, stage}
+use Rattle.parse_shared.proofs.js_cursor.Stages.{begins_behind, begins_first, leads_in}
 use Rattle.parse_shared.specs.js_cursor.Moves.{is_last}
 use Rattle.parse_shared.specs.js_cursor.Starts.{Starts}
 use Rattle.parse_shared.specs.js_cursor.Tokens.{IsToken, whole as whole_token, sign as sign_token, nothing as no_token}
@@ -436,7 +436,7 @@ module _ {text : List ℕ} {f : Flags} {source : SourceType} {o : ParseOptions} 
 
   -- where lexemes lead from there
   came : {q : Parser} → Follows v q → CameTo (goal_of source) text (stage q)
-  came g = record { first = stage v; begins = b.starts; way = way_in (ap goal_of b.read_as) b.stands.text_is g.way }
+  came g = record { first = stage v; begins = b.starts; leads = leads_in (ap goal_of b.read_as) b.stands.text_is g.leads }
 
   module _ {q : Parser} {ids : List (Option NodeId)} (t : Taken text f Text (with_directives Text f) (statements Text f) v q ids) where
     walk : Walked text (record { source = goal_of source; keeps_tokens = v.lexer.keeps_tokens; place = s; kept = record v.lexer.kept { tokens = kept_before v.lexer v.token } }) (spot q) t.pass

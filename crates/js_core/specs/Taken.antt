@@ -9,7 +9,7 @@ use Rattle.parse_shared.specs.js_tree.Holding.{HoldsAll, program_tree}
 use Rattle.parse_shared.specs.js_cursor.Parsers.{Parser}
 use Rattle.parse_shared.specs.js_cursor.Moves.{is_last}
 use Rattle.parse_shared.specs.js_cursor.Places.{IsAt}
-use Rattle.parse_shared.specs.js_cursor.Ways.{CameTo, stage}
+use Rattle.parse_shared.specs.js_cursor.Stages.{CameTo, stage}
 use Rattle.parse_shared.specs.js_cursor.declared.stop.Stop.{Stop}
 use Rattle.parse_shared.specs.js_cursor.declared.stop.Stop.TheVariants.{Fatal, NoMemory}
 use Rattle.js_core.specs.Kept.{IsKeptOf}

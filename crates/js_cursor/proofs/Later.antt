@@ -26,9 +26,9 @@ use Rattle.js_cursor.specs.Histories.{StandBefore}
 use Rattle.js_cursor.specs.Parsers.{Parser}
 use Rattle.js_cursor.specs.Tokens.{IsToken, sign}
 use Rattle.js_cursor.specs.Places.{IsAt, goal}
-use Rattle.js_cursor.specs.Ways.{stays}
+use Rattle.js_cursor.specs.Stages.{stays}
 use Rattle.js_cursor.proofs.StillKept.{still_itself, still_on, still_next, still_again}
-use Rattle.js_cursor.proofs.Ways.{way_on, way_in, way_passed, way_again}
+use Rattle.js_cursor.proofs.Stages.{leads_on, leads_in, passed_leads, again_leads}
 use Rattle.js_cursor.specs.Moves.{Passed, ReadAgain, Completed, MovesOn, Keeps, Opened, is_last}
 
 -- the same nodes
@@ -53,7 +53,7 @@ follows_itself p = record {
   faults = sym (append-nil p.lexer.kept.errors);
   longer = record { comments = omega arith; irregular_whitespaces = omega arith; tokens = omega arith; errors = omega arith };
   still = still_itself p.lexer p.token;
-  way = stays;
+  leads = stays;
 }
 
 then : {X : Type 0} (a b c x y : List X) → b ≡ a ++ x → c ≡ b ++ y → c ≡ a ++ (x ++ y)
@@ -82,7 +82,7 @@ follows_on {p} {q} {r} f g = record {
     errors = let a = f.longer.errors in let b = g.longer.errors in omega arith;
   };
   still = still_on f.still g.still;
-  way = way_on f.way (way_in (ap goal_of f.source_type) f.text g.way);
+  leads = leads_on f.leads (leads_in (ap goal_of f.source_type) f.text g.leads);
 }
 
 grown : {X : Type 0} (a b x : List X) → b ≡ a ++ x → length a ≤ length b
@@ -111,7 +111,7 @@ passed_follows {p} {q} h = record {
     errors = grown _ _ _ h.next.grows.faults_grow;
   };
   still = still_next p.token h.next;
-  way = way_passed h;
+  leads = passed_leads h;
 }
 
 as_long : (ts : List Token) (t : Token) → length ts ≤ length (replaced ts t)
@@ -149,7 +149,7 @@ read_again_follows {g} {p} {q} h = record {
     errors = grown _ _ _ h.again.errors;
   };
   still = still_again h.may_be h.again;
-  way = way_again h;
+  leads = again_leads h;
 }
 
 pub completed_follows : {p q : Parser} → Completed p q → Follows p q
@@ -182,7 +182,7 @@ keeps_follows {d} {p} {q} h = subst (Follows p) (sym h.is) (record {
   faults = sym (append-nil p.lexer.kept.errors);
   longer = record { comments = omega arith; irregular_whitespaces = omega arith; tokens = omega arith; errors = omega arith };
   still = still_itself p.lexer p.token;
-  way = stays;
+  leads = stays;
 })
 
 pub first_part : {X : Type 0} (a b x : List X) (n : ℕ) → b ≡ a ++ x → n ≡ length a → take n b ≡ a

@@ -31,7 +31,7 @@ use Rattle.js_cursor.specs.Parsers.{Parser}
 use Rattle.js_cursor.specs.Tokens.{IsToken, whole, sign, nothing}
 use Rattle.js_cursor.specs.Places.{IsAt, IsFault, goal}
 use Rattle.js_cursor.specs.Moves.{ReadAgain, IsRegularExpression, IsTemplatePart, Peeks}
-use Rattle.js_cursor.specs.Ways.{OwnFaults}
+use Rattle.js_cursor.specs.Stages.{OwnFaults}
 use Rattle.js_cursor.proofs.Moving.{Alone, found_alone, stays, still_before}
 
 -- the signs in whose place a regular expression or a template part may be read

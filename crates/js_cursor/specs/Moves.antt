@@ -23,7 +23,7 @@ use Rattle.js_tree.specs.js_grammar.Marks.{LexemeAt, any_lexeme, opens, StandsAt
 use Rattle.js_cursor.specs.Markers.{lexeme_of, Related}
 use Rattle.js_cursor.specs.Places.{IsAt, goal}
 use Rattle.js_cursor.specs.Tokens.{may_be_read_again}
-use Rattle.js_cursor.specs.Ways.{ReadsAs}
+use Rattle.js_cursor.specs.Stages.{ReadsAs}
 
 -- All but the place and the lexer stays.
 pub record Stays (old new : Parser) : Type 0 where

@@ -9,7 +9,7 @@ use Rattle.js_base.specs.Kinds.{same_kind}
 use Rattle.js_grammar.specs.Settings.{Goal}
 use Rattle.js_cursor.specs.js_lex.declared.output.LexerOutput.{LexerOutput}
 use Rattle.js_cursor.specs.Moves.{is_last}
-use Rattle.js_cursor.specs.Ways.{CameTo, Stage}
+use Rattle.js_cursor.specs.Stages.{CameTo, Stage}
 
 abbrev pub is_lexical : DiagnosticClass → Bool
 is_lexical Lexical = true

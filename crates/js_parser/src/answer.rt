@@ -4,7 +4,7 @@ ghost use Rattle.std.specs.Prelude.{ℕ, ◌≡◌, ◌++◌, Bool, false, true,
 ghost use Rattle.js_base.specs.declared.options.ParseOptions.{ParseOptions};
 ghost use Rattle.js_base.specs.declared.source_type.SourceType.{SourceType};
 ghost use Rattle.js_cursor.specs.Places.{IsAt};
-ghost use Rattle.js_cursor.specs.Ways.{stage};
+ghost use Rattle.js_cursor.specs.Stages.{stage};
 ghost use Rattle.js_grammar.specs.ModuleRecords.{record_of_parts};
 ghost use Rattle.js_cursor.specs.js_lex.States.{goal_of};
 ghost use Rattle.js_core.specs.laws_shared.States.{NodesLie};

@@ -14,7 +14,7 @@ use Rattle.js_lex.specs.declared.comment.Comment.{Comment}
 use Rattle.js_cursor.specs.Moves.{Passed, ReadAgain}
 use Rattle.js_cursor.specs.Parsers.{Parser}
 use Rattle.js_cursor.specs.Places.{goal}
-use Rattle.js_cursor.specs.Ways.{Stage, stage, Begins, at_start, behind_hashbang, ComesWith, Way, stays, passes, reads_again, further}
+use Rattle.js_cursor.specs.Stages.{Stage, stage, Begins, at_start, behind_hashbang, ComesWith, Leads, stays, passes, reads_again, further}
 
 pub comes_with : {a b : State} {t : Token} (n : GivesNext division a b t) → ComesWith a.goal a.text a.place t (each_at (comment_at t.span.start) a.place n.pieces) (each_at irregular_at a.place n.pieces) (each_at (html_fault_at (in_a_module a.goal)) a.place n.pieces ++ n.faults)
 comes_with n = record { trivia = n.pieces; stands = n.stands; start = n.start; stopping = n.faults; outcome = n.outcome; comments_are = refl; blanks_are = refl; faults_are = refl }
@@ -23,19 +23,19 @@ comes_with n = record { trivia = n.pieces; stands = n.stands; start = n.start; s
 pub comes_there : {source goal : Goal} {text other : List ℕ} {i j : ℕ} {t : Token} {comments : List Comment} {blanks : List Span} {faults : List Diagnostic} → source ≡ goal → text ≡ other → i ≡ j → ComesWith source text i t comments blanks faults → ComesWith goal other j t comments blanks faults
 comes_there {source} {goal} {text} {other} {i} {j} {t} {comments} {blanks} {faults} g e p c = subst (λ v. ComesWith v other j t comments blanks faults) g (subst (λ v. ComesWith source v j t comments blanks faults) e (subst (λ v. ComesWith source text v t comments blanks faults) p c))
 
-pub way_on : {source : Goal} {text : List ℕ} {a b c : Stage} → Way source text a b → Way source text b c → Way source text a c
-way_on f stays = f
-way_on f (passes w l t k) = passes (way_on f w) l t k
-way_on f (reads_again g w r) = reads_again g (way_on f w) r
+pub leads_on : {source : Goal} {text : List ℕ} {a b c : Stage} → Leads source text a b → Leads source text b c → Leads source text a c
+leads_on f stays = f
+leads_on f (passes w l t k) = passes (leads_on f w) l t k
+leads_on f (reads_again g w r) = reads_again g (leads_on f w) r
 
-pub way_in : {source goal : Goal} {text other : List ℕ} {a b : Stage} → source ≡ goal → text ≡ other → Way source text a b → Way goal other a b
-way_in {source} {goal} {text} {other} {a} {b} g e w = subst (λ v. Way v other a b) g (subst (λ v. Way source v a b) e w)
+pub leads_in : {source goal : Goal} {text other : List ℕ} {a b : Stage} → source ≡ goal → text ≡ other → Leads source text a b → Leads goal other a b
+leads_in {source} {goal} {text} {other} {a} {b} g e w = subst (λ v. Leads v other a b) g (subst (λ v. Leads source v a b) e w)
 
-pub way_to : {source : Goal} {text : List ℕ} {a b c : Stage} → b ≡ c → Way source text a b → Way source text a c
-way_to {source} {text} {a} e w = subst (λ s. Way source text a s) e w
+pub leads_to : {source : Goal} {text : List ℕ} {a b c : Stage} → b ≡ c → Leads source text a b → Leads source text a c
+leads_to {source} {text} {a} e w = subst (λ s. Leads source text a s) e w
 
-pub way_passed : {p q : Parser} → Passed p q → Way (goal p) p.text (stage p) (stage q)
-way_passed {p} {q} h = way_to there (passes stays h.stood h.tells (comes_there reads_for reads h.last (comes_with h.next)))
+pub passed_leads : {p q : Parser} → Passed p q → Leads (goal p) p.text (stage p) (stage q)
+passed_leads {p} {q} h = leads_to there (passes stays h.stood h.tells (comes_there reads_for reads h.last (comes_with h.next)))
   where
     reads : p.lexer.text ≡ p.text
     reads = sym h.next.same.text ∙ (h.at.reads ∙ h.stays.text)
@@ -46,8 +46,8 @@ way_passed {p} {q} h = way_to there (passes stays h.stood h.tells (comes_there r
     there : further (stage p) h.lexeme q.token (each_at (comment_at q.token.span.start) p.lexer.place h.next.pieces) (each_at irregular_at p.lexer.place h.next.pieces) (each_at (html_fault_at (in_a_module p.lexer.goal)) p.lexer.place h.next.pieces ++ h.next.faults) ≡ stage q
     there = λ i. record { place = sym h.moved i; token = q.token; comments = sym h.next.grows.comments_grow i; blanks = sym h.next.grows.blanks_grow i; faults = sym h.next.grows.faults_grow i }
 
-pub way_again : {g : LexicalGoal} {p q : Parser} → ReadAgain g p q → Way (goal p) p.text (stage p) (stage q)
-way_again {g} {p} {q} h = way_to there (reads_again g stays h.reads_as)
+pub again_leads : {g : LexicalGoal} {p q : Parser} → ReadAgain g p q → Leads (goal p) p.text (stage p) (stage q)
+again_leads {g} {p} {q} h = leads_to there (reads_again g stays h.reads_as)
   where
     there : record (stage p) { token = q.token; faults = p.lexer.kept.errors ++ h.faults } ≡ stage q
     there = λ i. record { place = sym h.place i; token = q.token; comments = sym h.again.comments i; blanks = sym h.again.blanks i; faults = sym h.again.errors i }

@@ -12,7 +12,6 @@ use Rattle.js_tree.specs.js_grammar.Longest.{joined}
 use Rattle.js_tree.specs.js_grammar.Settings.{Goal}
 use Rattle.js_lex.specs.Comments.{each_at, comment_at, irregular_at, html_fault_at}
 use Rattle.js_lex.specs.Reading.{cut, in_a_module, FlagsStand, LexemeBehind, Outcome, Tells}
-use Rattle.js_lex.specs.States.{goal_of}
 use Rattle.js_lex.specs.declared.comment.Comment.{Comment}
 use Rattle.js_cursor.specs.Parsers.{Parser}
 use Rattle.js_cursor.specs.Tokens.{may_be_read_again}
@@ -57,10 +56,10 @@ abbrev pub further : Stage → Lexeme → Token → List Comment → List Span �
 further s x t comments blanks faults = record { place = x.to; token = t; comments = s.comments ++ comments; blanks = s.blanks ++ blanks; faults = s.faults ++ faults }
 
 -- Lexemes lead from one stage to another, each one told by the token before it is passed.
-pub data Way (source : Goal) (text : List ℕ) (old : Stage) : Stage → Type 0 where
-  stays : Way source text old old
-  passes : {s : Stage} {x : Lexeme} {t : Token} {comments : List Comment} {blanks : List Span} {faults : List Diagnostic} → Way source text old s → Lex all_faults text s.place x → Tells x s.token → ComesWith source text x.to t comments blanks faults → Way source text old (further s x t comments blanks faults)
-  reads_again : {s : Stage} {t : Token} {faults : List Diagnostic} (g : LexicalGoal) → Way source text old s → ReadsAs g source text s.place s.token t faults → Way source text old (record s { token = t; faults = s.faults ++ faults })
+pub data Leads (source : Goal) (text : List ℕ) (old : Stage) : Stage → Type 0 where
+  stays : Leads source text old old
+  passes : {s : Stage} {x : Lexeme} {t : Token} {comments : List Comment} {blanks : List Span} {faults : List Diagnostic} → Leads source text old s → Lex all_faults text s.place x → Tells x s.token → ComesWith source text x.to t comments blanks faults → Leads source text old (further s x t comments blanks faults)
+  reads_again : {s : Stage} {t : Token} {faults : List Diagnostic} (g : LexicalGoal) → Leads source text old s → ReadsAs g source text s.place s.token t faults → Leads source text old (record s { token = t; faults = s.faults ++ faults })
 
 -- where a text begins: at its start, or behind a hashbang comment, where one stands (12.5)
 pub data Begins (source : Goal) (text : List ℕ) : Stage → Type 0 where
@@ -71,4 +70,4 @@ pub data Begins (source : Goal) (text : List ℕ) : Stage → Type 0 where
 pub record CameTo (source : Goal) (text : List ℕ) (s : Stage) : Type 0 where
   pub first : Stage
   pub begins : Begins source text first
-  pub way : Way source text first s
+  pub leads : Leads source text first s
