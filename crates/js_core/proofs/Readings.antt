@@ -25,6 +25,9 @@ use Rattle.parse_shared.specs.js_tree.declared.id.NodeId.{NodeId}
 use Rattle.parse_shared.specs.js_tree.Holding.{HoldsAll, program_tree}
 use Rattle.parse_shared.specs.js_cursor.Parsers.{Parser}
 use Rattle.parse_shared.specs.js_cursor.Places.{goal}
+use Rattle.parse_shared.specs.js_cursor.Checkpoints.{Follows}
+use Rattle.parse_shared.specs.js_cursor.Stages.{Begins, CameTo, stage}
+use Rattle.parse_shared.proofs.js_cursor.Stages.{begins_behind, begins_first, leads_in}
 use Rattle.parse_shared.specs.js_cursor.Moves.{is_last}
 use Rattle.parse_shared.specs.js_cursor.Starts.{Starts}
 use Rattle.parse_shared.specs.js_cursor.Tokens.{IsToken, whole as whole_token, sign as sign_token, nothing as no_token}
@@ -406,6 +409,7 @@ record Begun (text : List ℕ) (f : Flags) (source : SourceType) (o : ParseOptio
   parameters_are : f ≡ covering (goal_of source) (options_of o)
   opens : Front text (goal_of source) f s front put
   loosely : (g : Flags) → LooseFront text g s
+  starts : Begins (goal_of source) text (stage v)
   read_as : v.source_type ≡ source
   place : v.prev_token_end ≡ s
   faults : KeptFor (goal_of source) text s v.lexer.kept.errors
@@ -429,6 +433,10 @@ module _ {text : List ℕ} {f : Flags} {source : SourceType} {o : ParseOptions} 
   -- a text isn't read in wider forms
   narrow : f.wide ≡ true → ⊥
   narrow w = false≢true (sym (ap (λ (g : Flags). g.wide) b.parameters_are) ∙ w)
+
+  -- where lexemes lead from there
+  came : {q : Parser} → Follows v q → CameTo (goal_of source) text (stage q)
+  came g = record { first = stage v; begins = b.starts; leads = leads_in (ap goal_of b.read_as) b.stands.text_is g.leads }
 
   module _ {q : Parser} {ids : List (Option NodeId)} (t : Taken text f Text (with_directives Text f) (statements Text f) v q ids) where
     walk : Walked text (record { source = goal_of source; keeps_tokens = v.lexer.keeps_tokens; place = s; kept = record v.lexer.kept { tokens = kept_before v.lexer v.token } }) (spot q) t.pass
@@ -463,6 +471,8 @@ module _ {text : List ℕ} {f : Flags} {source : SourceType} {o : ParseOptions} 
     all_taken : {keeps : Bool} {js : List (Option NodeId)} → is_last q.token.kind ≡ true → v.lexer.keeps_tokens ≡ keeps → HoldsAll q.nodes 1 (length q.nodes) js (front (t.slots end)) → ProgramTaken text source o keeps q js
     all_taken k same h = record {
       is_of = record { at = t.at.at; text_is = t.at.text_is; source_type = t.same.follows.source_type ∙ b.read_as };
+      came = came t.same.follows;
+      last = k;
       slots = front (t.slots end);
       holds = h;
       outcome = by_kind (last_kind q.token.kind k);
@@ -476,6 +486,7 @@ module _ {text : List ℕ} {f : Flags} {source : SourceType} {o : ParseOptions} 
   stops_so : (q : Parser) (e : Stop) → AllRefused Text v q e → ProgramStops text source o q e
   stops_so q Fatal h = let r = h text f b.stands in record {
     is_of = record { at = r.at; text_is = r.follows.text ∙ b.stands.text_is; source_type = r.follows.source_type ∙ b.read_as };
+    came = came r.follows;
     stopped = r.stopped (All-same IsEarly v.errors [] b.errors (All-nil IsEarly));
     lies = subst (λ (w : List ℕ). NodesLie w q.nodes) (r.follows.text ∙ b.stands.text_is) (r.lies b.lies);
     some = grown_some r.grown;
@@ -509,6 +520,7 @@ module _ {b : Bool} {p : Parser} (s : Starts p.text p.source_type p.options b p)
       parameters_are = at_start s;
       opens = at_the_start (none_begins first_next.0);
       loosely = loosely_at_start (none_begins first_next.0);
+      starts = begins_first p g s.kept_none s.reads s.reads_for s.at_start s.prev_token_end (λ x y. none_begins first_next.0 (x, y));
       read_as = refl;
       place = s.prev_token_end;
       faults = faults_first g s.kept_none s.reads s.reads_for s.at_start;
@@ -566,6 +578,7 @@ module _ {b : Bool} {p : Parser} (s : Starts p.text p.source_type p.options b p)
       parameters_are = at_start s;
       opens = behind_a_comment comment_stands;
       loosely = loosely_behind comment_stands;
+      starts = subst (λ (r : Parser). Begins (goal p) p.text (stage r)) (sym n.stays) (begins_behind m d.next kept_nothing s.at.reads s.at.reads_for ends_there d.moved comment_stands);
       read_as = ap (λ (r : Parser). r.source_type) n.stays ∙ d.stays.source_type;
       place = ap (λ (r : Parser). r.prev_token_end) n.stays ∙ d.moved;
       faults = subst (λ (r : Parser). KeptFor (goal p) p.text d.lexeme.to r.lexer.kept.errors) (sym n.stays) (faults_first d.next kept_nothing s.at.reads s.at.reads_for ends_there);

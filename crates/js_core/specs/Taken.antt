@@ -7,7 +7,9 @@ use Rattle.parse_shared.specs.js_lex.States.{goal_of}
 use Rattle.parse_shared.specs.js_tree.declared.id.NodeId.{NodeId}
 use Rattle.parse_shared.specs.js_tree.Holding.{HoldsAll, program_tree}
 use Rattle.parse_shared.specs.js_cursor.Parsers.{Parser}
+use Rattle.parse_shared.specs.js_cursor.Moves.{is_last}
 use Rattle.parse_shared.specs.js_cursor.Places.{IsAt}
+use Rattle.parse_shared.specs.js_cursor.Stages.{CameTo, stage}
 use Rattle.parse_shared.specs.js_cursor.declared.stop.Stop.{Stop}
 use Rattle.parse_shared.specs.js_cursor.declared.stop.Stop.TheVariants.{Fatal, NoMemory}
 use Rattle.js_core.specs.Kept.{IsKeptOf}
@@ -31,9 +33,11 @@ pub record FoundNothing (p : Parser) : Type 0 where
 abbrev pub ReadOrNot : List ℕ → SourceType → ParseOptions → Parser → Slots → Type 0
 ReadOrNot text s o p cs = (FoundNothing p × IsOnlyReadingBy true text (goal_of s) (options_of o) (program_tree (record { start = 0; end = p.token.span.end }) cs)) ⊎ ((FoundNothing p → ⊥) × HasNoReadingBy true text (goal_of s) (options_of o))
 
--- These are the children of the program.
+-- These are the children of the program, which ends where the text does, or where no lexeme stands; lexemes lead there, and what the lexer kept was found on the way.
 pub record ProgramTaken (text : List ℕ) (s : SourceType) (o : ParseOptions) (asks : Bool) (p : Parser) (ids : List (Option NodeId)) : Type 0 where
   pub is_of : IsOf text s p
+  pub came : CameTo (goal_of s) text (stage p)
+  pub last : is_last p.token.kind ≡ true
   pub slots : Slots
   pub holds : HoldsAll p.nodes 1 (length p.nodes) ids slots
   pub outcome : ReadOrNot text s o p slots
@@ -45,9 +49,10 @@ pub record ProgramTaken (text : List ℕ) (s : SourceType) (o : ParseOptions) (a
   pub early : All IsEarly p.errors
   pub lies : NodesLie text p.nodes
 
--- A fatal diagnostic ended the parse, the last one. The program has no reading, not even in the widest form.
+-- A fatal diagnostic ended the parse, the last one, at a place to which lexemes lead; what the lexer kept was found on the way there. The program has no reading, not even in the widest form.
 pub record ProgramRefused (text : List ℕ) (s : SourceType) (o : ParseOptions) (p : Parser) : Type 0 where
   pub is_of : IsOf text s p
+  pub came : CameTo (goal_of s) text (stage p)
   pub stopped : EndedByLast p.errors
   pub lies : NodesLie text p.nodes
   pub some : p.errors ≡ [] → ⊥

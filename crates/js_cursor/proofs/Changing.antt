@@ -18,6 +18,8 @@ use Rattle.js_cursor.specs.Histories.{put, nowhere, after, standing, without, St
 use Rattle.js_cursor.specs.Notes.{Notes}
 use Rattle.js_cursor.specs.Parsers.{Parser}
 use Rattle.js_cursor.specs.Tokens.{may_be_read_again, StillKept}
+use Rattle.js_cursor.specs.Stages.{stays}
+use Rattle.js_cursor.proofs.Stages.{leads_to}
 use Rattle.js_cursor.proofs.StillKept.{still_itself, still_back, comments_back, blanks_back, keeps_back, tokens_back}
 use Rattle.js_lex.specs.Kept.{lengths_of, first_kept}
 use Rattle.js_base.specs.declared.token.Token.{Token}
@@ -91,6 +93,7 @@ module _ {p : Parser} where
     faults = sym (append-nil p.lexer.kept.errors);
     longer = record { comments = omega arith; irregular_whitespaces = omega arith; tokens = omega arith; errors = omega arith };
     still = still_itself p.lexer p.token;
+    leads = stays;
   }
 
   -- the notes stay
@@ -224,6 +227,7 @@ back_follows {p} {q} {r} {c} m f g =
         errors = as_long _ c.lexer.lengths.errors q.lexer.kept.errors _ (sym (ap (λ l. l.errors) m.lengths)) f.longer.errors (ap (λ o. o.errors) g.kept);
       };
       still = subst (λ (v : Token). StillKept p.lexer p.token r.lexer v) (sym b.token) (still_back f.still f.longer g.same (kept_then m g));
+      leads = leads_to (λ i. record { place = sym b.prev_token_end i; token = sym b.token i; comments = sym b.comments i; blanks = sym b.blanks i; faults = sym b.faults i }) stays;
     }
 
 -- ---- the same, of a parser seen as p

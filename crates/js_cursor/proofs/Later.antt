@@ -27,7 +27,9 @@ use Rattle.js_cursor.specs.Histories.{StandBefore}
 use Rattle.js_cursor.specs.Parsers.{Parser}
 use Rattle.js_cursor.specs.Tokens.{IsToken, sign}
 use Rattle.js_cursor.specs.Places.{IsAt, goal}
+use Rattle.js_cursor.specs.Stages.{stays}
 use Rattle.js_cursor.proofs.StillKept.{still_itself, still_on, still_next, still_again}
+use Rattle.js_cursor.proofs.Stages.{leads_on, leads_in, passed_leads, again_leads}
 use Rattle.js_cursor.specs.Moves.{Passed, ReadAgain, Completed, MovesOn, Keeps, Opened, is_last}
 
 -- the same nodes
@@ -52,6 +54,7 @@ follows_itself p = record {
   faults = sym (append-nil p.lexer.kept.errors);
   longer = record { comments = omega arith; irregular_whitespaces = omega arith; tokens = omega arith; errors = omega arith };
   still = still_itself p.lexer p.token;
+  leads = stays;
 }
 
 pub follows_on : {p q r : Parser} → Follows p q → Follows q r → Follows p r
@@ -77,6 +80,7 @@ follows_on {p} {q} {r} f g = record {
     errors = let a = f.longer.errors in let b = g.longer.errors in omega arith;
   };
   still = still_on f.still g.still;
+  leads = leads_on f.leads (leads_in (ap goal_of f.source_type) f.text g.leads);
 }
 
 grown : {X : Type 0} (a b x : List X) → b ≡ a ++ x → length a ≤ length b
@@ -105,6 +109,7 @@ passed_follows {p} {q} h = record {
     errors = grown _ _ _ h.next.grows.faults_grow;
   };
   still = still_next p.token h.next;
+  leads = passed_leads h;
 }
 
 as_long : (ts : List Token) (t : Token) → length ts ≤ length (replaced ts t)
@@ -142,6 +147,7 @@ read_again_follows {g} {p} {q} h = record {
     errors = grown _ _ _ h.again.errors;
   };
   still = still_again h.may_be h.again;
+  leads = again_leads h;
 }
 
 pub completed_follows : {p q : Parser} → Completed p q → Follows p q
@@ -174,6 +180,7 @@ keeps_follows {d} {p} {q} h = subst (Follows p) (sym h.is) (record {
   faults = sym (append-nil p.lexer.kept.errors);
   longer = record { comments = omega arith; irregular_whitespaces = omega arith; tokens = omega arith; errors = omega arith };
   still = still_itself p.lexer p.token;
+  leads = stays;
 })
 
 pub first_part : {X : Type 0} (a b x : List X) (n : ℕ) → b ≡ a ++ x → n ≡ length a → take n b ≡ a

@@ -1,6 +1,7 @@
 pub mod Recording
 pub mod Noting
 pub mod Moving
+pub mod Stages
 pub mod Keeping
 pub mod KindTests
 pub mod Standing

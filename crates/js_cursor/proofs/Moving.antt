@@ -150,6 +150,7 @@ module _ {p : Parser} {l : State} {t : Token} {b : Bool} {e : ℕ} where
     stood = w.stood;
     tells = w.tells;
     moved = ends;
+    last = here ∙ ends;
     next = g;
     stays = stays g.same;
     at = record {
@@ -226,19 +227,19 @@ is_whole_of : {p : Parser} {g : LexicalGoal} → GivesLexeme g (λ z. z) p.text 
 is_whole_of x = record { lexeme = x.lexeme; stood = x.stands.lex; tells = x.tells }
 
 completed : {p : Parser} {l : State} {t : Token} → IsAt p → p.cut ≡ true → GivesAgain division p.lexer l p.token t [] [] → Told p (record p { lexer = l; token = t; cut = false })
-completed {p} {l} {t} a e g = record { completed = inr (e, record { going_on = []; faults = []; again = g; may_be = angle p.cut a.token e; place = refl; stays = stays g.same; at = at }, refl, g.errors ∙ append-nil p.lexer.kept.errors); at = at; whole = λ n. is_whole_of given.1 }
+completed {p} {l} {t} a e g = record { completed = inr (e, record { going_on = []; faults = []; again = g; may_be = angle p.cut a.token e; reads_as = record { may_be = angle p.cut a.token e; start = g.start; own = []; own_faults = refl; outcome = again p.cut a.token e }; place = refl; stays = stays g.same; at = at }, refl, g.errors ∙ append-nil p.lexer.kept.errors); at = at; whole = λ n. is_whole_of given.1 }
   where
     w : WasGiven p.lexer p.token
     w = sign_given a e
 
-    by : (b : Bool) → IsToken (goal p) p.text p.prev_token_end p.lexer.kept.errors p.token b → b ≡ true → (t.kind ≡ Undetermined → ⊥) × GivesLexeme division (λ z. z) p.text p.prev_token_end t
-    by false x q = absurd (false≢true q)
-    by true (sign k x) q =
+    again : (b : Bool) → IsToken (goal p) p.text p.prev_token_end p.lexer.kept.errors p.token b → b ≡ true → Outcome division (λ z. z) (goal p) p.text p.prev_token_end t [] []
+    again false x q = absurd (false≢true q)
+    again true (sign k x) q =
         let h = g.outcome p.prev_token_end x.lexeme (subst (λ v. IsCharBoundary v p.prev_token_end) (sym a.reads) a.between) (subst (λ v. LexemeBehind division v p.prev_token_end x.lexeme) (sym a.reads) x.stands) x.tells in
-        let z = whole_again p.lexer.goal h in (z.0, subst (λ v. GivesLexeme division (λ z. z) v p.prev_token_end t) a.reads z.1)
+        subst (λ v. Outcome division (λ z. z) v p.text p.prev_token_end t [] []) a.reads_for (subst (λ v. Outcome division (λ z. z) p.lexer.goal v p.prev_token_end t [] []) a.reads h)
 
     given : (t.kind ≡ Undetermined → ⊥) × GivesLexeme division (λ z. z) p.text p.prev_token_end t
-    given = by p.cut a.token e
+    given = whole_again (goal p) (again p.cut a.token e)
 
     angle : (b : Bool) → IsToken (goal p) p.text p.prev_token_end p.lexer.kept.errors p.token b → b ≡ true → may_be_read_again p.token.kind ≡ true
     angle false x q = absurd (false≢true q)

@@ -31,6 +31,7 @@ use Rattle.js_cursor.specs.Parsers.{Parser}
 use Rattle.js_cursor.specs.Tokens.{IsToken, whole, sign, nothing}
 use Rattle.js_cursor.specs.Places.{IsAt, IsFault, goal}
 use Rattle.js_cursor.specs.Moves.{ReadAgain, IsRegularExpression, IsTemplatePart, Peeks}
+use Rattle.js_cursor.specs.Stages.{OwnFaults}
 use Rattle.js_cursor.proofs.Moving.{Alone, found_alone, stays, still_before}
 
 -- the signs in whose place a regular expression or a template part may be read
@@ -164,12 +165,13 @@ found_again g t going_on faults source text s o m = go (same_kind Undetermined t
     go false x = All-same (λ d. FaultyBehind d.kind source text s d.span.start d.span.end) faults going_on x.0 m
 
 module _ {p : Parser} {g : LexicalGoal} {l : State} {t : Token} {going_on faults : List Diagnostic} where
-  pub read_again : IsAt p → may_be_more p.token.kind ≡ true → GivesAgain g p.lexer l p.token t going_on faults → (same_kind Undetermined t.kind ≡ false → All Alone going_on) → ReadAgain g p (record p { lexer = l; token = t })
-  read_again a m x n = record {
+  pub read_again : IsAt p → may_be_more p.token.kind ≡ true → GivesAgain g p.lexer l p.token t going_on faults → OwnFaults g p.text t going_on → (same_kind Undetermined t.kind ≡ false → All Alone going_on) → ReadAgain g p (record p { lexer = l; token = t })
+  read_again a m x o n = record {
     going_on = going_on;
     faults = faults;
     again = x;
     may_be = or_right _ _ m;
+    reads_as = record { may_be = or_right _ _ m; start = x.start; own = going_on; own_faults = o; outcome = outcome };
     place = refl;
     stays = stays x.same;
     at = record {
@@ -213,20 +215,20 @@ slash_may k (inr e) = ap may_be_more e
 pub brace_may : (k : Kind) → k ≡ RCurly → may_be_more k ≡ true
 brace_may k e = ap may_be_more e
 
-pub read_again_seen : {p q : Parser} → p ≡ q → {g : LexicalGoal} {l : State} {t : Token} {going_on faults : List Diagnostic} → IsAt q → may_be_more q.token.kind ≡ true → GivesAgain g p.lexer l p.token t going_on faults → (same_kind Undetermined t.kind ≡ false → All Alone going_on) → ReadAgain g q (record p { lexer = l; token = t })
-read_again_seen {p} {q} v {g} {l} {t} {going_on} {faults} a m x n = subst (λ (r : Parser). ReadAgain g r (record p { lexer = l; token = t })) v (read_again (subst IsAt (sym v) a) (ap (λ (r : Parser). may_be_more r.token.kind) v ∙ m) x n)
+pub read_again_seen : {p q : Parser} → p ≡ q → {g : LexicalGoal} {l : State} {t : Token} {going_on faults : List Diagnostic} → IsAt q → may_be_more q.token.kind ≡ true → GivesAgain g p.lexer l p.token t going_on faults → OwnFaults g p.text t going_on → (same_kind Undetermined t.kind ≡ false → All Alone going_on) → ReadAgain g q (record p { lexer = l; token = t })
+read_again_seen {p} {q} v {g} {l} {t} {going_on} {faults} a m x o n = subst (λ (r : Parser). ReadAgain g r (record p { lexer = l; token = t })) v (read_again (subst IsAt (sym v) a) (ap (λ (r : Parser). may_be_more r.token.kind) v ∙ m) x o n)
 
 -- the same where the lexer told the faults too
 template_again : {p : Parser} {l : State} {t : Token} → IsAt p → may_be_more p.token.kind ≡ true → (faults : List Diagnostic) × GivesAgain template_tail p.lexer l p.token t [] faults → IsTemplatePart p (record p { lexer = l; token = t })
 unfolding read_again
-template_again a m x = record { read = read_again a m x.1 (λ e. All-nil Alone); quiet = refl }
+template_again a m x = record { read = read_again a m x.1 refl (λ e. All-nil Alone); quiet = refl }
 
 pub template_seen : {p q : Parser} → p ≡ q → {l : State} {t : Token} → IsAt q → q.token.kind ≡ RCurly → (faults : List Diagnostic) × GivesAgain template_tail p.lexer l p.token t [] faults → IsTemplatePart q (record p { lexer = l; token = t })
 template_seen {p} {q} v {l} {t} a k x = subst (λ (r : Parser). IsTemplatePart r (record p { lexer = l; token = t })) v (template_again (subst IsAt (sym v) a) (ap (λ (r : Parser). may_be_more r.token.kind) v ∙ brace_may q.token.kind k) x)
 
 regular_expression_again : {p : Parser} {l : State} {t : Token} {end : ℕ} → IsAt p → may_be_more p.token.kind ≡ true → (going_on : List Diagnostic) × (faults : List Diagnostic) × GivesAgain regular_expression p.lexer l p.token t going_on faults × FlagsStand p.lexer.text end t going_on → IsRegularExpression end p (record p { lexer = l; token = t })
 unfolding read_again
-regular_expression_again {p} {l} {t} {end} a m x = record { read = read_again a m x.2 (λ e. flags_found p.lexer.text end t x.0 x.3 e); flags = subst (λ (w : List ℕ). FlagsStand w end t x.0) a.reads x.3 }
+regular_expression_again {p} {l} {t} {end} a m x = let f = subst (λ (w : List ℕ). FlagsStand w end t x.0) a.reads x.3 in record { read = read_again a m x.2 (end, f) (λ e. flags_found p.lexer.text end t x.0 x.3 e); flags = f }
 
 pub regular_expression_seen : {p q : Parser} → p ≡ q → {l : State} {t : Token} {end : ℕ} → IsAt q → (q.token.kind ≡ Slash) ⊎ (q.token.kind ≡ SlashEq) → (going_on : List Diagnostic) × (faults : List Diagnostic) × GivesAgain regular_expression p.lexer l p.token t going_on faults × FlagsStand p.lexer.text end t going_on → IsRegularExpression end q (record p { lexer = l; token = t })
 regular_expression_seen {p} {q} v {l} {t} {end} a k x = subst (λ (r : Parser). IsRegularExpression end r (record p { lexer = l; token = t })) v (regular_expression_again (subst IsAt (sym v) a) (ap (λ (r : Parser). may_be_more r.token.kind) v ∙ slash_may q.token.kind k) x)

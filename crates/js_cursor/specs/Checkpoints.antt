@@ -13,6 +13,7 @@ use Rattle.js_cursor.specs.declared.state.CoverInitializer.{CoverInitializer}
 use Rattle.js_cursor.specs.Notes.{Notes}
 use Rattle.js_cursor.specs.Parsers.{Parser}
 use Rattle.js_cursor.specs.Tokens.{IsToken, StillKept}
+use Rattle.js_cursor.specs.Stages.{Leads, stage}
 use Rattle.js_cursor.specs.Places.{IsAt, KeptBefore, goal}
 
 -- The checkpoint tells where the parser is, its parameters and how deep it is, and how much it and its lexer have kept.
@@ -84,6 +85,7 @@ pub record Follows (old new : Parser) : Type 0 where
   pub faults : new.lexer.kept.errors ≡ old.lexer.kept.errors ++ later_faults
   pub longer : AreAtMost (lengths_of old.lexer.kept) (lengths_of new.lexer.kept)
   pub still : StillKept old.lexer old.token new.lexer new.token
+  pub leads : Leads (goal old) old.text (stage old) (stage new)
 
 -- The parser stands where lexemes lead to, and what was kept is still there.
 abbrev pub GoesOn : Parser → Parser → Type 0

@@ -5,6 +5,7 @@ pub mod Parsers
 pub mod Tokens
 pub mod Places
 pub mod Markers
+pub mod Stages
 pub mod Moves
 pub mod Starts
 pub mod Checkpoints

@@ -11,7 +11,7 @@ use Rattle.js_tree.specs.js_grammar.Grammar.{Lexeme}
 use Rattle.js_tree.specs.js_grammar.Lexemes.{LexicalGoal, division, regular_expression, template_tail}
 use Rattle.js_tree.specs.js_grammar.Lexed.{Lex, all_faults}
 use Rattle.js_lex.specs.Reading.{Tells, GivesNext, GivesAgain, FlagsStand}
-use Rattle.js_lex.specs.States.{State, SameText}
+use Rattle.js_lex.specs.States.{State, SameText, goal_of}
 use Rattle.js_cursor.specs.declared.stop.Stop.{Stop}
 use Rattle.js_cursor.specs.declared.stop.Stop.TheVariants.{Fatal, NoMemory}
 use Rattle.js_cursor.specs.declared.stop.ListStep.{ListStep}
@@ -23,6 +23,7 @@ use Rattle.js_tree.specs.js_grammar.Marks.{LexemeAt, any_lexeme, opens, StandsAt
 use Rattle.js_cursor.specs.Markers.{lexeme_of, Related}
 use Rattle.js_cursor.specs.Places.{IsAt, goal}
 use Rattle.js_cursor.specs.Tokens.{may_be_read_again}
+use Rattle.js_cursor.specs.Stages.{ReadsAs}
 
 -- All but the place and the lexer stays.
 pub record Stays (old new : Parser) : Type 0 where
@@ -49,6 +50,7 @@ pub record Passed (old new : Parser) : Type 0 where
   pub stood : Lex all_faults old.text old.prev_token_end lexeme
   pub tells : Tells lexeme old.token
   pub moved : new.prev_token_end ≡ lexeme.to
+  pub last : old.lexer.place ≡ lexeme.to
   pub next : GivesNext division old.lexer new.lexer new.token
   pub stays : Stays old new
   pub at : IsAt new
@@ -59,6 +61,7 @@ pub record ReadAgain (goal : LexicalGoal) (old new : Parser) : Type 0 where
   pub faults : List Diagnostic
   pub again : GivesAgain goal old.lexer new.lexer old.token new.token going_on faults
   pub may_be : may_be_read_again old.token.kind ≡ true
+  pub reads_as : ReadsAs goal (goal_of old.source_type) old.text old.prev_token_end old.token new.token faults
   pub place : new.prev_token_end ≡ old.prev_token_end
   pub stays : Stays old new
   pub at : IsAt new

@@ -28,7 +28,8 @@ use Rattle.js_core.proofs.Lists.{first_empty}
 use Rattle.js_core.specs.Readings.{HasNoReading, HasNoReadingBy, IsOnlyReadingBy, AreOf}
 use Rattle.js_parser.specs.Broken.{told_in}
 use Rattle.js_parser.specs.declared.early.Position.TheVariants.{Anywhere}
-use Rattle.js_parser.specs.FaultsTold.{without_last}
+use Rattle.js_parser.specs.FaultsTold.{EndsAt, is_stopped_by_fault, without_last}
+use Rattle.js_cursor.specs.Stages.{stage}
 use Rattle.js_parser.specs.Leftover.{leftover, with_leftover}
 use Rattle.js_parser.specs.NodeSpans.{SlotsLie}
 use Rattle.js_parser.proofs.Leftovers.{all_early, covered, early_marked, in_program, told_in_program, leftover_early, leftover_marked, leftover_none, none_before, none_leftover, none_read, only_read, spans_lie, spans_marked}
@@ -116,8 +117,8 @@ one_at_least d ds e = cc
 pub nodes_lie : {p : Parser} {ids : List (Option NodeId)} (span : Span) (nodes : List Node) → span.start ≡ 0 → span.end ≡ p.token.span.end → nodes ≡ with_program (program_node span ids) p.nodes → IsAt p → NodesLie p.text p.nodes → NodesLie p.text nodes
 nodes_lie {p} {ids} span nodes a b n h l = subst (λ (ns : List Node). NodesLie p.text ns) (sym n) (program_lie (program_node span ids) tt p.nodes (subst (λ (v : Span). LiesIn v p.text) (sym (span_is span a b)) (record { ordered = omega arith; starts_whole = IsCharBoundary-start p.text h.utf8; ends_whole = h.lies.ends_whole })) l)
 
-pub taken_answer : {text : List ℕ} {s : SourceType} {o : ParseOptions} {asks : Bool} {p : Parser} {ids : List (Option NodeId)} (span : Span) (nodes : List Node) (out kept : LexerOutput) (early : List Diagnostic) (covers : List Span) → span.start ≡ 0 → span.end ≡ p.token.span.end → ((cs : Slots) → HoldsAll p.nodes 1 (length p.nodes) ids cs → IsTree nodes (program_tree span cs)) → nodes ≡ with_program (program_node span ids) p.nodes → ((t : Tree) → IsTree nodes t → early ≡ told_in p.text Anywhere t.slots) → ((t : Tree) → IsTree nodes t → covers ≡ map placed (initialised_in t.slots)) → out ≡ record kept { errors = with_leftover (p.lexer.kept.errors ++ p.errors) early covers } → LieIn p.lexer.text kept → ProgramTaken text s o asks p ids → IsAnswer text (goal_of s) (options_of o) nodes out false
-taken_answer {text} {s} {o} {asks} {p} {ids} span nodes out kept early covers a b t n f i e l h = go (p.lexer.kept.errors ++ p.errors) refl
+pub taken_answer : {text : List ℕ} {s : SourceType} {o : ParseOptions} {asks : Bool} {p : Parser} {ids : List (Option NodeId)} (span : Span) (nodes : List Node) (out kept : LexerOutput) (early : List Diagnostic) (covers : List Span) → kept ≡ p.lexer.kept → span.start ≡ 0 → span.end ≡ p.token.span.end → ((cs : Slots) → HoldsAll p.nodes 1 (length p.nodes) ids cs → IsTree nodes (program_tree span cs)) → nodes ≡ with_program (program_node span ids) p.nodes → ((t : Tree) → IsTree nodes t → early ≡ told_in p.text Anywhere t.slots) → ((t : Tree) → IsTree nodes t → covers ≡ map placed (initialised_in t.slots)) → out ≡ record kept { errors = with_leftover (p.lexer.kept.errors ++ p.errors) early covers } → LieIn p.lexer.text kept → ProgramTaken text s o asks p ids → IsAnswer text (goal_of s) (options_of o) nodes out false
+taken_answer {text} {s} {o} {asks} {p} {ids} span nodes out kept early covers w a b t n f i e l h = go (p.lexer.kept.errors ++ p.errors) refl
   where
     program : Tree
     program = program_tree (record { start = 0; end = p.token.span.end }) h.slots
@@ -149,6 +150,16 @@ taken_answer {text} {s} {o} {asks} {p} {ids} span nodes out kept early covers a 
     by_cover : (p.lexer.kept.errors ++ p.errors ≡ [] → IsOnlyReadingBy true text (goal_of s) (options_of o) program) × ((p.lexer.kept.errors ++ p.errors ≡ [] → ⊥) → HasNoReadingBy true text (goal_of s) (options_of o))
     by_cover = by_found text s o p h.slots (p.lexer.kept.errors ++ p.errors) refl h.outcome
 
+    ends_at : (found : List Diagnostic) → out.errors ≡ p.lexer.kept.errors ++ found → EndsAt text (goal_of s) out false found
+    ends_at found z = record {
+      stop = stage p;
+      came = h.came;
+      whole = λ q. h.last;
+      errors = z;
+      comments = ap (λ (x : LexerOutput). x.comments) e ∙ ap (λ (x : LexerOutput). x.comments) w;
+      blanks = ap (λ (x : LexerOutput). x.irregular_whitespaces) e ∙ ap (λ (x : LexerOutput). x.irregular_whitespaces) w;
+    }
+
     go : (ds : List Diagnostic) → p.lexer.kept.errors ++ p.errors ≡ ds → IsAnswer text (goal_of s) (options_of o) nodes out false
     go (d ∷ ds) q =
         let same : with_leftover (p.lexer.kept.errors ++ p.errors) early covers ≡ p.lexer.kept.errors ++ p.errors = ap (λ (v : List Diagnostic). with_leftover v early covers) q ∙ sym q in
@@ -170,6 +181,7 @@ taken_answer {text} {s} {o} {asks} {p} {ids} span nodes out kept early covers a 
           childless = λ z. absurd (false≢true z);
           no_tokens = λ z. absurd (false≢true z);
           stopped_only = λ z. absurd (false≢true z);
+          ends_at = ends_at p.errors (ap (λ (x : LexerOutput). x.errors) in_order);
           left = λ t r. absurd (by_cover.1 some t r);
         }
     go [] q =
@@ -203,6 +215,7 @@ taken_answer {text} {s} {o} {asks} {p} {ids} span nodes out kept early covers a 
           childless = λ z. absurd (false≢true z);
           no_tokens = λ z. absurd (false≢true z);
           stopped_only = λ z. absurd (false≢true z);
+          ends_at = ends_at (leftover early covers) (found_is ∙ sym (ap (λ (v : List Diagnostic). v ++ leftover early covers) (first_empty p.lexer.kept.errors p.errors q)));
           left = λ t r.
               let same : t ≡ program = (read.only t r).0 in
               (sym same, refl, found_is ∙ (left_is ∙ ap (λ (v : Tree). leftover (told_in text Anywhere v.slots) (map placed (initialised_in v.slots))) (sym same)));
@@ -244,8 +257,8 @@ all_without_last : (P : Diagnostic → Type 0) (b : Bool) (ds : List Diagnostic)
 all_without_last P true ds h = All-take P (length ds - 1) ds h
 all_without_last P false ds h = h
 
-pub refused_answer : {text : List ℕ} {s : SourceType} {o : ParseOptions} {p : Parser} {ids : List (Option NodeId)} (ns : List Node) (span : Span) (nodes : List Node) (faults_told : List Diagnostic) (out kept : LexerOutput) (b : Bool) → span.start ≡ 0 → span.end ≡ length p.text → faults_told ≡ without_last b p.lexer.kept.errors → ids ≡ [] → nodes ≡ with_program (program_node span ids) ns → ns ≡ p.nodes → out ≡ record kept { tokens = []; errors = faults_told ++ p.errors } → LieIn p.lexer.text kept → ProgramRefused text s o p → IsAnswer text (goal_of s) (options_of o) nodes out true
-refused_answer {text} {s} {o} {p} {ids} ns span nodes told out kept f a b k z t same e l h = record {
+pub refused_answer : {text : List ℕ} {s : SourceType} {o : ParseOptions} {p : Parser} {ids : List (Option NodeId)} (ns : List Node) (span : Span) (nodes : List Node) (faults_told : List Diagnostic) (out kept : LexerOutput) (b : Bool) → b ≡ is_stopped_by_fault (stage p) p.errors → kept ≡ p.lexer.kept → span.start ≡ 0 → span.end ≡ length p.text → faults_told ≡ without_last b p.lexer.kept.errors → ids ≡ [] → nodes ≡ with_program (program_node span ids) ns → ns ≡ p.nodes → out ≡ record kept { tokens = []; errors = faults_told ++ p.errors } → LieIn p.lexer.text kept → ProgramRefused text s o p → IsAnswer text (goal_of s) (options_of o) nodes out true
+refused_answer {text} {s} {o} {p} {ids} ns span nodes told out kept f g w a b k z t same e l h = record {
   told = told_all h.is_of told out.errors (ap (λ (x : LexerOutput). x.errors) e) are_faults;
   lie = lies h.is_of (record kept { tokens = [] }) out told e (record { comments = l.comments; irregular_whitespaces = l.irregular_whitespaces; tokens = All-nil (λ (d : Token). LiesIn d.span p.lexer.text); errors = l.errors }) are_faults;
   tree = program_tree (record { start = 0; end = length text }) end;
@@ -261,6 +274,14 @@ refused_answer {text} {s} {o} {p} {ids} ns span nodes told out kept f a b k z t 
   childless = λ q. refl;
   no_tokens = λ q. ap (λ (x : LexerOutput). x.tokens) e;
   stopped_only = λ q. h.none_loosely;
+  ends_at = record {
+    stop = stage p;
+    came = h.came;
+    whole = λ q. absurd (false≢true (sym q));
+    errors = ap (λ (x : LexerOutput). x.errors) e ∙ ap (λ (v : List Diagnostic). v ++ p.errors) (k ∙ ap (λ (c : Bool). without_last c p.lexer.kept.errors) g);
+    comments = ap (λ (x : LexerOutput). x.comments) e ∙ ap (λ (x : LexerOutput). x.comments) w;
+    blanks = ap (λ (x : LexerOutput). x.irregular_whitespaces) e ∙ ap (λ (x : LexerOutput). x.irregular_whitespaces) w;
+  };
   left = λ u r. absurd (h.none u r);
 }
   where

@@ -12,3 +12,4 @@ pub mod BuiltTrees
 pub mod Validity
 pub mod SameSource
 pub mod Starting
+pub mod ToldExamples

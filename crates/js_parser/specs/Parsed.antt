@@ -16,6 +16,7 @@ use Rattle.js_tree.specs.Covering.{placed}
 use Rattle.js_tree.specs.Nodes.{Node, empty_program}
 use Rattle.js_tree.specs.Holding.{IsTree, program_tree}
 use Rattle.js_parser.specs.Broken.{told_in}
+use Rattle.js_parser.specs.FaultsTold.{EndsAt}
 pub use Rattle.js_core.specs.Readings.{options_of}
 use Rattle.js_parser.specs.declared.answer.ParserReturn.{ParserReturn}
 use Rattle.js_parser.specs.declared.early.Position.TheVariants.{Anywhere}
@@ -38,7 +39,7 @@ output_of r = record { comments = r.program.comments; irregular_whitespaces = r.
 abbrev pub TellsLeftover : List ℕ → Goal → Options → Tree → List Diagnostic → Bool → Type 0
 TellsLeftover text goal o tree found fatal = (t : Tree) → ReadingBy true text goal o t → (tree ≡ t) × (fatal ≡ false) × (found ≡ leftover (told_in text Anywhere t.slots) (map placed (initialised_in t.slots)))
 
--- The answer for a text at a goal. Where nothing was found the tree is its only reading. Where something was, it has none. All spans of what was kept lie in the text and split no character, and so do those of all nodes, whether anything was found or not. Of what the parser itself found, each is of the class Early, but for a fatal diagnostic, which is the last one and of the class Syntax, Form or Lexical. After a fatal diagnostic Program has the whole text and no child, and no token was kept; and one comes only where the text has no reading even in the widest form in which texts are read on.
+-- The answer for a text at a goal. Where nothing was found the tree is its only reading. Where something was, it has none. All spans of what was kept lie in the text and split no character, and so do those of all nodes, whether anything was found or not. Of what the parser itself found, each is of the class Early, but for a fatal diagnostic, which is the last one and of the class Syntax, Form or Lexical. Each fault that was kept up to where the parse ended is told, in order, once, and so are comments and white space. After a fatal diagnostic Program has the whole text and no child, and no token was kept; and one comes only where the text has no reading even in the widest form in which texts are read on.
 pub record IsAnswer (text : List ℕ) (goal : Goal) (o : Options) (nodes : List Node) (out : LexerOutput) (fatal : Bool) : Type 0 where
   pub told : AreOf goal text out.errors
   pub lie : LieIn text out
@@ -55,6 +56,7 @@ pub record IsAnswer (text : List ℕ) (goal : Goal) (o : Options) (nodes : List 
   pub childless : fatal ≡ true → tree ≡ program_tree (record { start = 0; end = length text }) end
   pub no_tokens : fatal ≡ true → out.tokens ≡ []
   pub stopped_only : fatal ≡ true → HasNoLooseReading text goal o
+  pub ends_at : EndsAt text goal out fatal told.told
   pub left : TellsLeftover text goal o tree out.errors fatal
 
 -- The answer for a text that is too long: this is told, and nothing of it was read. Program stands at the text's start, without a child, and all else that is kept of a text is empty.

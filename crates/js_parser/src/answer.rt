@@ -1,9 +1,10 @@
 //! What a parse answers.
 
-ghost use Rattle.std.specs.Prelude.{ℕ, ◌≡◌, ◌++◌, Bool, false, List, [], IfOk, OnOk};
+ghost use Rattle.std.specs.Prelude.{ℕ, ◌≡◌, ◌++◌, Bool, false, true, List, [], IfOk, OnOk};
 ghost use Rattle.js_base.specs.declared.options.ParseOptions.{ParseOptions};
 ghost use Rattle.js_base.specs.declared.source_type.SourceType.{SourceType};
 ghost use Rattle.js_cursor.specs.Places.{IsAt};
+ghost use Rattle.js_cursor.specs.Stages.{stage};
 ghost use Rattle.js_grammar.specs.ModuleRecords.{record_of_parts};
 ghost use Rattle.js_cursor.specs.js_lex.States.{goal_of};
 ghost use Rattle.js_core.specs.laws_shared.States.{NodesLie};
@@ -97,7 +98,7 @@ pub fn refused(source_type: SourceType, p: RuntimeParser<'_>) -> Result<ParserRe
     requires { IsAt p }
     ensures answer { IfOk result (λ r. (text : List ℕ) (s : SourceType) (o : ParseOptions) → ProgramRefused text s o p.entry → IsAnswer text (goal_of s) (options_of o) r.program.tree (output_of r) r.fatal_error) }
     ensures kept { IfOk result (λ r. (text : List ℕ) (s : SourceType) (o : ParseOptions) (asks : Bool) → ProgramRefused text s o p.entry → KeepsRight text (goal_of s) (options_of o) asks (output_of r)) }
-    ensures told { IfOk result (λ r. r.diagnostics ≡ told_at_stop p.entry) }
+    ensures told { IfOk result (λ r. r.diagnostics ≡ told_at_stop true (stage p.entry) p.entry.errors) }
     ensures no_flow { IfOk result (λ r. r.is_flow_language ≡ false) }
     ensures source_type { IfOk result (λ r. r.program.source_type ≡ source_type) }
 {
@@ -160,7 +161,7 @@ pub fn overlong(alloc: Global, source_type: SourceType) -> Result<ParserReturn, 
 
 /// Whether the fatal diagnostic is the fault of what stands there, where no lexeme does.
 fn is_stopped_by_fault(p: &RuntimeParser<'_>) -> bool
-    ensures { result ≡ is_stopped_by_fault p.now }
+    ensures { result ≡ is_stopped_by_fault (stage p.now) p.now.errors }
 {
     p.at(Kind::Undetermined) && ends_in_fault(&p.errors)
 }

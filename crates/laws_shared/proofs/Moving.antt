@@ -268,7 +268,7 @@ pub same_with : {p q : Parser} (ns : List Node) → Same p q → Keeps p.nodes n
 same_with ns s k n =
     let f = s.follows in
     record {
-      follows = record { text = f.text; source_type = f.source_type; options = f.options; nodes = k; later_errors = f.later_errors; errors = f.errors; later_visits = f.later_visits; visits = f.visits; later_covers = f.later_covers; covers = f.covers; later_commas = f.later_commas; commas = f.commas; later_faults = f.later_faults; faults = f.faults; longer = f.longer; still = f.still };
+      follows = record { text = f.text; source_type = f.source_type; options = f.options; nodes = k; later_errors = f.later_errors; errors = f.errors; later_visits = f.later_visits; visits = f.visits; later_covers = f.later_covers; covers = f.covers; later_commas = f.later_commas; commas = f.commas; later_faults = f.later_faults; faults = f.faults; longer = f.longer; still = f.still; leads = f.leads };
       options = s.options;
       ctx = s.ctx;
       depth = s.depth;

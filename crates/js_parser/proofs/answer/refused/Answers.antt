@@ -9,6 +9,8 @@ use Rattle.js_core.proofs.laws_shared.Verdicts.{ending}
 
 pub returns-clause-answer : goal.returns-clause-answer
 returns-clause-answer c = λ text s o h. refused_answer c.into_parts-parts.result.ast c.new-span.result _ c.without_last-faults.result _ c.finish-kept.result c.is_stopped_by_fault-tells_fault.result
+    c.is_stopped_by_fault-tells_fault.ensures
+    (c.finish-kept.ensures.kept ∙ ap (λ (l : State). l.kept) c.into_parts-parts.ensures.lexer)
     c.new-span.ensures.start
     (c.new-span.ensures.end ∙ ap (λ (q : Parser). length q.text) c.p.view_is)
     (c.without_last-faults.ensures ∙ (λ i. without_last c.is_stopped_by_fault-tells_fault.result ((c.finish-kept.ensures.kept ∙ ap (λ (l : State). l.kept) c.into_parts-parts.ensures.lexer) i).errors))

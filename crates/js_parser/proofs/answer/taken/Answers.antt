@@ -17,7 +17,7 @@ use Rattle.js_parser.proofs.Answering.{nodes_lie, taken_answer, taken_kept}
 use Rattle.js_parser.proofs.answer.taken.Goals as goal
 
 pub returns-clause-answer : goal.returns-clause-answer
-returns-clause-answer c = λ text s o asks h. taken_answer c.new-span.result _ _ c.finish-kept.result c.in_ok-early.early c.in_ok-covers.covers.items c.new-span.ensures.start (c.new-span.ensures.end ∙ (c.end.ensures ∙ ap (λ (t : Token). t.span.end) c.cur_token.ensures))
+returns-clause-answer c = λ text s o asks h. taken_answer c.new-span.result _ _ c.finish-kept.result c.in_ok-early.early c.in_ok-covers.covers.items (c.finish-kept.ensures.kept ∙ ap (λ (l : State). l.kept) c.into_parts-parts.ensures.lexer) c.new-span.ensures.start (c.new-span.ensures.end ∙ (c.end.ensures ∙ ap (λ (t : Token). t.span.end) c.cur_token.ensures))
     (subst (λ (ns : List Node). (cs : Slots) → HoldsAll ns 1 (length ns) c.args.items.items cs → IsTree c.in_ok-tree.tree (program_tree c.new-span.result cs)) c.into_parts-parts.ensures.ast c.in_ok-tree.ensures.tree)
     (c.in_ok-tree.ensures.nodes ∙ ap (λ (ns : List Node). with_program (program_node c.new-span.result c.args.items.items) ns) c.into_parts-parts.ensures.ast)
     (subst (λ (w : List ℕ). (t : Tree) → IsTree c.in_ok-tree.tree t → c.in_ok-early.early ≡ told_in w Anywhere t.slots) (ap (λ (q : Parser). q.text) c.p.view_is) c.in_ok-early.ensures)
