@@ -8,6 +8,7 @@ use Rattle.js_base.specs.Kinds.{same_kind}
 use Rattle.js_cursor.specs.Stages.{Stage}
 use Rattle.js_parser.specs.FaultsTold.{is_lexical, told_at_stop, without_last}
 
+-- (part_text has it too, which this crate does not see)
 never : (b : Bool) → (b && false) ≡ false
 never true = refl
 never false = refl

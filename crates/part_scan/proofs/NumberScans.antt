@@ -9,7 +9,6 @@ use Rattle.js_base.specs.declared.kind.Kind.TheVariants.{Ident, PrivateIdentifie
 use Rattle.js_base.specs.declared.diagnostic.DiagnosticKind.{DiagnosticKind}
 use Rattle.js_base.specs.declared.diagnostic.DiagnosticKind.TheVariants as fault
 use Rattle.js_base.specs.Kinds.{code, same_kind, one_of_kinds}
-use Rattle.js_base.specs.Texts.{words}
 use Rattle.js_base.specs.part_text.Characters.{one_of, is_decimal, is_hex, is_octal, is_binary}
 use Rattle.part_words.specs.js_grammar.Characters.{begins}
 use Rattle.part_words.specs.js_grammar.Longest.{longest, none_longer}
@@ -137,22 +136,17 @@ reads_integer {text = text} {i = i} b n m x =
 above_words : (i : ℕ) → nat_lt 122 i ≡ true → (nat_eq 120 i ≡ false) × (nat_eq 121 i ≡ false)
 above_words i h = grind (arith, nat_tests)
 
-apart_codes : (i : ℕ) → nat_lt 122 i ≡ true → nat_lt i 120 ≡ true → ⊥
-apart_codes i h k = grind (arith, nat_tests)
+no_word : (i : ℕ) → nat_lt 122 i ≡ true → nat_lt i 62 ≡ false
+no_word i h = grind (arith, nat_tests)
 
 not_escaped : (k : Kind) (w : List ℕ) → is_number k ≡ true → is_escaped k w ≡ false
-unfolding words
-not_escaped k w h = let a = both_false in rw (a.0, a.1, no_word (one_of_kinds words k) refl) refl
+not_escaped k w h = let a = both_false in rw (a.0, a.1, no_word (code k) high) refl
   where
     high : nat_lt 122 (code k) ≡ true
     high = kind_member (λ i. nat_lt 122 i) (Decimal ∷ Float ∷ Binary ∷ Octal ∷ Hex ∷ PositiveExponential ∷ NegativeExponential ∷ DecimalBigInt ∷ BinaryBigInt ∷ OctalBigInt ∷ HexBigInt ∷ []) k h refl
 
     both_false : (same_kind Ident k ≡ false) × (same_kind PrivateIdentifier k ≡ false)
     both_false = above_words (code k) high
-
-    no_word : (b : Bool) → one_of_kinds words k ≡ b → one_of_kinds words k ≡ false
-    no_word true e = absurd (apart_codes (code k) high (kind_member (λ i. nat_lt i 120) words k e refl))
-    no_word false e = e
 
 begins_with_digit : (r : Rest) (v : List ℕ) (k : Kind) → digits is_decimal r false v ≡ Some k → begins is_decimal v ≡ true
 begins_with_digit r [] k e = cc
