@@ -1,5 +1,7 @@
 -- What a call answers, by what the conversion says and what was told (ECMA-262, 13.15.5).
-use Rattle.std.proofs.Common.{ℕ, suc, ◌≡◌, ◌≤◌, ◌<◌, inl, inr, Bool, true, false, cond, List, [], ◌∷◌, length, Option, Some, None, refl, sym, ap, subst, arith, ◌∙◌, append-nil}
+use Rattle.std.proofs.Common.{ℕ, suc, ◌≡◌, ◌≤◌, ◌<◌, inl, inr, Bool, true, false, cond, List, [], ◌∷◌, drop, length, Option, Some, None, refl, sym, ap, subst, arith, ◌∙◌, append-nil}
+use Rattle.std.specs.List.{All}
+use Rattle.std.proofs.lemmas.List.Elements.{All-nil}
 use Rattle.std.specs.Prelude.{Result, Ok, Err}
 use Rattle.std.proofs.lemmas.Bool.{false≢true}
 use Rattle.js_base.specs.declared.diagnostic.Diagnostic.{Diagnostic}
@@ -18,8 +20,8 @@ use Rattle.parse_shared.specs.laws_shared.States.{At, Same, NodesLie, Standing, 
 use Rattle.parse_shared.proofs.laws_shared.Giving.{gives_up_here}
 use Rattle.parse_shared.proofs.laws_shared.Moving.{beside_nodes, same_both, same_itself, same_with, standing, stops_behind}
 use Rattle.parse_targets.specs.declared.widening.Widening.{Widening}
-use Rattle.parse_targets.specs.Taken.{PlacesTold}
-use Rattle.parse_targets.specs.Targets.{Each, Fits, Narrow, Spotted, Noted, unnoted, Converted, converts, refuses, Converts, Refuses, OfNode, Reused, Slotted, Stood, one_node, is_assignment, relabelled}
+use Rattle.parse_targets.specs.Taken.{EachTold, PlacesTold}
+use Rattle.parse_targets.specs.Targets.{Each, Fits, Narrow, Spotted, Noted, unnoted, Converted, converts, refuses, Converts, Refuses, OfNode, OfTarget, Reused, Slotted, Stood, one_node, is_assignment, relabelled}
 use Rattle.parse_targets.proofs.ReusedNodes.{below_in, children_of}
 use Rattle.parse_targets.specs.Covered.{Answered, IsAssignment, KeepsInitialiser, an_expression, in_an_element, element_answer, target_answer, Covers, CoversAs, Finishes, Refused, Read, ReadBefore}
 use Rattle.parse_targets.proofs.Laws.{Law}
@@ -40,12 +42,29 @@ held_node {lo = lo} {hi = hi} (next_child {rs = rs} b h no_slots) w d = record {
 pub held_of : {os ns : List Node} {lo : ℕ} {rs : List ℕ} {id : NodeId} {l : Label} {cs : Slots} → AreWithin lo (length os) rs → lo ≤ length os → length os ≤ length ns → Slotted os ns rs (Some id ∷ []) (tree l cs end) → Holds ns lo (length ns) id.0 l cs
 held_of {os} {ns} {lo} {rs} w i j x = held_node x.stands (within_reused lo (length os) (length ns) rs x.numbers w i j x.reused) x.distinct
 
+-- so does the node itself
+reused_of : {os ns : List Node} {lo : ℕ} {rs : List ℕ} {id : NodeId} {l : Label} {cs : Slots} (w : AreWithin lo (length os) rs) (i : lo ≤ length os) (j : length os ≤ length ns) (x : Slotted os ns rs (Some id ∷ []) (tree l cs end)) → Each (Reused rs (length os) (length ns)) (held_of w i j x).numbers
+unfolding held_node held_of
+reused_of {os} {ns} {lo} {rs} w i j x = go x.stands (within_reused lo (length os) (length ns) rs x.numbers w i j x.reused) x.distinct x.reused
+  where
+    go : {qs : List ℕ} {below : ℕ} {id : NodeId} {l : Label} {cs : Slots} (s : StandsAll ns below (Some id ∷ []) (tree l cs end) qs) (v : AreWithin lo (length ns) qs) (d : AreDistinct qs) → Each (Reused rs (length os) (length ns)) qs → Each (Reused rs (length os) (length ns)) (held_node s v d).numbers
+    go (next_child {rs = ps} b h no_slots) v d e = subst (λ (xs : List ℕ). Each (Reused rs (length os) (length ns)) xs) (append-nil ps) e
+
 bounded : {text : List ℕ} {n : Symbol} {ns : List Node} {id : NodeId} (x : Read text n ns id) → AreWithin x.lo (length ns) (x.holds).numbers
 bounded {ns = ns} {id = id} x = both (x.holds).numbers (x.holds).within (AreWithin-wider 0 (suc id.0) 0 (length ns) (x.holds).numbers (omega arith) (let i = Stands-below (x.holds).stands in omega arith) (Stands-within (x.holds).stands))
   where
     both : (rs : List ℕ) → AreWithin x.lo x.hi rs → AreWithin 0 (length ns) rs → AreWithin x.lo (length ns) rs
     both [] a b = tt
     both (r ∷ rs) a b = (a.0, b.1, both rs a.2 b.2)
+
+-- in other words for the nodes
+held_there : {ns ms : List Node} {lo below : ℕ} {id : NodeId} {l : Label} {cs : Slots} (rs : List ℕ) → ms ≡ ns → (h : Holds ns lo (length ns) id.0 l cs) → Each (Reused rs below (length ns)) h.numbers → (k : Holds ms lo (length ms) id.0 l cs) × Each (Reused rs below (length ms)) k.numbers
+held_there {lo = lo} {below} {id} {l} {cs} rs e h r = subst (λ (ns : List Node). (k : Holds ns lo (length ns) id.0 l cs) × Each (Reused rs below (length ns)) k.numbers) (sym e) (h, r)
+
+-- where none was made
+none_since : (ns : List Node) → All OfTarget (drop (length ns) ns)
+none_since [] = All-nil OfTarget
+none_since (n ∷ ns) = none_since ns
 
 -- ---- what was converted
 
@@ -58,7 +77,7 @@ answer_of {places} {r} {os} {ns} {id} {notes} found e v = subst (λ (n : Noted).
 
 -- no place was told
 pub nothing_told : (p : Parser) → PlacesTold [] p p
-nothing_told p = record { at = λ text f a. a; same = same_itself; is = refl; verdict = clean refl tt }
+nothing_told p = record { at = λ text f a. a; same = same_itself; is = refl; verdict = clean refl tt; each = refl }
 
 made_of : {os ns : List Node} {rs : List ℕ} {notes : Noted} {ws : List Widening} {ids : List (Option NodeId)} {r : Option Slots} → Converted os ns rs unnoted notes ws (Some ids) r → Converts os ns rs unnoted notes ws ids r
 made_of (converts x) = x
@@ -109,19 +128,28 @@ module _ {n : Flags → Symbol} {Is : Label → Type 0} {m : Flags → Symbol} {
         let c = made_of {ids = Some t ∷ []} (of_read (Some t) x a) in
         let y = (law.of p.text f v w x i).sound c.slots c.is in
         let nodes : s.nodes ≡ q.nodes = ap (λ (z : Parser). z.nodes) g.is in
+        let lower : x.lo ≤ length p.nodes = (let k = (Holds-range x.holds).0 in let j = Holds-below x.holds in omega arith) in
+        let its = subst (λ (ts : Slots). Slotted p.nodes q.nodes (x.holds).numbers (Some t ∷ []) ts) y.1 c.slotted in
+        let held = held_there (x.holds).numbers nodes (held_of (bounded x) lower (Keeps-longer c.keeps) its) (reused_of (bounded x) lower (Keeps-longer c.keeps) its) in
         record {
           target = y.0;
           derived = y.2;
-          holds = subst (λ (ns : List Node). Holds ns x.lo (length ns) t.0 y.0.label y.0.slots) (sym nodes) (held_of (bounded x) (let k = (Holds-range x.holds).0 in let j = Holds-below x.holds in omega arith) (Keeps-longer c.keeps) (subst (λ (ts : Slots). Slotted p.nodes q.nodes (x.holds).numbers (Some t ∷ []) ts) y.1 c.slotted));
+          holds = held.0;
+          reused = held.1;
           keeps = subst (λ (ns : List Node). Keeps p.nodes ns) (sym nodes) c.keeps;
+          made = subst (λ (ns : List Node). All OfTarget (drop (length p.nodes) ns)) (sym nodes) (c.made (length p.nodes) (none_since p.nodes));
           is = g.is ∙ (ap (λ (z : Parser). record z { errors = s.errors }) e ∙ ap (λ (ns : List Node). record p { nodes = ns; errors = s.errors }) (sym nodes));
           at = λ text k h. g.at text k (subst (λ (z : Parser). At text k z) (sym e) (beside_nodes q.nodes h));
           same = same_both (same_there e c.keeps c.lies) g.same;
           told = told c.places_are g;
+          each = each c.places_are g;
         }
       where
         told : notes.places ≡ places x.label x.slots → PlacesTold notes.places q s → Verdict ⊥ p.errors s.errors (Each (Narrow p.text) (places x.label x.slots)) (Each (Narrow p.text) (places x.label x.slots) → ⊥)
         told h g = subst (λ (ws : List Widening). Verdict ⊥ p.errors s.errors (Each (Narrow p.text) ws) (Each (Narrow p.text) ws → ⊥)) h (subst (λ (ds : List Diagnostic). Verdict ⊥ ds s.errors (Each (Narrow p.text) notes.places) (Each (Narrow p.text) notes.places → ⊥)) (ap (λ (z : Parser). z.errors) e) (subst (λ (v : List ℕ). Verdict ⊥ q.errors s.errors (Each (Narrow v) notes.places) (Each (Narrow v) notes.places → ⊥)) (text_there p e) g.verdict))
+
+        each : notes.places ≡ places x.label x.slots → PlacesTold notes.places q s → EachTold p.text (places x.label x.slots) p.errors s.errors
+        each h g = subst (λ (ws : List Widening). EachTold p.text ws p.errors s.errors) h (subst (λ (ds : List Diagnostic). EachTold p.text notes.places ds s.errors) (ap (λ (z : Parser). z.errors) e) (subst (λ (v : List ℕ). EachTold v notes.places q.errors s.errors) (text_there p e) g.each))
 
     -- none was found
     uncovered : Answer places r p.nodes q.nodes id notes None → Standing p → GivesUp (IsUnexpected q) q s Fatal → Refused (m f) p s x

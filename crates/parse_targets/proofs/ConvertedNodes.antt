@@ -18,7 +18,7 @@ use Rattle.parse_shared.specs.js_tree.Nodes.{Node, label, node_at, empty_program
 use Rattle.parse_shared.specs.js_tree.Holding.{Stands, StandsAll, no_slots, next_child, next_hole, AreDistinct, AreWithin, Holds, Keeps}
 use Rattle.parse_shared.proofs.js_tree.HoldingLemmas.{Stands-kept, Stands-within, Keeps-refl, Keeps-trans, Keeps-made, Keeps-longer, AreWithin-wider, StandsAll-wider}
 use Rattle.parse_shared.specs.laws_shared.Moves.{plain_label}
-use Rattle.parse_targets.specs.Targets.{Within, in_literal, in_property, within, is_elision, is_spread, is_assignment, operator_places, literal_places, argument_places, property_places, is_object, is_literal, is_target, is_pattern, pattern_kind, target_of, target_in, Stood, Only, relabelled, literal_tree, target_by, slot_of, rest_slot, reference_slot, behind_first, shorthand_slot, named_slot, property_slot, element_slot, followed, before_all, elements_in, places_of, places_in, made_span, Noted, unnoted, Blames, IsIn, Slotted, Converts, Refuses, Converted, converts, refuses, one_slot, one_node, OfNode, Noded}
+use Rattle.parse_targets.specs.Targets.{MakesTargets, OfTarget, is_made, Within, in_literal, in_property, within, is_elision, is_spread, is_assignment, operator_places, literal_places, argument_places, property_places, is_object, is_literal, is_target, is_pattern, pattern_kind, target_of, target_in, Stood, Only, relabelled, literal_tree, target_by, slot_of, rest_slot, reference_slot, behind_first, shorthand_slot, named_slot, property_slot, element_slot, followed, before_all, elements_in, places_of, places_in, made_span, Noted, unnoted, Blames, IsIn, Slotted, Converts, Refuses, Converted, converts, refuses, one_slot, one_node, OfNode, Noded}
 use Rattle.parse_targets.specs.declared.widening.Widening.{Widening}
 use Rattle.parse_targets.specs.declared.widening.Widening.TheVariants.{Rest}
 use Rattle.parse_shared.specs.js_tree.declared.kind.NodeKind.TheVariants as node
@@ -33,7 +33,8 @@ use Rattle.parse_shared.proofs.laws_shared.NodeTexts.{untextual}
 use Rattle.parse_shared.specs.laws_shared.States.{NodesLie}
 use Rattle.parse_shared.proofs.laws_shared.MadeNodes.{LabelLies}
 use Rattle.js_base.specs.Spans.{LiesIn}
-use Rattle.std.proofs.lemmas.List.Elements.{All-same, All-push, All-get_or}
+use Rattle.std.proofs.lemmas.List.Elements.{All-nil, All-same, All-push, All-get_or}
+use Rattle.std.specs.List.{All}
 use Rattle.js_grammar.proofs.Frame.{append_assoc as append_both, append_end}
 
 -- ---- slots and numbers
@@ -73,6 +74,7 @@ blames_wider old mid new ws vs e f (inr g) = inr (g.0, g.1, f (Rest g.0) g.2)
 pub record Halfway (o : Bool) (os ns : List Node) (id : NodeId) (noted notes : Noted) (ids js : List (Option NodeId)) (at : ℕ) (cs : Slots) (rs : List ℕ) : Type 0 where
   pub keeps : Keeps os ns
   pub lies : (text : List ℕ) → NodesLie text os → NodesLie text ns
+  pub made : MakesTargets os ns
   pub done : Slots
   pub left : Slots
   pub before : List ℕ
@@ -103,6 +105,7 @@ loop_begins {o} {os} {id} {noted} {ids} {js} e h = λ l cs rs s d.
     record {
       keeps = Keeps-refl os;
       lies = λ text h. h;
+      made = λ j h. h;
       done = end;
       left = cs;
       before = [];
@@ -189,6 +192,7 @@ module _ {o : Bool} {os ns : List Node} {id c : NodeId} {noted notes : Noted} {i
   halfway_next {ms} {notes'} {last} {slot} n m v = record {
     keeps = Keeps-trans h.keeps v.keeps;
     lies = λ text w. v.lies text (h.lies text w);
+    made = λ j w. v.made j (h.made j w);
     done = append h.done v.slots;
     left = child.others;
     before = h.before ++ child.numbers;
@@ -203,7 +207,7 @@ module _ {o : Bool} {os ns : List Node} {id c : NodeId} {noted notes : Noted} {i
   }
 
   halfway_refused : {ms : List Node} {notes' : Noted} {last : Bool} → last ≡ is_nil more → Refuses ns ms notes notes' (spots_at o child.label child.slots) (element_slot last child.label child.slots (own_of child.label child.slots)) → Refuses os ms noted notes' (places_in (in_literal o) cs) (elements_in (in_literal o) cs)
-  halfway_refused {notes' = notes'} n v = record { keeps = Keeps-trans h.keeps v.keeps; lies = λ text w. v.lies text (h.lies text w); is = elements_left ∙ refused_by (elements_in (in_literal o) child.others) refl n v.is; blames = blames_wider noted notes notes' (spots_at o child.label child.slots) (places_in (in_literal o) cs) h.unblamed (λ w i. among_left w (in_left (spots_at o child.label child.slots) (places_in (in_literal o) child.others) w i)) v.blames }
+  halfway_refused {notes' = notes'} n v = record { keeps = Keeps-trans h.keeps v.keeps; lies = λ text w. v.lies text (h.lies text w); made = λ j w. v.made j (h.made j w); is = elements_left ∙ refused_by (elements_in (in_literal o) child.others) refl n v.is; blames = blames_wider noted notes notes' (spots_at o child.label child.slots) (places_in (in_literal o) cs) h.unblamed (λ w i. among_left w (in_left (spots_at o child.label child.slots) (places_in (in_literal o) child.others) w i)) v.blames }
 
 pub made_of : {os ns : List Node} {rs : List ℕ} {noted notes : Noted} {ws : List Widening} {ids : List (Option NodeId)} {r : Option Slots} → Converted os ns rs noted notes ws (Some ids) r → Converts os ns rs noted notes ws ids r
 made_of (converts x) = x
@@ -231,7 +235,7 @@ module _ {o : Bool} {os ns : List Node} {id c : NodeId} {noted notes : Noted} {i
 pub loop_hole : {o : Bool} {os ns : List Node} {id : NodeId} {noted notes : Noted} {ids js more : List (Option NodeId)} {at : ℕ} → ElementLoop o os ns id noted notes ids js at → drop at ids ≡ None ∷ more → OfNode os id (λ l cs rs. Refuses os ns noted notes (places_in (in_literal o) cs) (elements_in (in_literal o) cs))
 loop_hole {o} {os} {ns} {id} {ids = ids} {at = at} z q = λ l cs rs s d.
     let h = z l cs rs s d in
-    record { keeps = h.keeps; lies = h.lies; is = h.is ∙ ap (λ (r : Option Slots). joined h.done r) (no_child o (subst (λ (xs : List (Option NodeId)). StandsAll os id.0 xs h.left h.behind) q h.stands)); blames = inl h.unblamed }
+    record { keeps = h.keeps; lies = h.lies; made = h.made; is = h.is ∙ ap (λ (r : Option Slots). joined h.done r) (no_child o (subst (λ (xs : List (Option NodeId)). StandsAll os id.0 xs h.left h.behind) q h.stands)); blames = inl h.unblamed }
 
 pub loop_ends : {o : Bool} {os ns : List Node} {id : NodeId} {noted notes : Noted} {ids js : List (Option NodeId)} {at : ℕ} → ElementLoop o os ns id noted notes ids js at → drop at ids ≡ [] → OfNode os id (λ l cs rs. Converts os ns rs noted notes (places_in (in_literal o) cs) js (elements_in (in_literal o) cs))
 loop_ends {o} {os} {ns} {id} {noted} {notes} {ids} {js} {at} z q = λ l cs rs s d.
@@ -240,6 +244,7 @@ loop_ends {o} {os} {ns} {id} {noted} {notes} {ids} {js} {at} z q = λ l cs rs s 
     record {
       keeps = h.keeps;
       lies = h.lies;
+      made = h.made;
       slots = h.done;
       is = h.is ∙ (ap (λ (xs : Slots). joined h.done (elements_in (in_literal o) xs)) e ∙ ap Some (append_end h.done));
       slotted = slotted_wider (λ r i. subst (λ (xs : List ℕ). IsIn xs r) (sym h.split) (inr (in_left h.before h.behind r i))) h.slotted;
@@ -262,6 +267,20 @@ noded_lies os {ns} {ms} id n b e text h k =
     let place : LabelLies text (label n.node) = subst (λ (v : Span). LiesIn (record { start = v.from; end = v.to }) text) (sym (ap (λ (m : Label). m.span) n.label_is ∙ e)) (All-get_or (NodeFits text) os id.0 empty_program b h).lies in
     All-same (NodeFits text) ms (ns ++ n.node ∷ []) g.nodes (All-push (NodeFits text) ns n.node k (record { lies = place; texted = untextual n.node.kind n.node.name (chars (text_of n.node text)) n.plain }))
 
+-- a node of a target behind others
+made_on : (j : ℕ) (ns : List Node) (n : Node) → All OfTarget (drop j ns) → OfTarget n → All OfTarget (drop j (ns ++ n ∷ []))
+made_on zero ns n h p = All-push OfTarget ns n h p
+made_on (suc zero) [] n h p = All-nil OfTarget
+made_on (suc (suc j)) [] n h p = All-nil OfTarget
+made_on (suc j) (m ∷ ns) n h p = made_on j ns n h p
+
+pub noded_made : {ns ms : List Node} {l : Label} {ids : List (Option NodeId)} {made : NodeId} → Noded ns ms l ids made → is_made l.kind ≡ true → MakesTargets ns ms
+noded_made {ns} n e j h = subst (λ (xs : List Node). All OfTarget (drop j xs)) (sym (n.made).nodes) (made_on j ns n.node h (ap (λ (m : Label). is_made m.kind) n.label_is ∙ e))
+
+pattern_made : (o : Bool) → is_made (pattern_kind o) ≡ true
+pattern_made true = refl
+pattern_made false = refl
+
 -- a whole literal, of its elements
 pub literal_made : {os ns ms : List Node} {id made : NodeId} {noted notes : Noted} {ids : List (Option NodeId)} {k : Label} (o : Bool) → o ≡ is_object (label (node_at os id)).kind → (OfNode os id (λ l cs rs. Converts os ns rs noted notes (places_in (in_literal o) cs) ids (elements_in (in_literal o) cs))) → Noded ns ms k ids made → k ≡ relabelled (pattern_kind o) (label (node_at os id)) → OfNode os id (λ l cs rs. Converts os ms rs noted notes (places_in (in_literal (is_object l.kind)) cs) (Some made ∷ []) (slot_of (literal_tree l (elements_in (in_literal (is_object l.kind)) cs))))
 literal_made {os} {ns} {ms} {id} {made} {noted} {notes} o g x n e = λ l cs rs s d.
@@ -272,6 +291,7 @@ literal_made {os} {ns} {ms} {id} {made} {noted} {notes} o g x n e = λ l cs rs s
     record {
       keeps = Keeps-trans y.keeps (Keeps-made (n.made));
       lies = λ text h. noded_lies os id n (children_of {id = id} s).below (ap (λ (m : Label). m.span) e) text h (y.lies text h);
+      made = λ j w. noded_made n (ap (λ (m : Label). is_made m.kind) e ∙ pattern_made o) j (y.made j w);
       slots = tree (relabelled (pattern_kind (is_object l.kind)) l) y.slots end;
       is = ap (λ (b : Bool). slot_of (literal_tree l (elements_in (in_literal b) cs))) (sym h) ∙ ap (λ (r : Option Slots). slot_of (literal_tree l r)) y.is;
       slotted = subst (λ (m : Label). Slotted os ms rs (Some made ∷ []) (tree m y.slots end)) w (slotted_node y.keeps y.slotted n);
@@ -460,10 +480,10 @@ module _ {os : List Node} {id : NodeId} where
   span_told s e = e ∙ ap (λ (k : Label). made_span k.span) (sym (children_of {id = id} s).label_is)
 
   pub rest_not_last : (o : Bool) {noted notes : Noted} {m : MadeSpan} → m ≡ (node_at os id).span → notes.misplaced ≡ Some m → RestAnswer o os os id noted notes false None
-  rest_not_last o e n = λ l cs rs s d. refuses (record { keeps = Keeps-refl os; lies = λ text h. h; is = refl; blames = inr (made_span l.span, n ∙ ap Some (span_told s e), in_rest o l cs) })
+  rest_not_last o e n = λ l cs rs s d. refuses (record { keeps = Keeps-refl os; lies = λ text h. h; made = λ j h. h; is = refl; blames = inr (made_span l.span, n ∙ ap Some (span_told s e), in_rest o l cs) })
 
   pub rest_without : (o : Bool) {noted : Noted} → Only (node_at os id).children None → RestAnswer o os os id noted noted true None
-  rest_without o k = λ l cs rs s d. refuses (record { keeps = Keeps-refl os; lies = λ text h. h; is = no_one_child l k (children_of {id = id} s).stands; blames = inl refl })
+  rest_without o k = λ l cs rs s d. refuses (record { keeps = Keeps-refl os; lies = λ text h. h; made = λ j h. h; is = no_one_child l k (children_of {id = id} s).stands; blames = inl refl })
 
   module _ {c : NodeId} (k : Only (node_at os id).children (Some c)) where
     argument : {l : Label} {cs : Slots} {rs : List ℕ} (s : Stands os id.0 l cs rs) → OneChild os id.0 c cs (children_of {id = id} s).numbers
@@ -491,6 +511,7 @@ module _ {os : List Node} {id : NodeId} where
           refuses (record {
             keeps = y.keeps;
             lies = y.lies;
+            made = y.made;
             is = ap (λ (xs : Slots). rest_slot true l (elements_in (in_literal false) xs)) x.is ∙ rest_none l x.label x.slots (own_of x.label x.slots) y.is;
             blames = blames_wider noted noted notes (cond (is_literal x.label.kind) own []) (rest_places o l cs) refl (λ w i. in_left (places_in (in_literal false) cs) (argument_places o cs ++ Rest (made_span l.span) ∷ []) w (subst (λ (xs : Slots). IsIn (places_in (in_literal false) xs) w) (sym x.is) (in_left (spots_at false x.label x.slots) [] w (in_own x.label x.slots own w i)))) y.blames;
           })
@@ -513,6 +534,7 @@ module _ {os : List Node} {id : NodeId} where
               record {
                 keeps = Keeps-trans y.keeps (Keeps-made (n.made));
                 lies = λ text w. noded_lies os id n h.below (ap (λ (m : Label). m.span) e) text w (y.lies text w);
+                made = λ j w. noded_made n (ap (λ (m : Label). is_made m.kind) e) j (y.made j w);
                 slots = tree (relabelled assignment_target_rest l) y.slots end;
                 is = ap (λ (xs : Slots). rest_slot true l (elements_in (in_literal false) xs)) x.is ∙ (rest_some l x.label x.slots (own_of x.label x.slots) q.0 q.1 ∙ ap (λ (xs : Slots). Some (tree (relabelled assignment_target_rest l) xs end)) (sym q.2));
                 slotted = slotted_wider (λ r i. subst (λ (xs : List ℕ). IsIn xs r) (sym h.is) (inr i)) (subst (λ (z : Label). Slotted os ms h.numbers (Some made ∷ []) (tree z y.slots end)) r (slotted_node y.keeps y.slotted n));
@@ -604,6 +626,7 @@ assignment_made {os} {ns} {id} {made} {noted} {notes} {m} n g w = λ l cs rs s d
     converts (record {
       keeps = Keeps-made (n.made);
       lies = λ text w. noded_lies os id n (children_of {id = id} s).below refl text w w;
+      made = λ j w. noded_made n refl j w;
       slots = tree (relabelled assignment_target_with_default l) cs end;
       is = refl;
       slotted = initialised_made {id = id} n l cs rs s d;
@@ -625,6 +648,7 @@ element_hole o {os} {id} {noted} last h = λ l cs rs s d. converts (by l cs rs (
     by l cs rs a = record {
       keeps = Keeps-refl os;
       lies = λ text h. h;
+      made = λ j h. h;
       slots = hole end;
       is = rw a refl;
       slotted = slotted_hole os rs;
@@ -666,8 +690,8 @@ target_literal {id = id} found h v = λ l cs rs s d.
     answer_as (one_node found) (ap (λ (z : Within). places_in z cs) w ∙ cond_true (is_literal l.kind) (places_in (within l.kind) cs) b) (ap (λ (z : Within). slot_of (literal_tree l (elements_in z cs))) w ∙ ap slot_of (sym (literal_by l cs (own_of l cs) b))) (v l cs rs s d)
 
 pub renoted : {os ns : List Node} {rs : List ℕ} {noted : Noted} (ids : Option (List (Option NodeId))) {r : Option Slots} → Converted os ns rs unnoted unnoted [] ids r → Converted os ns rs noted noted [] ids r
-renoted {noted = noted} (Some ids) (converts x) = converts (record { keeps = x.keeps; lies = x.lies; slots = x.slots; is = x.is; slotted = x.slotted; places_are = sym (append-nil noted.places); unblamed = refl })
-renoted None (refuses x) = refuses (record { keeps = x.keeps; lies = x.lies; is = x.is; blames = inl refl })
+renoted {noted = noted} (Some ids) (converts x) = converts (record { keeps = x.keeps; lies = x.lies; made = x.made; slots = x.slots; is = x.is; slotted = x.slotted; places_are = sym (append-nil noted.places); unblamed = refl })
+renoted None (refuses x) = refuses (record { keeps = x.keeps; lies = x.lies; made = x.made; is = x.is; blames = inl refl })
 
 pub target_simple : {os : List Node} {id : NodeId} {noted : Noted} (found : Option NodeId) → is_literal (label (node_at os id)).kind ≡ false → OfNode os id (λ l cs rs. Converted os os rs unnoted unnoted [] (one_node found) (slot_of (target_of l cs))) → TargetAnswer os os id noted noted found
 target_simple {id = id} {noted = noted} found h v = λ l cs rs s d. let b = kind_here {id = id} is_literal h s in answer_as (one_node found) (cond_false (is_literal l.kind) (places_in (within l.kind) cs) b) (ap slot_of (sym (simple_by l cs (own_of l cs) b))) (renoted (one_node found) (v l cs rs s d))
@@ -678,12 +702,12 @@ abbrev pub SimpleAnswer : List Node → NodeId → Option NodeId → Type 0
 SimpleAnswer os id found = OfNode os id (λ l cs rs. Converted os os rs unnoted unnoted [] (one_node found) (slot_of (target_of l cs)))
 
 wider_answer : {os : List Node} {rs ss : List ℕ} (ids : Option (List (Option NodeId))) {r : Option Slots} → ((q : ℕ) → IsIn rs q → IsIn ss q) → Converted os os rs unnoted unnoted [] ids r → Converted os os ss unnoted unnoted [] ids r
-wider_answer (Some ids) f (converts x) = converts (record { keeps = x.keeps; lies = x.lies; slots = x.slots; is = x.is; slotted = slotted_wider f x.slotted; places_are = x.places_are; unblamed = x.unblamed })
-wider_answer None f (refuses x) = refuses (record { keeps = x.keeps; lies = x.lies; is = x.is; blames = inl refl })
+wider_answer (Some ids) f (converts x) = converts (record { keeps = x.keeps; lies = x.lies; made = x.made; slots = x.slots; is = x.is; slotted = slotted_wider f x.slotted; places_are = x.places_are; unblamed = x.unblamed })
+wider_answer None f (refuses x) = refuses (record { keeps = x.keeps; lies = x.lies; made = x.made; is = x.is; blames = inl refl })
 
 module _ {os : List Node} {id : NodeId} where
   pub simple_none : is_parenthesized (label (node_at os id)).kind ≡ true → Only (node_at os id).children None → SimpleAnswer os id None
-  simple_none p o = λ l cs rs s d. refuses (record { keeps = Keeps-refl os; lies = λ text h. h; is = ap slot_of (empty_parens {id = id} o p (holds_node {id = id} s d)); blames = inl refl })
+  simple_none p o = λ l cs rs s d. refuses (record { keeps = Keeps-refl os; lies = λ text h. h; made = λ j h. h; is = ap slot_of (empty_parens {id = id} o p (holds_node {id = id} s d)); blames = inl refl })
 
   pub simple_inside : {c : NodeId} (found : Option NodeId) → is_parenthesized (label (node_at os id)).kind ≡ true → Only (node_at os id).children (Some c) → SimpleAnswer os c found → SimpleAnswer os id found
   simple_inside {c} found p o v = λ l cs rs s d.
@@ -696,6 +720,7 @@ module _ {os : List Node} {id : NodeId} where
   simple_itself p t = λ l cs rs s d. converts (record {
     keeps = Keeps-refl os;
     lies = λ text h. h;
+    made = λ j h. h;
     slots = tree l cs end;
     is = ap slot_of (directly l cs true (kind_here {id = id} is_parenthesized p s) (kind_here {id = id} is_target t s));
     slotted = slotted_old (λ r i. i) s d;
@@ -704,7 +729,7 @@ module _ {os : List Node} {id : NodeId} where
   })
 
   pub simple_refused : is_parenthesized (label (node_at os id)).kind ≡ false → is_target (label (node_at os id)).kind ≡ false → SimpleAnswer os id None
-  simple_refused p t = λ l cs rs s d. refuses (record { keeps = Keeps-refl os; lies = λ text h. h; is = ap slot_of (directly l cs false (kind_here {id = id} is_parenthesized p s) (kind_here {id = id} is_target t s)); blames = inl refl })
+  simple_refused p t = λ l cs rs s d. refuses (record { keeps = Keeps-refl os; lies = λ text h. h; made = λ j h. h; is = ap slot_of (directly l cs false (kind_here {id = id} is_parenthesized p s) (kind_here {id = id} is_target t s)); blames = inl refl })
 
 -- ---- answers of the calls
 
@@ -715,7 +740,7 @@ pub literal_none : {os ns : List Node} {id : NodeId} {noted notes : Noted} (o : 
 literal_none {id = id} {noted} {notes} o g v = λ l cs rs s d.
     let y = refused_of (v l cs rs s d) in
     let h : o ≡ is_object l.kind = g ∙ ap (λ (m : Label). is_object m.kind) (sym (children_of {id = id} s).label_is) in
-    refuses (record { keeps = y.keeps; lies = y.lies; is = ap (λ (b : Bool). slot_of (literal_tree l (elements_in (in_literal b) cs))) (sym h) ∙ ap (λ (r : Option Slots). slot_of (literal_tree l r)) y.is; blames = subst (λ (b : Bool). Blames (places_in (in_literal b) cs) noted notes) h y.blames })
+    refuses (record { keeps = y.keeps; lies = y.lies; made = y.made; is = ap (λ (b : Bool). slot_of (literal_tree l (elements_in (in_literal b) cs))) (sym h) ∙ ap (λ (r : Option Slots). slot_of (literal_tree l r)) y.is; blames = subst (λ (b : Bool). Blames (places_in (in_literal b) cs) noted notes) h y.blames })
 
 pub literal_some : {os ns ms : List Node} {id made : NodeId} {noted notes : Noted} {ids : List (Option NodeId)} {k : Label} (o : Bool) → o ≡ is_object (label (node_at os id)).kind → ElementsAnswer o os ns id noted notes (Some ids) → Noded ns ms k ids made → k ≡ relabelled (pattern_kind o) (label (node_at os id)) → LiteralAnswer os ms id noted notes (Some made)
 literal_some {id = id} o g v n e = λ l cs rs s d. converts (literal_made {id = id} o g (λ l cs rs s d. made_of (v l cs rs s d)) n e l cs rs s d)

@@ -1,5 +1,5 @@
 -- What is told of places where an array literal is wider than a target (ECMA-262, 13.15.5).
-use Rattle.std.proofs.Common.{ℕ, ◌≡◌, ◌≤◌, ◌+◌, ◌⊎◌, inl, inr, Bool, true, false, not, List, [], ◌∷◌, ◌++◌, length, drop, zero, suc, None, refl, sym, ap, subst, arith, ◌∙◌}
+use Rattle.std.proofs.Common.{ℕ, ◌≡◌, ◌≤◌, ◌+◌, ◌⊎◌, inl, inr, Bool, true, false, not, List, [], ◌∷◌, ◌++◌, length, drop, take, zero, suc, None, refl, sym, ap, subst, arith, ◌∙◌}
 use Rattle.std.specs.Prelude.{IsCharBoundary, IsUtf8, slice_get, Some}
 use Rattle.std.proofs.Math.Seq.{drop-cons}
 use Rattle.std.proofs.lemmas.Option.{slice_get_within, get_or_from_slice_get}
@@ -25,7 +25,7 @@ use Rattle.parse_shared.specs.laws_shared.Answers.{Grown, Verdict, clean, unclea
 use Rattle.parse_shared.specs.laws_shared.Lexemes.{Lex, other_goals}
 use Rattle.js_base.specs.Diagnostics.{class_of}
 use Rattle.parse_shared.specs.laws_shared.Classes.{IsEarly}
-use Rattle.parse_targets.specs.Taken.{PlaceTold, PlacesTold, TellsOf}
+use Rattle.parse_targets.specs.Taken.{EachTold, OneTold, PlaceTold, PlacesTold, TellsOf}
 use Rattle.parse_shared.specs.laws_shared.States.{At, Same}
 use Rattle.parse_targets.specs.declared.widening.Widening.{Widening}
 use Rattle.parse_targets.specs.declared.widening.Widening.TheVariants.{Rest, RestTarget, Operator}
@@ -164,9 +164,33 @@ pub record ToldUpTo (places : List Widening) (old new : Parser) (from : ℕ) : T
   pub verdict : Verdict ⊥ old.errors new.errors (Each (Narrow old.text) (drop from places) → Each (Narrow old.text) places) (Each (Narrow old.text) places → ⊥)
   pub fits : Each (Fits old.text) (drop from places)
   pub spotted : Each (Spotted old.text) (drop from places)
+  pub each : EachTold old.text (take from places) old.errors new.errors
 
 pub places_begin : {places : List Widening} {p : Parser} → Each (Spotted p.text) places → Each (Fits p.text) places → ToldUpTo places p p 0
-places_begin e g = record { within = omega arith; at = λ text f a. a; same = same_itself; is = refl; drops = λ h. h; verdict = clean refl (λ h. h); fits = g; spotted = e }
+places_begin e g = record { within = omega arith; at = λ text f a. a; same = same_itself; is = refl; drops = λ h. h; verdict = clean refl (λ h. h); fits = g; spotted = e; each = refl }
+
+-- one place more was told of
+each_then : (text : List ℕ) (ws : List Widening) (w : Widening) (old mid new : List Diagnostic) → EachTold text ws old mid → OneTold text w mid new → EachTold text (ws ++ w ∷ []) old new
+each_then text [] w old mid new e h = (new, subst (λ (ds : List Diagnostic). OneTold text w ds new) e h, refl)
+each_then text (v ∷ ws) w old mid new e h = (e.0, e.1, each_then text ws w e.0 mid new e.2 h)
+
+take_one : {A : Type 0} (xs ys : List A) (x : A) (n : ℕ) → drop n xs ≡ x ∷ ys → take (suc n) xs ≡ take n xs ++ x ∷ []
+take_one [] ys x zero q = absurd (cc)
+take_one [] ys x (suc n) q = absurd (cc)
+take_one (z ∷ xs) ys x zero q = ap (λ v. v ∷ []) (cons_head q)
+  where
+    cons_head : z ∷ xs ≡ x ∷ ys → z ≡ x
+    cons_head e = cc
+take_one (z ∷ xs) ys x (suc n) q = ap (λ v. z ∷ v) (take_one xs ys x n q)
+
+take_next : {A : Type 0} (xs ys : List A) (x : A) (n : ℕ) → drop n xs ≡ x ∷ ys → take (n + 1) xs ≡ take n xs ++ x ∷ []
+take_next xs ys x n q = let e : n + 1 ≡ suc n = omega arith in ap (λ (k : ℕ). take k xs) e ∙ take_one xs ys x n q
+
+take_whole : {A : Type 0} (xs : List A) (n : ℕ) → length xs ≤ n → take n xs ≡ xs
+take_whole [] zero l = refl
+take_whole [] (suc n) l = refl
+take_whole (x ∷ xs) zero l = absurd (omega arith)
+take_whole (x ∷ xs) (suc n) l = ap (λ v. x ∷ v) (take_whole xs n (omega arith))
 
 pub next_place : (places : List Widening) (from : ℕ) (x : Widening) → slice_get places from ≡ Some x → drop from places ≡ x ∷ drop (from + 1) places
 next_place places from x e =
@@ -193,8 +217,15 @@ module _ {places : List Widening} {old mid : Parser} {from : ℕ} {place : Widen
   narrows : Each (Narrow old.text) places → Narrow old.text place × Each (Narrow old.text) (drop (from + 1) places)
   narrows h = subst (λ (xs : List Widening). Each (Narrow old.text) xs) q (z.drops h)
 
+  one_told : {new : Parser} → PlaceTold place mid new → OneTold old.text place mid.errors new.errors
+  one_told (inl t) = inl (narrow_place t.0, ap (λ (p : Parser). p.errors) t.1)
+  one_told (inr t) = inr (wide_place t.0, (t.1.0, t.1.1, ap (λ (p : Parser). p.errors) t.1.2.is))
+
+  each_next : {new : Parser} → PlaceTold place mid new → EachTold old.text (take (from + 1) places) old.errors new.errors
+  each_next {new = new} t = subst (λ (ws : List Widening). EachTold old.text ws old.errors new.errors) (sym (take_next places (drop (from + 1) places) place from q)) (each_then old.text (take from places) place old.errors mid.errors new.errors z.each (one_told t))
+
   pub places_next : {new : Parser} → from + 1 ≤ length places → PlaceTold place mid new → ToldUpTo places old new (from + 1)
-  places_next w (inl t) = record {
+  places_next {new = new} w (inl t) = record {
     within = w;
     at = λ text f a. subst (λ (p : Parser). At text f p) (sym t.1) (z.at text f a);
     same = subst (λ (p : Parser). Same old p) (sym t.1) z.same;
@@ -203,13 +234,14 @@ module _ {places : List Widening} {old mid : Parser} {from : ℕ} {place : Widen
     verdict = subst (λ (p : Parser). Verdict ⊥ old.errors p.errors (Each (Narrow old.text) (drop (from + 1) places) → Each (Narrow old.text) places) (Each (Narrow old.text) places → ⊥)) (sym t.1) (by z.verdict);
     fits = (subst (λ (xs : List Widening). Each (Fits old.text) xs) q z.fits).1;
     spotted = (subst (λ (xs : List Widening). Each (Spotted old.text) xs) q z.spotted).1;
+    each = each_next {new = new} (inl t);
   }
     where
       by : Verdict ⊥ old.errors mid.errors (Each (Narrow old.text) (drop from places) → Each (Narrow old.text) places) (Each (Narrow old.text) places → ⊥) → Verdict ⊥ old.errors mid.errors (Each (Narrow old.text) (drop (from + 1) places) → Each (Narrow old.text) places) (Each (Narrow old.text) places → ⊥)
       by (clean e h) = clean e (λ k. h (subst (λ (xs : List Widening). Each (Narrow old.text) xs) (sym q) (narrow_place t.0, k)))
       by (unclean g n) = unclean g n
       by (wider w g n) = elim w [ ]
-  places_next {new} w (inr t) = record {
+  places_next {new = new} w (inr t) = record {
     within = w;
     at = λ text f a. told_at t.1.2 (z.at text f a);
     same = same_both z.same (told_same t.1.2 (told_early place t.1.0 t.1.1));
@@ -218,6 +250,7 @@ module _ {places : List Widening} {old mid : Parser} {from : ℕ} {place : Widen
     verdict = unclean (grown z.verdict) (λ h. wide_place t.0 (narrows h).0);
     fits = (subst (λ (xs : List Widening). Each (Fits old.text) xs) q z.fits).1;
     spotted = (subst (λ (xs : List Widening). Each (Spotted old.text) xs) q z.spotted).1;
+    each = each_next {new = new} (inr t);
   }
     where
       grown : Verdict ⊥ old.errors mid.errors (Each (Narrow old.text) (drop from places) → Each (Narrow old.text) places) (Each (Narrow old.text) places → ⊥) → Grown old.errors new.errors
@@ -226,7 +259,7 @@ module _ {places : List Widening} {old mid : Parser} {from : ℕ} {place : Widen
       grown (wider w g n) = elim w [ ]
 
 pub places_end : {places : List Widening} {old new : Parser} {from : ℕ} → ToldUpTo places old new from → length places ≤ from → PlacesTold places old new
-places_end {places} {old} {new} {from} z l = record { at = z.at; same = z.same; is = z.is; verdict = by z.verdict }
+places_end {places} {old} {new} {from} z l = record { at = z.at; same = z.same; is = z.is; verdict = by z.verdict; each = subst (λ (ws : List Widening). EachTold old.text ws old.errors new.errors) (take_whole places from l) z.each }
   where
     none_left : (xs : List Widening) (n : ℕ) → length xs ≤ n → drop n xs ≡ []
     none_left [] zero l = refl

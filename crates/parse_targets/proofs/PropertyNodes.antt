@@ -11,8 +11,8 @@ use Rattle.parse_shared.specs.js_tree.Nodes.{Node, label, node_at}
 use Rattle.parse_shared.specs.js_tree.Holding.{Stands, StandsAll, no_slots, next_child, next_hole, AreDistinct, AreWithin}
 use Rattle.parse_shared.proofs.js_tree.HoldingLemmas.{Stands-within, Keeps-refl, Keeps-trans, Keeps-made, AreWithin-wider}
 use Rattle.parse_targets.specs.declared.widening.Widening.{Widening}
-use Rattle.parse_targets.specs.Targets.{IsIn, Stood, Two, in_literal, in_property, relabelled, initialiser_in, reference_slot, shorthand_slot, before_value, followed, named_slot, property_slot, property_places, element_slot, elements_in, places_in, Noted, unnoted, Blames, Slotted, Converted, converts, refuses, one_node, OfNode, Noded}
-use Rattle.parse_targets.proofs.ConvertedNodes.{own_of, spots_at, within_left, within_right, made_of, refused_of, holds_node, noded_lies, renoted, answer_as, ElementAnswer, PropertyAnswer}
+use Rattle.parse_targets.specs.Targets.{is_made, IsIn, Stood, Two, in_literal, in_property, relabelled, initialiser_in, reference_slot, shorthand_slot, before_value, followed, named_slot, property_slot, property_places, element_slot, elements_in, places_in, Noted, unnoted, Blames, Slotted, Converted, converts, refuses, one_node, OfNode, Noded}
+use Rattle.parse_targets.proofs.ConvertedNodes.{own_of, spots_at, within_left, within_right, made_of, refused_of, holds_node, noded_lies, noded_made, renoted, answer_as, ElementAnswer, PropertyAnswer}
 use Rattle.parse_targets.proofs.ReusedNodes.{children_of, in_left, in_right, distinct_left, distinct_right, distinct_apart, slotted_on, slotted_hole, slotted_wider, slotted_old, slotted_node}
 
 -- ---- the flag of a shorthand
@@ -152,7 +152,7 @@ named_here l cs ts h e = rw (h, e) refl
 
 module _ {os : List Node} {id : NodeId} where
   pub shorthand_none : None ≡ get_or (node_at os id).children 1 None → ShorthandAnswer os os id None
-  shorthand_none e = λ l cs rs s d. refuses (record { keeps = Keeps-refl os; lies = λ text h. h; is = no_shorthand l e (children_of {id = id} s).stands; blames = inl refl })
+  shorthand_none e = λ l cs rs s d. refuses (record { keeps = Keeps-refl os; lies = λ text h. h; made = λ j h. h; is = no_shorthand l e (children_of {id = id} s).stands; blames = inl refl })
 
   pub shorthand_made : {ns : List Node} {r made : NodeId} {third : Option NodeId} → Some r ≡ get_or (node_at os id).children 1 None → third ≡ get_or (node_at os id).children 2 None → Noded os ns (relabelled assignment_target_property_identifier (label (node_at os id))) (Some r ∷ third ∷ []) made → ShorthandAnswer os ns id (Some made)
   shorthand_made {ns} {r} {made} {third} e g n = λ l cs rs s d.
@@ -162,6 +162,7 @@ module _ {os : List Node} {id : NodeId} where
       converts (record {
         keeps = Keeps-made (n.made);
         lies = λ text w. noded_lies os id n k.below refl text w w;
+        made = λ j w. noded_made n refl j w;
         slots = tree (relabelled assignment_target_property_identifier l) x.slots end;
         is = x.is l;
         slotted = subst (λ (m : Label). Slotted os ns rs (Some made ∷ []) (tree (relabelled assignment_target_property_identifier m) x.slots end)) (sym k.label_is) (slotted_node (Keeps-refl os) (slotted_wider (λ q i. subst (λ (xs : List ℕ). IsIn xs q) (sym k.is) (inr i)) y) n);
@@ -179,7 +180,7 @@ module _ {os : List Node} {id : NodeId} where
   -- ---- a name and a value
 
   pub property_without : {noted : Noted} {f : NodeFlags} → f ≡ (node_at os id).flags → f.shorthand ≡ false → Two (node_at os id).children None → PropertyAnswer os os id noted noted None
-  property_without e h o = λ l cs rs s d. refuses (record { keeps = Keeps-refl os; lies = λ text h. h; is = named_none l cs (flag_here e h s) (not_two o (children_of {id = id} s).stands); blames = inl refl })
+  property_without e h o = λ l cs rs s d. refuses (record { keeps = Keeps-refl os; lies = λ text h. h; made = λ j h. h; is = named_none l cs (flag_here e h s) (not_two o (children_of {id = id} s).stands); blames = inl refl })
 
   module _ (a b : NodeId) (o : Two (node_at os id).children (Some (a, b))) where
     two : {l : Label} {cs : Slots} {rs : List ℕ} (s : Stands os id.0 l cs rs) → TwoChildren os id.0 a b cs (children_of {id = id} s).numbers
@@ -211,6 +212,7 @@ module _ {os : List Node} {id : NodeId} where
         refuses (record {
           keeps = y.keeps;
           lies = y.lies;
+          made = y.made;
           is = named_none l cs g (value_slots s ∙ followed_none x.key x.value x.inside x.slots (element_slot true x.value x.slots (own_of x.value x.slots)) y.is);
           blames = subst (λ (ws : List Widening). Blames ws noted notes) (sym (value_places s) ∙ places_here l (places_in in_property cs) g) y.blames;
         })
@@ -229,6 +231,7 @@ module _ {os : List Node} {id : NodeId} where
         converts (record {
           keeps = Keeps-trans y.keeps (Keeps-made (n.made));
           lies = λ text w. noded_lies os id n k.below (ap (λ (m : Label). m.span) q) text w (y.lies text w);
+          made = λ j w. noded_made n (ap (λ (m : Label). is_made m.kind) q) j (y.made j w);
           slots = tree (named_label l) (tree x.key x.inside y.slots) end;
           is = named_here l cs (tree x.key x.inside y.slots) g (value_slots s ∙ followed_some x.key x.value x.inside x.slots y.slots (element_slot true x.value x.slots (own_of x.value x.slots)) y.is);
           slotted = subst (λ (m : Label). Slotted os ms rs (Some made ∷ []) (tree m (tree x.key x.inside y.slots) end)) w (slotted_node y.keeps all n);

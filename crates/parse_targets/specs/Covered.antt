@@ -1,5 +1,6 @@
 -- What an expression covers: the target that is derived from its lexemes (ECMA-262, 13.15.5).
-use Rattle.std.specs.Prelude.{ℕ, ◌≡◌, Bool, true, cond, List, [], length, Option, Some, None, Result, Ok, Err, IsCharBoundary, IsUtf8}
+use Rattle.std.specs.Prelude.{ℕ, ◌≡◌, Bool, true, cond, List, [], drop, length, Option, Some, None, Result, Ok, Err, IsCharBoundary, IsUtf8}
+use Rattle.std.specs.List.{All}
 use Rattle.js_grammar.specs.Grammar.{Lexemes, Derives}
 use Rattle.js_grammar.specs.Lexed.{Lexes}
 use Rattle.js_grammar.specs.LexicalFaults.{Reached}
@@ -17,8 +18,8 @@ use Rattle.parse_shared.specs.js_cursor.declared.stop.Stop.TheVariants.{Fatal, N
 use Rattle.parse_shared.specs.laws_shared.Answers.{Stops, Verdict}
 use Rattle.parse_shared.specs.laws_shared.Lexemes.{Lex}
 use Rattle.parse_shared.specs.laws_shared.States.{At, Same}
-use Rattle.parse_targets.specs.Taken.{PlacesTold}
-use Rattle.parse_targets.specs.Targets.{Each, Narrow, in_literal, in_property, within, is_assignment, is_literal, is_object, literal_kind, operator_places, property_places, places_in, made_span, Converted, Noted, OfNode, one_node, elements_in, literal_tree, property_slot, relabelled, slot_of, target_by, target_of}
+use Rattle.parse_targets.specs.Taken.{EachTold, PlacesTold}
+use Rattle.parse_targets.specs.Targets.{Each, Narrow, OfTarget, Reused, in_literal, in_property, within, is_assignment, is_literal, is_object, literal_kind, operator_places, property_places, places_in, made_span, Converted, Noted, OfNode, one_node, elements_in, literal_tree, property_slot, relabelled, slot_of, target_by, target_of}
 use Rattle.parse_targets.specs.declared.widening.Widening.{Widening}
 
 -- ---- what was read
@@ -55,16 +56,19 @@ pub record ReadBefore (n : Flags → Symbol) (Is : Label → Type 0) (p : Parser
 
 -- ---- what is answered
 
--- The target that is derived from the same lexemes, and its node. What is told: nothing where the expression is at each of these places as narrow as a target has to be.
+-- The target that is derived from the same lexemes, and its node, which reaches numbers that the expression reached or that were given in the call, and no other; what was made is of targets alone, so each other expression inside is the same node. What is told: one diagnostic of each of these places where the expression is wider than a target may be, in their order, and nothing else; so nothing where it is narrow at each.
 pub record Covers (m : Symbol) {text : List ℕ} {n : Symbol} {from : NodeId} (places : Label → Slots → List Widening) (old new : Parser) (x : Read text n old.nodes from) (id : NodeId) : Type 0 where
   pub target : Tree
   pub derived : Derives rule m target x.place x.lexemes x.behind x.rest
   pub holds : Holds new.nodes x.lo (length new.nodes) id.0 target.label target.slots
+  pub reused : Each (Reused (x.holds).numbers (length old.nodes) (length new.nodes)) holds.numbers
   pub keeps : KeepsNodes old.nodes new.nodes
+  pub made : All OfTarget (drop (length old.nodes) new.nodes)
   pub is : new ≡ record old { nodes = new.nodes; errors = new.errors }
   pub at : (text : List ℕ) (f : Flags) → At text f old → At text f new
   pub same : Same old new
   pub told : Verdict ⊥ old.errors new.errors (Each (Narrow text) (places x.label x.slots)) (Each (Narrow text) (places x.label x.slots) → ⊥)
+  pub each : EachTold text (places x.label x.slots) old.errors new.errors
 
 -- no target is derived from the same lexemes
 abbrev pub NoneCovered : Symbol → {text : List ℕ} {n : Symbol} {ns : List Node} {from : NodeId} → Read text n ns from → Type 0

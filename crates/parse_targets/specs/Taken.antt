@@ -1,5 +1,5 @@
 -- What is told of an expression that is no target, and what the conversion of an array or object literal to a target answers (ECMA-262, 13.15.5).
-use Rattle.std.specs.Prelude.{ℕ, ◌≡◌, ◌⊎◌, ◌&&◌, not, Bool, true, false, cond, List, [], ◌∷◌, length, Option, Some, None, Result, Ok, Err}
+use Rattle.std.specs.Prelude.{ℕ, ◌≡◌, ◌⊎◌, ◌&&◌, not, Bool, true, false, cond, List, [], ◌∷◌, ◌++◌, length, Option, Some, None, Result, Ok, Err}
 use Rattle.js_base.specs.declared.diagnostic.Diagnostic.{Diagnostic}
 use Rattle.js_base.specs.declared.diagnostic.DiagnosticKind.TheVariants as fault
 use Rattle.js_base.specs.declared.kind.Kind.TheVariants.{Eq, In, Of}
@@ -71,12 +71,22 @@ TellsOf (Operator s) d = d ≡ unrelated_at fault.InvalidAssignmentTargetDefault
 abbrev pub PlaceTold : Widening → Parser → Parser → Type 0
 PlaceTold w old new = (Narrow old.text w × (new ≡ old)) ⊎ ((Narrow old.text w → ⊥) × ((d : Diagnostic) × TellsOf w d × Keeps d old new))
 
+-- Of diagnostics: none is told of a place where the literal is narrow, one is where it isn't.
+abbrev pub OneTold : List ℕ → Widening → List Diagnostic → List Diagnostic → Type 0
+OneTold text w old new = (Narrow text w × (new ≡ old)) ⊎ ((Narrow text w → ⊥) × ((d : Diagnostic) × TellsOf w d × (new ≡ old ++ d ∷ [])))
+
+-- the same of each of these places, in their order, and nothing else
+abbrev pub EachTold : List ℕ → List Widening → List Diagnostic → List Diagnostic → Type 0
+EachTold text [] old new = new ≡ old
+EachTold text (w ∷ ws) old new = (mid : List Diagnostic) × OneTold text w old mid × EachTold text ws mid new
+
 -- The same of each of these places.
 pub record PlacesTold (places : List Widening) (old new : Parser) : Type 0 where
   pub at : (text : List ℕ) (f : Flags) → At text f old → At text f new
   pub same : Same old new
   pub is : new ≡ record old { errors = new.errors }
   pub verdict : Verdict ⊥ old.errors new.errors (Each (Narrow old.text) places) (Each (Narrow old.text) places → ⊥)
+  pub each : EachTold old.text places old.errors new.errors
 
 -- An array or object literal was read up to this state, by a call before which so many diagnostics were kept.
 pub record LiteralRead (start : ℕ) (id : NodeId) (kept : ℕ) (q : Parser) : Type 0 where

@@ -1,5 +1,6 @@
 -- The simple target that an expression stands for (ECMA-262, 8.6.4): a name or a member, in parentheses or not; links of an optional chain stand in a node of their own. A target has no node for its parentheses.
-use Rattle.std.specs.Prelude.{ℕ, ◌≤◌, ◌<◌, ◌⊎◌, Bool, true, false, not, cond, ◌&&◌, ◌||◌, Option, Some, None, List, ◌≡◌, [], ◌∷◌, ◌++◌, length, IsCharBoundary}
+use Rattle.std.specs.Prelude.{ℕ, ◌≤◌, ◌<◌, ◌⊎◌, Bool, true, false, not, cond, ◌&&◌, ◌||◌, Option, Some, None, List, ◌≡◌, [], ◌∷◌, ◌++◌, drop, length, IsCharBoundary}
+use Rattle.std.specs.List.{All}
 use Rattle.js_base.specs.declared.kind.Kind.TheVariants.{Eq, Comma, Dot3, RBrack, RCurly}
 use Rattle.js_base.specs.declared.span.Span.{Span}
 use Rattle.js_base.specs.Kinds.{same_kind, one_of_kinds}
@@ -325,6 +326,23 @@ Blames ws old new = (new.misplaced ≡ old.misplaced) ⊎ ((s : Span) × (new.mi
 abbrev pub Reused : List ℕ → ℕ → ℕ → ℕ → Type 0
 Reused rs lo hi r = IsIn rs r ⊎ ((lo ≤ r) × (r < hi))
 
+-- a node of a target, as they are made of expressions
+abbrev pub is_made : NodeKind → Bool
+is_made array_assignment_target = true
+is_made object_assignment_target = true
+is_made assignment_target_rest = true
+is_made assignment_target_with_default = true
+is_made assignment_target_property_identifier = true
+is_made assignment_target_property_property = true
+is_made _ = false
+
+abbrev pub OfTarget : Node → Type 0
+OfTarget n = is_made (label n).kind ≡ true
+
+-- all nodes that were made since are of targets: where those from a number on were, they still are
+abbrev pub MakesTargets : List Node → List Node → Type 0
+MakesTargets os ns = (k : ℕ) → All OfTarget (drop k os) → All OfTarget (drop k ns)
+
 -- Children stand for slots, and reach no number twice.
 pub record Slotted (os ns : List Node) (rs : List ℕ) (ids : List (Option NodeId)) (ts : Slots) : Type 0 where
   pub numbers : List ℕ
@@ -341,11 +359,13 @@ pub record Converts (os ns : List Node) (rs : List ℕ) (noted notes : Noted) (w
   pub places_are : notes.places ≡ noted.places ++ ws
   pub unblamed : notes.misplaced ≡ noted.misplaced
   pub lies : (text : List ℕ) → NodesLie text os → NodesLie text ns
+  pub made : MakesTargets os ns
 
 -- It is converted to nothing.
 pub record Refuses (os ns : List Node) (noted notes : Noted) (ws : List Widening) (r : Option Slots) : Type 0 where
   pub keeps : Keeps os ns
   pub lies : (text : List ℕ) → NodesLie text os → NodesLie text ns
+  pub made : MakesTargets os ns
   pub is : r ≡ None
   pub blames : Blames ws noted notes
 
