@@ -9,7 +9,7 @@ use Rattle.std.proofs.Common.{◌⊎◌, inl, inr, ◌==◌, eqb-true}
 use Rattle.std.specs.Prelude.{codes}
 use Rattle.js_base.specs.part_text.Characters.{one_of}
 use Rattle.js_grammar.specs.Trivia.{after, within_line}
-use Rattle.js_grammar.specs.Lexed.{Lex, all_faults}
+use Rattle.js_grammar.specs.Lexed.{NextLexeme, all_faults}
 use Rattle.js_grammar.specs.LexicalLaws.{AtSlashOrBrace}
 use Rattle.js_grammar.specs.Lexemes.{LexicalGoal, kind_in, hashbang_kind, hashbang as hashbang_goal}
 use Rattle.js_grammar.proofs.Alike.{stands-same}
@@ -78,7 +78,7 @@ starts_so (c ∷ ws) k e = go (35 == c) refl
     go true n = (ws, ap (λ (a : ℕ). a ∷ ws) (sym (eqb-true 35 c n)))
 
 -- where one stands, it is the only lexeme, whichever goal is asked for
-pub alone : {text : List ℕ} {y z : Lexeme} (h : Lex all_faults text 0 y) → h.goal ≡ hashbang_goal → Lex all_faults text 0 z → y ≡ z
+pub alone : {text : List ℕ} {y z : Lexeme} (h : NextLexeme all_faults text 0 y) → h.goal ≡ hashbang_goal → NextLexeme all_faults text 0 z → y ≡ z
 alone {text} {y} {z} h g l = go (choice all_faults all_faults text 0 y z h l)
   where
     go : (y ≡ z) ⊎ AtSlashOrBrace text 0 → y ≡ z

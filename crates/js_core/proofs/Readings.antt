@@ -11,7 +11,7 @@ use Rattle.js_base.specs.Texts.{words}
 use Rattle.js_base.proofs.KindLemmas.{kind_of_same}
 use Rattle.js_grammar.specs.Trees.{Label, Slots, end, tree, Tree, no_op, hashbang}
 use Rattle.js_grammar.specs.Grammar.{Lexeme, Lexemes, last, next, here, Takes, is_nothing}
-use Rattle.js_grammar.specs.Lexed.{Lexes, Lex as StandsBehind, all_faults}
+use Rattle.js_grammar.specs.Lexed.{Lexes, NextLexeme, all_faults}
 use Rattle.js_grammar.specs.Lexemes.{is_escaped, division}
 use Rattle.js_grammar.specs.Parsing.{plain, Reads}
 use Rattle.js_grammar.specs.Productions.{Flags, at, Program}
@@ -105,7 +105,7 @@ end_here : {text : List ℕ} {f : Flags} {q : Parser} → At text f q → q.toke
 unfolding words
 end_here {text} {q = q} a e = go a.plain
   where
-    read_end : (y : Lexeme) → StandsBehind all_faults text q.prev_token_end y → y.kind ≡ Eof → IsTrue (is_read y)
+    read_end : (y : Lexeme) → NextLexeme all_faults text q.prev_token_end y → y.kind ≡ Eof → IsTrue (is_read y)
     read_end y l k =
         let n : y.escaped ≡ false = l.escaped ∙ ap (λ (v : Kind). is_escaped v l.word) k in
         read_of y k refl
@@ -540,7 +540,7 @@ module _ {b : Bool} {p : Parser} (s : Starts p.text p.source_type p.options b p)
   -- behind a hashbang comment
   module _ (k : p.token.kind ≡ HashbangComment) {m v : Parser} (d : Passed p m) {span : Span} {id : NodeId} (same_span : span ≡ p.token.span) (n : MadeHere (plain_label Hashbang op.None span) [] m v id) where
     comment_stands : LexemeBehind hashbang_goal p.text 0 d.lexeme
-    comment_stands = let h = begins_with_hashbang s k in subst (λ (y : Lexeme). LexemeBehind hashbang_goal p.text 0 y) (alone h.1.lex h.1.of_goal (subst (λ (i : ℕ). StandsBehind all_faults p.text i d.lexeme) s.prev_token_end d.stood)) h.1
+    comment_stands = let h = begins_with_hashbang s k in subst (λ (y : Lexeme). LexemeBehind hashbang_goal p.text 0 y) (alone h.1.lex h.1.of_goal (subst (λ (i : ℕ). NextLexeme all_faults p.text i d.lexeme) s.prev_token_end d.stood)) h.1
 
     kept_nothing : IsEmpty p.lexer.kept
     kept_nothing = go s.first

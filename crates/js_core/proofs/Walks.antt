@@ -3,7 +3,7 @@ use Rattle.std.proofs.Common.{ℕ, ◌≡◌, Bool, true, false, ◌&&◌, List,
 use Rattle.js_base.specs.declared.span.Span.{Span}
 use Rattle.js_base.specs.declared.token.Token.{Token}
 use Rattle.js_grammar.specs.Grammar.{Lexeme, Lexemes, last, next}
-use Rattle.js_grammar.specs.Lexed.{Lexes, Lex as StandsBehind, Passing, all_faults}
+use Rattle.js_grammar.specs.Lexed.{Lexes, NextLexeme, Passing, all_faults}
 use Rattle.js_grammar.specs.Settings.{Goal}
 use Rattle.parse_shared.specs.js_lex.Reading.{is_kept, kept_token}
 use Rattle.parse_shared.specs.js_lex.declared.comment.Comment.{Comment}
@@ -13,7 +13,7 @@ use Rattle.parse_shared.proofs.laws_shared.Paths.{behind_walk}
 use Rattle.js_core.specs.Kept.{each_of, comments_before, blanks_before, TellsEach}
 
 -- a lexeme that stands without faults stands whichever pass
-lenient : {passing : Passing} {text : List ℕ} {s : ℕ} {y : Lexeme} (h : StandsBehind passing text s y) → (l : StandsBehind all_faults text s y) × (l.trivia ≡ h.trivia)
+lenient : {passing : Passing} {text : List ℕ} {s : ℕ} {y : Lexeme} (h : NextLexeme passing text s y) → (l : NextLexeme all_faults text s y) × (l.trivia ≡ h.trivia)
 lenient h = (record { trivia = h.trivia; goal = h.goal; word = h.word; rest = h.rest; stands = h.stands; lexeme = h.lexeme; comments = refl; flags = refl; from = h.from; to = h.to; newline = h.newline; escaped = h.escaped; units = h.units }, refl)
 
 -- What stands before the first lexeme; and before the others.

@@ -11,7 +11,7 @@ pub use Rattle.parse_shared.specs.js_tree.declared.kind.NodeKind.TheVariants.{Ha
 pub use Rattle.parse_shared.specs.laws_shared.Answers.{Answers}
 pub use Rattle.parse_shared.specs.laws_shared.Methods.{ReadsWhole, parameters_of}
 pub use Rattle.parse_shared.specs.laws_shared.Moves.{MadeHere, plain_label}
-pub use Rattle.parse_shared.specs.laws_shared.Nesting.{CanNest, Reading, Reads, Ready, room}
+pub use Rattle.parse_shared.specs.laws_shared.Nesting.{CanNest, AnswersFor, Reads, Ready, room}
 pub use Rattle.parse_shared.specs.laws_shared.Statements.{TakesStatement, placed}
 pub use Rattle.parse_shared.specs.laws_shared.States.{Standing}
 pub use Rattle.parse_statements.specs.laws_statements.StatementLists.{AllRefused, AllTaken}

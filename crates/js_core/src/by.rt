@@ -5,7 +5,7 @@ ghost use Rattle.js_core.specs.Prelude.{Reads};
 use parse_operators::sequence::parse_sequence_expression;
 use parse_patterns::binding::parse_binding_pattern;
 use parse_patterns::parameters::parse_formal_parameters;
-use parse_shared::nested::{Goal, MethodForm, Nested};
+use parse_shared::nested::{MethodForm, Nested, Nonterminal};
 use parse_shared::{NodeId, ParserImpl, RuntimeParserConfig, Stop};
 use parse_statements::patterns::Patterns;
 use parse_statements::sequences::Sequences;
@@ -15,59 +15,59 @@ use parse_statements::sequences::Sequences;
 #[derive(Clone, Copy)]
 pub struct By<F>(pub F);
 
-impl<F: Fn(&mut ParserImpl<'_, RuntimeParserConfig>, Goal) -> Result<NodeId, Stop>> Nested<
+impl<F: Fn(&mut ParserImpl<'_, RuntimeParserConfig>, Nonterminal) -> Result<NodeId, Stop>> Nested<
     RuntimeParserConfig,
 > for By<F> {
-    ghost can = { λ s p goal. Reads (F.pre s.0) (F.post s.0) p goal };
+    ghost can = { λ s p what. Reads (F.pre s.0) (F.post s.0) p what };
 
     #[inline(always)]
     fn expression(&self, p: &mut ParserImpl<'_, RuntimeParserConfig>) -> Result<NodeId, Stop> {
-        (self.0)(p, Goal::Expression)
+        (self.0)(p, Nonterminal::Expression)
     }
 
     #[inline(always)]
     fn assignment(&self, p: &mut ParserImpl<'_, RuntimeParserConfig>) -> Result<NodeId, Stop> {
-        (self.0)(p, Goal::Assignment)
+        (self.0)(p, Nonterminal::Assignment)
     }
 
     #[inline(always)]
     fn element(&self, p: &mut ParserImpl<'_, RuntimeParserConfig>) -> Result<NodeId, Stop> {
-        (self.0)(p, Goal::Element)
+        (self.0)(p, Nonterminal::Element)
     }
 
     #[inline(always)]
     fn unary(&self, p: &mut ParserImpl<'_, RuntimeParserConfig>) -> Result<NodeId, Stop> {
-        (self.0)(p, Goal::Unary)
+        (self.0)(p, Nonterminal::Unary)
     }
 
     #[inline(always)]
     fn exponentiation(&self, p: &mut ParserImpl<'_, RuntimeParserConfig>) -> Result<NodeId, Stop> {
-        (self.0)(p, Goal::Exponentiation)
+        (self.0)(p, Nonterminal::Exponentiation)
     }
 
     #[inline(always)]
     fn binding(&self, p: &mut ParserImpl<'_, RuntimeParserConfig>) -> Result<NodeId, Stop> {
-        (self.0)(p, Goal::Binding)
+        (self.0)(p, Nonterminal::Binding)
     }
 
     #[inline(always)]
     fn statement(&self, p: &mut ParserImpl<'_, RuntimeParserConfig>) -> Result<NodeId, Stop> {
-        (self.0)(p, Goal::Statement)
+        (self.0)(p, Nonterminal::Statement)
     }
 
     #[inline(always)]
     fn list_item(&self, p: &mut ParserImpl<'_, RuntimeParserConfig>) -> Result<NodeId, Stop> {
-        (self.0)(p, Goal::ListItem)
+        (self.0)(p, Nonterminal::ListItem)
     }
 
     #[inline(always)]
     fn body(&self, p: &mut ParserImpl<'_, RuntimeParserConfig>) -> Result<NodeId, Stop> {
-        (self.0)(p, Goal::Body)
+        (self.0)(p, Nonterminal::Body)
     }
 
     #[inline(always)]
     fn parameters(&self, p: &mut ParserImpl<'_, RuntimeParserConfig>) -> Result<NodeId, Stop> {
-        (self.0)(p, Goal::Params)
+        (self.0)(p, Nonterminal::Params)
     }
 
     #[inline(always)]
@@ -76,11 +76,11 @@ impl<F: Fn(&mut ParserImpl<'_, RuntimeParserConfig>, Goal) -> Result<NodeId, Sto
         p: &mut ParserImpl<'_, RuntimeParserConfig>,
         form: MethodForm,
     ) -> Result<NodeId, Stop> {
-        (self.0)(p, Goal::MethodParameters(form))
+        (self.0)(p, Nonterminal::MethodParameters(form))
     }
 }
 
-impl<F: Fn(&mut ParserImpl<'_, RuntimeParserConfig>, Goal) -> Result<NodeId, Stop>> Patterns<
+impl<F: Fn(&mut ParserImpl<'_, RuntimeParserConfig>, Nonterminal) -> Result<NodeId, Stop>> Patterns<
     RuntimeParserConfig,
 > for By<F> {
     #[inline(always)]
@@ -97,9 +97,9 @@ impl<F: Fn(&mut ParserImpl<'_, RuntimeParserConfig>, Goal) -> Result<NodeId, Sto
     }
 }
 
-impl<F: Fn(&mut ParserImpl<'_, RuntimeParserConfig>, Goal) -> Result<NodeId, Stop>> Sequences<
-    RuntimeParserConfig,
-> for By<F> {
+impl<
+    F: Fn(&mut ParserImpl<'_, RuntimeParserConfig>, Nonterminal) -> Result<NodeId, Stop>,
+> Sequences<RuntimeParserConfig> for By<F> {
     #[inline(always)]
     fn sequence(&self, p: &mut ParserImpl<'_, RuntimeParserConfig>) -> Result<NodeId, Stop> {
         parse_sequence_expression(p, self)

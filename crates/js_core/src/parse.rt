@@ -1,7 +1,7 @@
 //! The one function that recurses, and the calls for others.
 
 ghost use Rattle.std.specs.Prelude.{◌≡◌, true, not, MatchResult};
-ghost use Rattle.js_core.specs.Prelude.{AllRefused, AllTaken, Answers, Assignment, at, Binding, Body, CanNest, Exponent, Expression, has_flag, in_flag, is_single, LeftHandSide, NamesProperty, parameters_of, Params, placed, Reading, ReadsWhole, Ready, room, Standing, TakesStatement, Text, TriesArrow};
+ghost use Rattle.js_core.specs.Prelude.{AllRefused, AllTaken, Answers, Assignment, at, Binding, Body, CanNest, Exponent, Expression, has_flag, in_flag, is_single, LeftHandSide, NamesProperty, parameters_of, Params, placed, AnswersFor, ReadsWhole, Ready, room, Standing, TakesStatement, Text, TriesArrow};
 ghost use Rattle.js_core.specs.Calls.{above};
 
 use crate::by::By;
@@ -19,7 +19,7 @@ use parse_primary::property_name;
 use parse_shared::lexemes::{
     ADDITIVE, AND, BIT_AND, BIT_OR, BIT_XOR, EQUALITY, MULTIPLICATIVE, OR, RELATIONAL, SHIFT,
 };
-use parse_shared::nested::{Goal, MethodForm, Nested};
+use parse_shared::nested::{MethodForm, Nested, Nonterminal};
 use parse_shared::{NodeId, ParserConfig, ParserImpl, RuntimeParserConfig, Stop};
 use parse_statements::forms::StatementList;
 use parse_statements::sequences::Sequences;
@@ -29,26 +29,26 @@ use parse_statements::{block, statement, statement_list};
 pub type RuntimeParser<'a> = ParserImpl<'a, RuntimeParserConfig>;
 
 /// Reads what is asked for, where productions nest by `nested`.
-pub fn parse_goal<C: ParserConfig, N: Sequences<C>>(
+pub fn parse_nonterminal<C: ParserConfig, N: Sequences<C>>(
     p: &mut ParserImpl<'_, C>,
     nested: &N,
-    goal: Goal,
+    what: Nonterminal,
 ) -> Result<NodeId, Stop>
-    requires at { Ready goal p.old }
+    requires at { Ready what p.old }
     requires nests { CanNest (N.can nested.now) (room p.old) }
-    ensures { Reading goal p.old p.new result }
+    ensures { AnswersFor what p.old p.new result }
 {
-    match goal {
-        Goal::Expression => parse_sequence_expression(p, nested),
-        Goal::Assignment | Goal::Element => parse_assignment_expression(p, nested),
-        Goal::Unary => parse_unary_expression_or_higher(p, nested),
-        Goal::Exponentiation => parse_exponentiation(p, nested),
-        Goal::Binding => binding::parse_binding_pattern(p, nested),
-        Goal::Statement => statement::parse_statement(p, nested),
-        Goal::ListItem => statement::parse_statement_list_item(p, nested),
-        Goal::Body => parse_body(p, nested),
-        Goal::Params => parse_parameters(p, nested),
-        Goal::MethodParameters(form) => parse_parameters_of_method(p, nested, form),
+    match what {
+        Nonterminal::Expression => parse_sequence_expression(p, nested),
+        Nonterminal::Assignment | Nonterminal::Element => parse_assignment_expression(p, nested),
+        Nonterminal::Unary => parse_unary_expression_or_higher(p, nested),
+        Nonterminal::Exponentiation => parse_exponentiation(p, nested),
+        Nonterminal::Binding => binding::parse_binding_pattern(p, nested),
+        Nonterminal::Statement => statement::parse_statement(p, nested),
+        Nonterminal::ListItem => statement::parse_statement_list_item(p, nested),
+        Nonterminal::Body => parse_body(p, nested),
+        Nonterminal::Params => parse_parameters(p, nested),
+        Nonterminal::MethodParameters(form) => parse_parameters_of_method(p, nested, form),
     }
 }
 
@@ -110,13 +110,13 @@ fn parse_parameters<C: ParserConfig, N: Nested<C>>(
 }
 
 /// Reads what is asked for, as many levels deeper as that takes.
-fn parse(p: &mut RuntimeParser<'_>, goal: Goal) -> Result<NodeId, Stop>
-    requires { Ready goal p.old }
-    ensures { Reading goal p.old p.new result }
+fn parse(p: &mut RuntimeParser<'_>, what: Nonterminal) -> Result<NodeId, Stop>
+    requires { Ready what p.old }
+    ensures { AnswersFor what p.old p.new result }
 {
-    let levels = goal.levels();
+    let levels = what.levels();
     p.enter(levels)?;
-    let node = parse_goal(p, &By(parse), goal)?;
+    let node = parse_nonterminal(p, &By(parse), what)?;
     p.leave(levels);
     Ok(node)
 }
@@ -126,7 +126,7 @@ pub fn parse_assignment_expression_or_higher(p: &mut RuntimeParser<'_>) -> Resul
     requires { Standing p.old }
     ensures { Answers (at Assignment) p.old p.new result }
 {
-    parse(p, Goal::Assignment)
+    parse(p, Nonterminal::Assignment)
 }
 
 /// An Expression (ECMA-262, section 13.16).
@@ -134,7 +134,7 @@ pub fn parse_expr(p: &mut RuntimeParser<'_>) -> Result<NodeId, Stop>
     requires { Standing p.old }
     ensures { Answers (at Expression) p.old p.new result }
 {
-    parse(p, Goal::Expression)
+    parse(p, Nonterminal::Expression)
 }
 
 /// A LeftHandSideExpression (ECMA-262, section 13.3).
@@ -150,7 +150,7 @@ pub fn parse_binding_pattern(p: &mut RuntimeParser<'_>) -> Result<NodeId, Stop>
     requires { Standing p.old }
     ensures { Answers (at Binding) p.old p.new result }
 {
-    parse(p, Goal::Binding)
+    parse(p, Nonterminal::Binding)
 }
 
 /// An arrow function whose parameters stand in parentheses, behind `async` on their line or not (ECMA-262, sections 15.3
@@ -225,7 +225,7 @@ pub fn parse_function_body(p: &mut RuntimeParser<'_>) -> Result<NodeId, Stop>
     requires allows_in { has_flag in_flag p.old.ctx ≡ true }
     ensures { Answers (at Body) p.old p.new result }
 {
-    parse(p, Goal::Body)
+    parse(p, Nonterminal::Body)
 }
 
 /// What stands where a statement may, by its place (ECMA-262, chapter 14): a StatementListItem in a list, or a Statement
@@ -239,7 +239,7 @@ pub fn parse_statement_list_item(
     ensures { TakesStatement (placed (not (is_single context))) p.old p.new result }
 {
     if context.is_single_statement() {
-        return parse(p, Goal::Statement);
+        return parse(p, Nonterminal::Statement);
     }
-    parse(p, Goal::ListItem)
+    parse(p, Nonterminal::ListItem)
 }

@@ -8,7 +8,7 @@ use Rattle.js_base.specs.declared.diagnostic.Diagnostic.{Diagnostic}
 use Rattle.js_base.specs.declared.span.Span.{Span}
 use Rattle.js_tree.specs.js_grammar.ModuleRecords.{Part as Visit}
 use Rattle.js_tree.specs.Nodes.{Node}
-use Rattle.js_tree.specs.Holding.{Keeps as KeepsNodes}
+use Rattle.js_tree.specs.Holding.{Keeps}
 use Rattle.js_tree.proofs.HoldingLemmas.{Keeps-refl}
 use Rattle.js_cursor.specs.declared.checkpoint.ParserCheckpoint.{ParserCheckpoint}
 use Rattle.js_cursor.specs.declared.state.CoverInitializer.{CoverInitializer}
@@ -75,7 +75,7 @@ module _ {p : Parser} where
   at_with : (ns : List Node) (vs : List Visit) (s : Notes) (c : Context) (d : ℕ) → IsAt p → KeptBefore s p.token.span.start → IsAt (record p { nodes = ns; visits = vs; state = s; ctx = c; depth = d })
   at_with ns vs s c d a k = record { reads = a.reads; reads_for = a.reads_for; utf8 = a.utf8; short = a.short; reached = a.reached; between = a.between; token = a.token; lies = a.lies; last = a.last; marked = a.marked; faulty = a.faulty; noted = k }
 
-  follows_with : (ns : List Node) (vs more : List Visit) (s : Notes) (c : Context) (d : ℕ) (covers : List (ℕ × Option CoverInitializer)) (commas : List (ℕ × Option Span)) → KeepsNodes p.nodes ns → vs ≡ p.visits ++ more → s.covers ≡ p.state.covers ++ covers → s.commas ≡ p.state.commas ++ commas → Follows p (record p { nodes = ns; visits = vs; state = s; ctx = c; depth = d })
+  follows_with : (ns : List Node) (vs more : List Visit) (s : Notes) (c : Context) (d : ℕ) (covers : List (ℕ × Option CoverInitializer)) (commas : List (ℕ × Option Span)) → Keeps p.nodes ns → vs ≡ p.visits ++ more → s.covers ≡ p.state.covers ++ covers → s.commas ≡ p.state.commas ++ commas → Follows p (record p { nodes = ns; visits = vs; state = s; ctx = c; depth = d })
   follows_with ns vs more s c d covers commas k v e f = record {
     text = refl;
     source_type = refl;
@@ -100,13 +100,13 @@ module _ {p : Parser} where
   pub fields_at : (ns : List Node) (vs : List Visit) (c : Context) (d : ℕ) → IsAt p → IsAt (record p { nodes = ns; visits = vs; ctx = c; depth = d })
   fields_at ns vs c d a = at_with ns vs p.state c d a a.noted
 
-  pub fields_set : (ns : List Node) (vs more : List Visit) (c : Context) (d : ℕ) → IsAt p → KeepsNodes p.nodes ns → vs ≡ p.visits ++ more → GoesOn p (record p { nodes = ns; visits = vs; ctx = c; depth = d })
+  pub fields_set : (ns : List Node) (vs more : List Visit) (c : Context) (d : ℕ) → IsAt p → Keeps p.nodes ns → vs ≡ p.visits ++ more → GoesOn p (record p { nodes = ns; visits = vs; ctx = c; depth = d })
   fields_set ns vs more c d a k v = (follows_with ns vs more p.state c d [] [] k v (sym (append-nil p.state.covers)) (sym (append-nil p.state.commas)), fields_at ns vs c d a)
 
   pub ctx_set : (c : Context) → IsAt p → GoesOn p (record p { ctx = c })
   ctx_set c a = fields_set p.nodes p.visits [] c p.depth a (Keeps-refl p.nodes) (sym (append-nil p.visits))
 
-  pub nodes_set : (ns : List Node) → IsAt p → KeepsNodes p.nodes ns → GoesOn p (record p { nodes = ns })
+  pub nodes_set : (ns : List Node) → IsAt p → Keeps p.nodes ns → GoesOn p (record p { nodes = ns })
   nodes_set ns a k = fields_set ns p.visits [] p.ctx p.depth a k (sym (append-nil p.visits))
 
   pub visited : (vs more : List Visit) → IsAt p → vs ≡ p.visits ++ more → GoesOn p (record p { visits = vs })
@@ -209,7 +209,7 @@ back_follows {p} {q} {r} {c} m f g =
       text = b.text;
       source_type = b.source_type;
       options = g.options ∙ f.options;
-      nodes = subst (λ (ns : List Node). KeepsNodes p.nodes ns) (sym g.nodes) f.nodes;
+      nodes = subst (λ (ns : List Node). Keeps p.nodes ns) (sym g.nodes) f.nodes;
       later_errors = [];
       errors = b.errors ∙ sym (append-nil p.errors);
       later_visits = [];

@@ -5,9 +5,9 @@ use Rattle.js_base.specs.declared.diagnostic.Diagnostic.{Diagnostic}
 use Rattle.js_tree.specs.js_grammar.Marks.{Mark}
 use Rattle.js_cursor.specs.Parsers.{Parser}
 use Rattle.js_cursor.specs.Places.{IsAt, goal}
-use Rattle.js_cursor.specs.Moves.{Keeps}
+use Rattle.js_cursor.specs.Moves.{KeepsDiagnostic}
 
-kept : {p : Parser} {d : Diagnostic} {ds : List Diagnostic} → IsAt p → Mark (goal p) p.text d → ds ≡ p.errors ++ d ∷ [] → Keeps d p (record p { errors = ds })
+kept : {p : Parser} {d : Diagnostic} {ds : List Diagnostic} → IsAt p → Mark (goal p) p.text d → ds ≡ p.errors ++ d ∷ [] → KeepsDiagnostic d p (record p { errors = ds })
 kept {p} {d} {ds} a m e = record {
   is = ap (λ v. record p { errors = v }) e;
   at = record {
@@ -26,5 +26,5 @@ kept {p} {d} {ds} a m e = record {
   };
 }
 
-pub kept_seen : {p q : Parser} → p ≡ q → {d : Diagnostic} → IsAt q → Mark (goal q) q.text d → {ds : List Diagnostic} → ds ≡ p.errors ++ d ∷ [] → Keeps d q (record p { errors = ds })
-kept_seen {p} {q} v {d} a m {ds} e = subst (λ r. Keeps d r (record p { errors = ds })) v (kept (subst IsAt (sym v) a) (subst (λ r. Mark (goal r) r.text d) (sym v) m) e)
+pub kept_seen : {p q : Parser} → p ≡ q → {d : Diagnostic} → IsAt q → Mark (goal q) q.text d → {ds : List Diagnostic} → ds ≡ p.errors ++ d ∷ [] → KeepsDiagnostic d q (record p { errors = ds })
+kept_seen {p} {q} v {d} a m {ds} e = subst (λ r. KeepsDiagnostic d r (record p { errors = ds })) v (kept (subst IsAt (sym v) a) (subst (λ r. Mark (goal r) r.text d) (sym v) m) e)

@@ -19,7 +19,7 @@ use Rattle.js_lex.specs.Reading.{is_kept}
 use Rattle.js_lex.specs.States.{goal_of}
 use Rattle.js_lex.proofs.Keeping.{twice}
 use Rattle.js_tree.specs.Nodes.{Node}
-use Rattle.js_tree.specs.Holding.{Keeps as KeepsNodes}
+use Rattle.js_tree.specs.Holding.{Keeps}
 use Rattle.js_tree.proofs.HoldingLemmas.{Keeps-refl, Keeps-trans}
 use Rattle.js_cursor.specs.declared.checkpoint.ParserCheckpoint.{ParserCheckpoint}
 use Rattle.js_cursor.specs.Checkpoints.{Remembers, MayGoBack, Follows}
@@ -30,10 +30,10 @@ use Rattle.js_cursor.specs.Places.{IsAt, goal}
 use Rattle.js_cursor.specs.Stages.{stays}
 use Rattle.js_cursor.proofs.StillKept.{still_itself, still_on, still_next, still_again}
 use Rattle.js_cursor.proofs.Stages.{leads_on, leads_in, passed_leads, again_leads}
-use Rattle.js_cursor.specs.Moves.{Passed, ReadAgain, Completed, MovesOn, Keeps, Opened, is_last}
+use Rattle.js_cursor.specs.Moves.{Passed, ReadAgain, Completed, MovesOn, KeepsDiagnostic, Opened, is_last}
 
 -- the same nodes
-pub nodes_stay : {ns ms : List Node} → ms ≡ ns → KeepsNodes ns ms
+pub nodes_stay : {ns ms : List Node} → ms ≡ ns → Keeps ns ms
 nodes_stay {ns} e = record { more = []; whole = e ∙ sym (append-nil ns) }
 
 pub follows_itself : (p : Parser) → Follows p p
@@ -162,7 +162,7 @@ pub moved_at : {p q : Parser} → MovesOn p q → IsAt q
 moved_at {p} {q} (mid, c, inl h) = h.2
 moved_at {p} {q} (mid, c, inr h) = h.1.at
 
-pub keeps_follows : {d : Diagnostic} {p q : Parser} → Keeps d p q → Follows p q
+pub keeps_follows : {d : Diagnostic} {p q : Parser} → KeepsDiagnostic d p q → Follows p q
 keeps_follows {d} {p} {q} h = subst (Follows p) (sym h.is) (record {
   text = refl;
   source_type = refl;

@@ -18,7 +18,7 @@ use Rattle.js_base.specs.Spans.{LiesIn}
 use Rattle.js_base.proofs.KindLemmas.{kind_of_same}
 use Rattle.js_tree.specs.js_grammar.Grammar.{Lexeme, Lexemes, last, next}
 use Rattle.js_tree.specs.js_grammar.Lexemes.{LexicalGoal, division}
-use Rattle.js_tree.specs.js_grammar.Lexed.{Lex, all_faults, end_of, join}
+use Rattle.js_tree.specs.js_grammar.Lexed.{NextLexeme, all_faults, end_of, join}
 use Rattle.js_tree.specs.js_grammar.LexicalFaults.{Reached, FaultyBehind, is_invalid_character, Condition}
 use Rattle.js_tree.specs.js_grammar.Characters.{width}
 use Rattle.js_tree.specs.js_grammar.Lexemes.{regular_expression, template_tail, hashbang, kind_in}
@@ -35,16 +35,16 @@ use Rattle.js_cursor.specs.Parsers.{Parser}
 use Rattle.js_cursor.specs.Tokens.{may_be_read_again, IsToken, whole, sign, nothing}
 use Rattle.js_cursor.specs.Notes.{Notes}
 use Rattle.js_cursor.specs.Places.{IsAt, IsFault, KeptBefore, goal}
-use Rattle.js_cursor.specs.Moves.{Stays, Passed, IsWhole, Told, is_last}
+use Rattle.js_cursor.specs.Moves.{Stays, Passed, IsWholeToken, Told, is_last}
 
 pub end_of-join : (ls : Lexemes) (x : Lexeme) → end_of (join ls (last x)) ≡ x.to
 end_of-join (last y) x = refl
 end_of-join (next y ls) x = end_of-join ls x
 
 -- a lexeme further on
-pub reached_next : {text : List ℕ} {s : ℕ} {x : Lexeme} → Reached text s → Lex all_faults text s x → Reached text x.to
-reached_next {text} {s} {x} (inl e) h = inr (last x, subst (λ v. Lex all_faults text v x) e h, refl)
-reached_next {text} {s} {x} (inr r) h = inr (join r.0 (last x), joins (Lex all_faults text) 0 r.0 (last x) r.1 (subst (λ v. Lex all_faults text v x) (sym r.2) h), end_of-join r.0 x)
+pub reached_next : {text : List ℕ} {s : ℕ} {x : Lexeme} → Reached text s → NextLexeme all_faults text s x → Reached text x.to
+reached_next {text} {s} {x} (inl e) h = inr (last x, subst (λ v. NextLexeme all_faults text v x) e h, refl)
+reached_next {text} {s} {x} (inr r) h = inr (join r.0 (last x), joins (NextLexeme all_faults text) 0 r.0 (last x) r.1 (subst (λ v. NextLexeme all_faults text v x) (sym r.2) h), end_of-join r.0 x)
 
 -- a sign that begins with `>` is shown as `>`
 pub cut_sign : (y : Lexeme) → is_right_angle y.kind ≡ true → (cut y).kind ≡ RAngle
@@ -84,7 +84,7 @@ empty_is_end regular_expression rest k e = cc
 empty_is_end template_tail rest k e = cc
 empty_is_end hashbang rest k e = cc
 
-pub lexeme_some : {text : List ℕ} {s : ℕ} {x : Lexeme} → Lex all_faults text s x → (x.kind ≡ Eof → ⊥) → x.from < x.to
+pub lexeme_some : {text : List ℕ} {s : ℕ} {x : Lexeme} → NextLexeme all_faults text s x → (x.kind ≡ Eof → ⊥) → x.from < x.to
 lexeme_some {x = x} h n = go h.word h.rest h.lexeme.kind h.to
   where
     go : (w rest : List ℕ) → kind_in h.goal w rest ≡ Some x.kind → x.to ≡ x.from + width w → x.from < x.to
@@ -144,7 +144,7 @@ stays h = record { text = refl; source_type = refl; options = refl; same = h; no
 
 module _ {p : Parser} {l : State} {t : Token} {b : Bool} {e : ℕ} where
   -- The lexer gave the next token behind a lexeme that the current one told whole.
-  pub passed : IsAt p → IsWhole p → (p.token.kind ≡ Eof → ⊥) → GivesNext division p.lexer l t → (IsTrue b ↔ (t.kind ≡ RAngle)) → e ≡ p.token.span.end → Passed p (record p { lexer = l; token = t; cut = b; prev_token_end = e })
+  pub passed : IsAt p → IsWholeToken p → (p.token.kind ≡ Eof → ⊥) → GivesNext division p.lexer l t → (IsTrue b ↔ (t.kind ≡ RAngle)) → e ≡ p.token.span.end → Passed p (record p { lexer = l; token = t; cut = b; prev_token_end = e })
   passed a w n g i q = record {
     lexeme = w.lexeme;
     stood = w.stood;
@@ -191,8 +191,8 @@ module _ {p : Parser} {l : State} {t : Token} {b : Bool} {e : ℕ} where
       stopping = next_faults t g.faults reached some (at_place (λ v x s. Outcome division cut v x s t [] g.faults) g.outcome)
 
 -- the same, of a parser seen as p
-pub passed_seen : {p q : Parser} → p ≡ q → IsAt q → IsWhole q → (q.token.kind ≡ Eof → ⊥) → {l : State} {t : Token} {b : Bool} {e : ℕ} → GivesNext division p.lexer l t → (IsTrue b ↔ (t.kind ≡ RAngle)) → e ≡ p.token.span.end → Passed q (record p { lexer = l; token = t; cut = b; prev_token_end = e })
-passed_seen {p} {q} v a w n {l} {t} {b} {e} g i h = subst (λ r. Passed r (record p { lexer = l; token = t; cut = b; prev_token_end = e })) v (passed (subst IsAt (sym v) a) (subst IsWhole (sym v) w) (λ k. n (sym (ap (λ r. r.token.kind) v) ∙ k)) g i h)
+pub passed_seen : {p q : Parser} → p ≡ q → IsAt q → IsWholeToken q → (q.token.kind ≡ Eof → ⊥) → {l : State} {t : Token} {b : Bool} {e : ℕ} → GivesNext division p.lexer l t → (IsTrue b ↔ (t.kind ≡ RAngle)) → e ≡ p.token.span.end → Passed q (record p { lexer = l; token = t; cut = b; prev_token_end = e })
+passed_seen {p} {q} v a w n {l} {t} {b} {e} g i h = subst (λ r. Passed r (record p { lexer = l; token = t; cut = b; prev_token_end = e })) v (passed (subst IsAt (sym v) a) (subst IsWholeToken (sym v) w) (λ k. n (sym (ap (λ r. r.token.kind) v) ∙ k)) g i h)
 
 -- ---- to read the current token again
 
@@ -223,7 +223,7 @@ whole_again source {text} {s} {t} o = go (same_kind Undetermined t.kind) refl o
     go true q x = absurd (let e = x.1 in cc)
     go false q x = (same_is t.kind q, x.1)
 
-is_whole_of : {p : Parser} {g : LexicalGoal} → GivesLexeme g (λ z. z) p.text p.prev_token_end p.token → IsWhole p
+is_whole_of : {p : Parser} {g : LexicalGoal} → GivesLexeme g (λ z. z) p.text p.prev_token_end p.token → IsWholeToken p
 is_whole_of x = record { lexeme = x.lexeme; stood = x.stands.lex; tells = x.tells }
 
 completed : {p : Parser} {l : State} {t : Token} → IsAt p → p.cut ≡ true → GivesAgain division p.lexer l p.token t [] [] → Told p (record p { lexer = l; token = t; cut = false })
@@ -271,7 +271,7 @@ sign_given_seen v a e = sign_given (subst IsAt (sym v) a) e
 pub whole_already : {p q : Parser} → p ≡ q → IsAt q → p.cut ≡ false → Told q q
 whole_already {p} {q} v a e = record { completed = inl (sym (ap (λ r. r.cut) v) ∙ e, refl); at = a; whole = λ n. go q.cut a.token (sym (ap (λ r. r.cut) v) ∙ e) n }
   where
-    go : (b : Bool) → IsToken (goal q) q.text q.prev_token_end q.lexer.kept.errors q.token b → b ≡ false → (q.token.kind ≡ Undetermined → ⊥) → IsWhole q
+    go : (b : Bool) → IsToken (goal q) q.text q.prev_token_end q.lexer.kept.errors q.token b → b ≡ false → (q.token.kind ≡ Undetermined → ⊥) → IsWholeToken q
     go true x z n = absurd (false≢true (sym z))
     go false (whole u x) z n = is_whole_of x
     go false (nothing bs k r x) z n = absurd (n k)

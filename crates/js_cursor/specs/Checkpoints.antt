@@ -7,7 +7,7 @@ use Rattle.js_tree.specs.js_grammar.LexicalFaults.{Reached}
 use Rattle.js_tree.specs.js_grammar.ModuleRecords.{Part as Visit}
 use Rattle.js_lex.specs.Kept.{lengths_of, first_kept, AreAtMost}
 use Rattle.js_lex.specs.States.{SameText}
-use Rattle.js_tree.specs.Holding.{Keeps as KeepsNodes}
+use Rattle.js_tree.specs.Holding.{Keeps}
 use Rattle.js_cursor.specs.declared.checkpoint.ParserCheckpoint.{ParserCheckpoint}
 use Rattle.js_cursor.specs.declared.state.CoverInitializer.{CoverInitializer}
 use Rattle.js_cursor.specs.Notes.{Notes}
@@ -72,7 +72,7 @@ pub record Follows (old new : Parser) : Type 0 where
   pub text : new.text ≡ old.text
   pub source_type : new.source_type ≡ old.source_type
   pub options : new.options ≡ old.options
-  pub nodes : KeepsNodes old.nodes new.nodes
+  pub nodes : Keeps old.nodes new.nodes
   pub later_errors : List Diagnostic
   pub errors : new.errors ≡ old.errors ++ later_errors
   pub later_visits : List Visit

@@ -9,7 +9,7 @@ use Rattle.js_base.specs.declared.token.Token.{Token}
 use Rattle.js_base.specs.Kinds.{same_kind}
 use Rattle.js_tree.specs.js_grammar.Grammar.{Lexeme}
 use Rattle.js_tree.specs.js_grammar.Lexemes.{LexicalGoal, division, regular_expression, template_tail}
-use Rattle.js_tree.specs.js_grammar.Lexed.{Lex, all_faults}
+use Rattle.js_tree.specs.js_grammar.Lexed.{NextLexeme, all_faults}
 use Rattle.js_lex.specs.Reading.{Tells, GivesNext, GivesAgain, FlagsStand}
 use Rattle.js_lex.specs.States.{State, SameText, goal_of}
 use Rattle.js_cursor.specs.declared.stop.Stop.{Stop}
@@ -39,15 +39,15 @@ pub record Stays (old new : Parser) : Type 0 where
   pub depth : new.depth ≡ old.depth
 
 -- The current token tells the whole of a lexeme.
-pub record IsWhole (p : Parser) : Type 0 where
+pub record IsWholeToken (p : Parser) : Type 0 where
   pub lexeme : Lexeme
-  pub stood : Lex all_faults p.text p.prev_token_end lexeme
+  pub stood : NextLexeme all_faults p.text p.prev_token_end lexeme
   pub tells : Tells lexeme p.token
 
 -- The current lexeme, told whole, was passed; the next one is current, as the lexer gives it.
 pub record Passed (old new : Parser) : Type 0 where
   pub lexeme : Lexeme
-  pub stood : Lex all_faults old.text old.prev_token_end lexeme
+  pub stood : NextLexeme all_faults old.text old.prev_token_end lexeme
   pub tells : Tells lexeme old.token
   pub moved : new.prev_token_end ≡ lexeme.to
   pub last : old.lexer.place ≡ lexeme.to
@@ -90,7 +90,7 @@ Completed old new = ((old.cut ≡ false) × (new ≡ old)) ⊎ ((old.cut ≡ tru
 pub record Told (old new : Parser) : Type 0 where
   pub completed : Completed old new
   pub at : IsAt new
-  pub whole : (new.token.kind ≡ Undetermined → ⊥) → IsWhole new
+  pub whole : (new.token.kind ≡ Undetermined → ⊥) → IsWholeToken new
 
 -- the end of the text, or what begins no lexeme
 abbrev pub is_last : Kind → Bool
@@ -110,13 +110,13 @@ Eats k old new true = IsKind k old × MovesOn old new
 Eats k old new false = (IsKind k old → ⊥) × (new ≡ old)
 
 -- A diagnostic was kept, and nothing else changed.
-pub record Keeps (d : Diagnostic) (old new : Parser) : Type 0 where
+pub record KeepsDiagnostic (d : Diagnostic) (old new : Parser) : Type 0 where
   pub is : new ≡ record old { errors = old.errors ++ d ∷ [] }
   pub at : IsAt new
 
 -- A call gave up: a diagnostic was kept as the last one. Of want of memory nothing is said.
 abbrev pub GivesUp : (Diagnostic → Type 0) → Parser → Parser → Stop → Type 0
-GivesUp P old new Fatal = (d : Diagnostic) × P d × Keeps d old new
+GivesUp P old new Fatal = (d : Diagnostic) × P d × KeepsDiagnostic d old new
 GivesUp P old new NoMemory = Unit {0}
 
 -- Memory was refused, and no more is said.

@@ -5,7 +5,7 @@ use Rattle.js_base.specs.declared.span.Span.{Span}
 use Rattle.js_base.specs.declared.token.Token.{Token}
 use Rattle.js_tree.specs.js_grammar.Characters.{width}
 use Rattle.js_tree.specs.js_grammar.Grammar.{Lexeme}
-use Rattle.js_tree.specs.js_grammar.Lexed.{Lex, Stands, all_faults}
+use Rattle.js_tree.specs.js_grammar.Lexed.{NextLexeme, Stands, all_faults}
 use Rattle.js_tree.specs.js_grammar.Lexemes.{LexicalGoal, division, regular_expression, hashbang}
 use Rattle.js_tree.specs.js_grammar.LexicalFaults.{behind}
 use Rattle.js_tree.specs.js_grammar.Longest.{joined}
@@ -58,7 +58,7 @@ further s x t comments blanks faults = record { place = x.to; token = t; comment
 -- Lexemes lead from one stage to another, each one told by the token before it is passed.
 pub data Leads (source : Goal) (text : List ℕ) (old : Stage) : Stage → Type 0 where
   stays : Leads source text old old
-  passes : {s : Stage} {x : Lexeme} {t : Token} {comments : List Comment} {blanks : List Span} {faults : List Diagnostic} → Leads source text old s → Lex all_faults text s.place x → Tells x s.token → ComesWith source text x.to t comments blanks faults → Leads source text old (further s x t comments blanks faults)
+  passes : {s : Stage} {x : Lexeme} {t : Token} {comments : List Comment} {blanks : List Span} {faults : List Diagnostic} → Leads source text old s → NextLexeme all_faults text s.place x → Tells x s.token → ComesWith source text x.to t comments blanks faults → Leads source text old (further s x t comments blanks faults)
   reads_again : {s : Stage} {t : Token} {faults : List Diagnostic} (g : LexicalGoal) → Leads source text old s → ReadsAs g source text s.place s.token t faults → Leads source text old (record s { token = t; faults = s.faults ++ faults })
 
 -- where a text begins: at its start, or behind a hashbang comment, where one stands (12.5)

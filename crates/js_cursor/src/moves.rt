@@ -5,7 +5,7 @@ ghost use Rattle.js_base.specs.declared.kind.Kind.TheVariants.{Undetermined};
 ghost use Rattle.js_base.specs.declared.diagnostic.DiagnosticKind.TheVariants.{UnexpectedToken, ExpectToken, ExpectClosing};
 ghost use Rattle.js_tree.specs.js_grammar.Marks.{Mark};
 ghost use Rattle.js_cursor.specs.Places.{IsAt, goal};
-ghost use Rattle.js_cursor.specs.Moves.{IsKind, Eats, Keeps, GivesUp, OnlyMemory, StandsHere, IsHere, IsUnexpected, MayTell, Opened, Expects, MayEnd, EndsOr, Steps};
+ghost use Rattle.js_cursor.specs.Moves.{IsKind, Eats, KeepsDiagnostic, GivesUp, OnlyMemory, StandsHere, IsHere, IsUnexpected, MayTell, Opened, Expects, MayEnd, EndsOr, Steps};
 ghost use Rattle.js_cursor.specs.Markers.{Related};
 
 use crate::kinds::{ends_statement, is_kind};
@@ -52,7 +52,7 @@ impl<'a, C: ParserConfig> ParserImpl<'a, C> {
     pub fn error(&mut self, found: Diagnostic) -> Result<(), NoMemory>
         requires at { IsAt self.old }
         requires mark { Mark (goal self.old) self.old.text found }
-        ensures { MatchResult result (λ _. Keeps found self.old self.new) (λ _. self.new ≡ self.old) }
+        ensures { MatchResult result (λ _. KeepsDiagnostic found self.old self.new) (λ _. self.new ≡ self.old) }
     {
         self.errors.push(found)?;
         Ok(())

@@ -8,7 +8,7 @@ ghost use Rattle.js_base.specs.Contexts.{bits_of};
 ghost use Rattle.js_cursor.specs.Notes.{is_noted};
 ghost use Rattle.js_cursor.specs.Starts.{AtStart, Starts};
 ghost use Rattle.js_cursor.specs.Places.{IsAt};
-ghost use Rattle.js_cursor.specs.Moves.{IsWhole, Passed, Completed, IsRegularExpression, IsTemplatePart, Peeks, Told, MovesOn, OnlyMemory, Enters, Leaves, NotesArrow, NotesNoOperand};
+ghost use Rattle.js_cursor.specs.Moves.{IsWholeToken, Passed, Completed, IsRegularExpression, IsTemplatePart, Peeks, Told, MovesOn, OnlyMemory, Enters, Leaves, NotesArrow, NotesNoOperand};
 
 use crate::kinds::{is_kind, is_last};
 use crate::state::ParserState;
@@ -173,7 +173,7 @@ impl<'a, C: ParserConfig> ParserImpl<'a, C> {
     /// Moves over the current lexeme, which is told whole, and isn't the end.
     pub(crate) fn pass(&mut self) -> Result<(), NoMemory>
         requires at { IsAt self.old }
-        requires whole { IsWhole self.old }
+        requires whole { IsWholeToken self.old }
         requires some { self.old.token.kind ≢ Eof }
         ensures { IfOk result (λ _. Passed self.old self.new) }
     {

@@ -6,7 +6,7 @@ use Rattle.js_grammar.specs.Characters.{has_line_terminator}
 use Rattle.js_grammar.specs.Longest.{longest, none_longer, joined}
 use Rattle.js_grammar.specs.Trivia.{is_trivia_piece, are_trivia}
 use Rattle.js_grammar.specs.Lexemes.{LexicalGoal, lexemes_in}
-use Rattle.js_grammar.specs.Lexed.{Passing, Lex, Stands}
+use Rattle.js_grammar.specs.Lexed.{Passing, NextLexeme, Stands}
 use Rattle.js_grammar.proofs.LongestLemmas.{both-left, both-right, none_longer-at, longest-same}
 
 pub no_empty_piece : (first : Bool) (rest : List ℕ) → is_trivia_piece first [] rest ≡ false
@@ -55,7 +55,7 @@ some-same : (a b : Kind) → Some a ≡ Some b → a ≡ b
 some-same a b e = cc
 
 -- in one lexical goal one lexeme stands behind a place, whichever faults pass
-pub lex-same : {p q : Passing} {text : List ℕ} {s : ℕ} {y z : Lexeme} (h : Lex p text s y) (k : Lex q text s z) → h.goal ≡ k.goal → y ≡ z
+pub lex-same : {p q : Passing} {text : List ℕ} {s : ℕ} {y z : Lexeme} (h : NextLexeme p text s y) (k : NextLexeme q text s z) → h.goal ≡ k.goal → y ≡ z
 lex-same {s = s} {y = y} {z = z} h k g =
     let t = stands-same h.stands k.stands in
     let kl : longest (lexemes_in h.goal) k.word k.rest ≡ true = subst (λ (a : LexicalGoal). longest (lexemes_in a) k.word k.rest ≡ true) (sym g) k.lexeme.longest in

@@ -13,7 +13,7 @@ use Rattle.js_grammar.specs.RegularExpressions.{flags, flagged, behind_pattern}
 use Rattle.js_grammar.specs.Templates.{template_tail_kind, part_kind, closes_template}
 use Rattle.js_base.specs.declared.kind.Kind.TheVariants.{TemplateTail, TemplateMiddle}
 use Rattle.js_grammar.specs.Lexemes.{LexicalGoal, division, regular_expression, template_tail, hashbang, kind_in}
-use Rattle.js_grammar.specs.Lexed.{Passing, Lex, Stands}
+use Rattle.js_grammar.specs.Lexed.{Passing, NextLexeme, Stands}
 use Rattle.js_grammar.specs.LexicalLaws.{AtSlashOrBrace}
 use Rattle.js_grammar.proofs.LongestLemmas.{both-left, both-right}
 use Rattle.js_grammar.proofs.Alike.{lex-same, stands-same}
@@ -97,7 +97,7 @@ at_of {s = s} {qs = qs} {w = w} {rest = rest} st b =
       };
     }
 
-pub choice : (p q : Passing) (text : List ℕ) (s : ℕ) (y z : Lexeme) → Lex p text s y → Lex q text s z → (y ≡ z) ⊎ AtSlashOrBrace text s
+pub choice : (p q : Passing) (text : List ℕ) (s : ℕ) (y z : Lexeme) → NextLexeme p text s y → NextLexeme q text s z → (y ≡ z) ⊎ AtSlashOrBrace text s
 choice p q text s y z h k = go h.goal k.goal refl refl
   where
     back : h.word ++ h.rest ≡ k.word ++ k.rest

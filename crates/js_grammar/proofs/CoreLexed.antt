@@ -15,7 +15,7 @@ use Rattle.js_grammar.specs.RegularExpressions.{flags, flagged, flags_pass, behi
 use Rattle.js_grammar.specs.Templates.{template_tail_kind}
 use Rattle.js_grammar.specs.Lexemes.{LexicalGoal, division, regular_expression, template_tail, hashbang, kind_in, lexemes_in, is_escaped}
 use Rattle.js_grammar.specs.Lexed.{Lexes, Lexed}
-use Rattle.js_grammar.specs.Lexed.{Passing, in_script, in_module, all_faults, passing_of, Lex, Stands, comments_pass, flags_right, ends_once}
+use Rattle.js_grammar.specs.Lexed.{Passing, in_script, in_module, all_faults, passing_of, NextLexeme, Stands, comments_pass, flags_right, ends_once}
 use Rattle.js_grammar.specs.LexicalLaws.{OneList}
 use Rattle.js_grammar.specs.CoreGrammar.{core_kinds}
 use Rattle.js_grammar.specs.CoreReadings.{core_lexeme, AllCore, CoreLexemes}
@@ -43,7 +43,7 @@ flags-none in_module k w h = ap (λ (b : Bool). not b || flags_pass (flags w)) h
 flags-none all_faults k w h = refl
 
 -- what stands behind a place, as a lexeme of the division goal
-pub lexeme_stands : (p : Passing) (text : List ℕ) (s : ℕ) (qs : List (List ℕ)) (w rest : List ℕ) (k : Kind) → Stands text s qs w rest → lack_html_comments qs ≡ true → longest (lexemes_in division) w rest ≡ true → kind_in division w rest ≡ Some k → (not (is_number k) || stops_number rest) ≡ true → same_kind RegExp k ≡ false → Lex p text s (lexeme_of s qs w k)
+pub lexeme_stands : (p : Passing) (text : List ℕ) (s : ℕ) (qs : List (List ℕ)) (w rest : List ℕ) (k : Kind) → Stands text s qs w rest → lack_html_comments qs ≡ true → longest (lexemes_in division) w rest ≡ true → kind_in division w rest ≡ Some k → (not (is_number k) || stops_number rest) ≡ true → same_kind RegExp k ≡ false → NextLexeme p text s (lexeme_of s qs w k)
 lexeme_stands p text s qs w rest k st l lg kd a r = record {
   trivia = qs;
   goal = division;
@@ -102,20 +102,20 @@ word_is_division hashbang (d ∷ w) rest c cs k e f h =
 -- the lexemes from a place to the end of the text
 pub record Tail (text : List ℕ) (s : ℕ) : Type 0 where
   pub list : Lexemes
-  pub lexes : (p : Passing) → Lexes (Lex p text) s list
+  pub lexes : (p : Passing) → Lexes (NextLexeme p text) s list
   pub once : ends_once list ≡ true
-  pub only : (p : Passing) (ms : Lexemes) → Lexes (Lex p text) s ms → ends_once ms ≡ true → ms ≡ list
-  pub first : (p : Passing) (y : Lexeme) → Lex p text s y → y ≡ here list
+  pub only : (p : Passing) (ms : Lexemes) → Lexes (NextLexeme p text) s ms → ends_once ms ≡ true → ms ≡ list
+  pub first : (p : Passing) (y : Lexeme) → NextLexeme p text s y → y ≡ here list
 
 -- one lexeme stands there, whichever faults pass
 pub record Single (text : List ℕ) (s : ℕ) (x : Lexeme) : Type 0 where
-  pub stands : (p : Passing) → Lex p text s x
-  pub only : (p : Passing) (y : Lexeme) → Lex p text s y → y ≡ x
+  pub stands : (p : Passing) → NextLexeme p text s x
+  pub only : (p : Passing) (y : Lexeme) → NextLexeme p text s y → y ≡ x
 
 pub tail_end : (text : List ℕ) (s : ℕ) (x : Lexeme) → Single text s x → same_kind Eof x.kind ≡ true → Tail text s
 tail_end text s x h e = record { list = last x; lexes = h.stands; once = e; only = go; first = h.only }
   where
-    go : (p : Passing) (ms : Lexemes) → Lexes (Lex p text) s ms → ends_once ms ≡ true → ms ≡ last x
+    go : (p : Passing) (ms : Lexemes) → Lexes (NextLexeme p text) s ms → ends_once ms ≡ true → ms ≡ last x
     go p (last y) l o = ap (λ (a : Lexeme). last a) (h.only p y l)
     go p (next y ms) l o =
         let s' = h.only p y l.0 in
@@ -126,14 +126,14 @@ tail_end text s x h e = record { list = last x; lexes = h.stands; once = e; only
 pub tail_next : (text : List ℕ) (s : ℕ) (x : Lexeme) → Single text s x → same_kind Eof x.kind ≡ false → Tail text x.to → Tail text s
 tail_next text s x h e t = record { list = next x t.list; lexes = λ p. (h.stands p, t.lexes p); once = both (not (same_kind Eof x.kind)) (ends_once t.list) (rw e refl) t.once; only = go; first = h.only }
   where
-    go : (p : Passing) (ms : Lexemes) → Lexes (Lex p text) s ms → ends_once ms ≡ true → ms ≡ next x t.list
+    go : (p : Passing) (ms : Lexemes) → Lexes (NextLexeme p text) s ms → ends_once ms ≡ true → ms ≡ next x t.list
     go p (last y) l o =
         let s' = h.only p y l in
         let k : same_kind Eof y.kind ≡ false = subst (λ (a : Lexeme). same_kind Eof a.kind ≡ false) (sym s') e in
         absurd (let a = k in let b = o in cc)
     go p (next y ms) l o =
         let s' = h.only p y l.0 in
-        let l' : Lexes (Lex p text) x.to ms = subst (λ (a : Lexeme). Lexes (Lex p text) a.to ms) s' l.1 in
+        let l' : Lexes (NextLexeme p text) x.to ms = subst (λ (a : Lexeme). Lexes (NextLexeme p text) a.to ms) s' l.1 in
         let r = t.only p ms l' (both-right (not (same_kind Eof y.kind)) (ends_once ms) o) in
         cc
 
@@ -149,10 +149,10 @@ pub at_end : (text : List ℕ) (s : ℕ) (qs : List (List ℕ)) → Stands text 
 unfolding lexeme_stands
 at_end text s qs st l = record { stands = here; only = only }
   where
-    here : (p : Passing) → Lex p text s (lexeme_of s qs [] Eof)
+    here : (p : Passing) → NextLexeme p text s (lexeme_of s qs [] Eof)
     here p = lexeme_stands p text s qs [] [] Eof st l refl refl refl refl
 
-    only : (p : Passing) (y : Lexeme) → Lex p text s y → y ≡ lexeme_of s qs [] Eof
+    only : (p : Passing) (y : Lexeme) → NextLexeme p text s y → y ≡ lexeme_of s qs [] Eof
     only p y h =
         let same = stands-same h.stands st in
         lex-same h (here p) (end_is_division h.goal h.word h.rest y.kind same.back h.lexeme.kind)
@@ -161,10 +161,10 @@ pub at_word : (text : List ℕ) (s : ℕ) (qs : List (List ℕ)) (c : ℕ) (cs r
 unfolding lexeme_stands
 at_word text s qs c cs rest st l f i r = record { stands = here; only = only }
   where
-    here : (p : Passing) → Lex p text s (lexeme_of s qs (c ∷ cs) i.kind)
+    here : (p : Passing) → NextLexeme p text s (lexeme_of s qs (c ∷ cs) i.kind)
     here p = lexeme_stands p text s qs (c ∷ cs) rest i.kind st l i.longest i.is i.apart r
 
-    only : (p : Passing) (y : Lexeme) → Lex p text s y → y ≡ lexeme_of s qs (c ∷ cs) i.kind
+    only : (p : Passing) (y : Lexeme) → NextLexeme p text s y → y ≡ lexeme_of s qs (c ∷ cs) i.kind
     only p y h =
         let same = stands-same h.stands st in
         lex-same h (here p) (word_is_division h.goal h.word h.rest c (cs ++ rest) y.kind same.back f h.lexeme.kind)
@@ -239,7 +239,7 @@ pub core_lexemes : CoreLexemes
 core_lexemes text u c g ls h = let t = built text u c in subst AllCore (sym (t.0.only (passing_of g) ls h.lexes h.ends)) t.1
 
 -- at the text's start stands a core lexeme alone
-pub core_first : (text : List ℕ) → IsUtf8 text → CoreSource text → (p : Passing) (y : Lexeme) → Lex p text 0 y → core_lexeme y ≡ true
+pub core_first : (text : List ℕ) → IsUtf8 text → CoreSource text → (p : Passing) (y : Lexeme) → NextLexeme p text 0 y → core_lexeme y ≡ true
 core_first text u c p y l = let t = built text u c in subst (λ (x : Lexeme). core_lexeme x ≡ true) (sym (t.0.first p y l)) (first_of t.0.list t.1)
   where
     first_of : (ls : Lexemes) → AllCore ls → core_lexeme (here ls) ≡ true

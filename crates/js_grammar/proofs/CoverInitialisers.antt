@@ -3,7 +3,7 @@ use Rattle.std.proofs.Common.{ℕ, zero, suc, ◌+◌, ◌<◌, ◌≤◌, arith
 use Rattle.std.proofs.lemmas.Bool.{false≢true, not-true, and_parts}
 use Rattle.js_grammar.specs.Trees.{NodeKind, function_expression, arrow_function_expression, Label, Op, Span, Slots, end, hole, tree, Tree, append}
 use Rattle.js_grammar.specs.Grammar.{Make, Lexeme, Lexemes, last, next, here, seen, nothing, never, lexeme, look, text, ahead, empty_slot, seq, alt, when, many, commas, such, marked, node, ended, keep, kept, label_of, semicolon, many_once, commas_once, Takes, Derives, is_nothing, is_lexeme, is_look, is_text, is_ahead, is_empty_slot, is_seq, is_left, is_right, is_when, is_many, is_commas, is_such, is_marked, is_node, is_ended, is_keep, is_kept}
-use Rattle.js_grammar.specs.Lexed.{Lex, Lexes, all_faults}
+use Rattle.js_grammar.specs.Lexed.{NextLexeme, Lexes, all_faults}
 use Rattle.js_grammar.specs.Productions.{G, Flags, Name, Symbol, at, with_pife, shorthand_flag, Property, LooseHead, Program}
 use Rattle.js_grammar.specs.Table.{rule, rule_of}
 use Rattle.js_grammar.specs.CoverInitialisers.{is_property, is_shorthand, has_third, is_initialised, initialised_in, initialised_of, with_cover}
@@ -483,9 +483,9 @@ Marked w s = DerivedAt Property has_initialiser w (placed s)
 
 -- lexemes of a text, at places that are reached from its start
 abbrev pub Led : List ℕ → ℕ → Lexeme → Type 0
-Led w n y = Reached w n × Lex all_faults w n y
+Led w n y = Reached w n × NextLexeme all_faults w n y
 
-led_lexed : (w : List ℕ) (i : ℕ) (ls : Lexemes) → Lexes (Led w) i ls → Lexes (Lex all_faults w) i ls
+led_lexed : (w : List ℕ) (i : ℕ) (ls : Lexemes) → Lexes (Led w) i ls → Lexes (NextLexeme all_faults w) i ls
 led_lexed w i (last y) l = l.1
 led_lexed w i (next y ls) l = (l.0.1, led_lexed w y.to ls l.1)
 

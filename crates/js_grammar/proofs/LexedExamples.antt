@@ -11,7 +11,7 @@ use Rattle.js_base.specs.part_text.Characters.{one_of}
 use Rattle.js_grammar.specs.Longest.{longest, none_longer}
 use Rattle.js_grammar.specs.Lexed.{Lexes}
 use Rattle.js_grammar.specs.Lexemes.{LexicalGoal, division, regular_expression, template_tail, hashbang, lexemes_in, kind_in}
-use Rattle.js_grammar.specs.Lexed.{Lex, Lexed, ends_once, Passing, in_script, in_module, comments_pass, flags_right, Stands}
+use Rattle.js_grammar.specs.Lexed.{NextLexeme, Lexed, ends_once, Passing, in_script, in_module, comments_pass, flags_right, Stands}
 use Rattle.js_grammar.specs.Settings.{script, module_goal}
 use Rattle.js_grammar.proofs.Alike.{stands-same}
 use Rattle.js_grammar.proofs.Choices.{choice}
@@ -65,7 +65,7 @@ html_like_lexed = record {
 }
 
 -- the same in a module: only the name can be first
-html_like_first : (y : Lexeme) → Lex in_module html_like 0 y → y ≡ placed Ident 0 1 (codes "a")
+html_like_first : (y : Lexeme) → NextLexeme in_module html_like 0 y → y ≡ placed Ident 0 1 (codes "a")
 unfolding words punctuators chars keyword_of
 html_like_first y h =
     let st : Stands html_like 0 [] [] html_like = record { within = omega arith; splits = refl; trivia = refl } in
@@ -75,7 +75,7 @@ html_like_first y h =
     ]
 
 -- behind the name nothing can be next in a module, since a comment stands there that is HTML-like
-html_like_next : (y : Lexeme) → Lex in_module html_like 1 y → ⊥
+html_like_next : (y : Lexeme) → NextLexeme in_module html_like 1 y → ⊥
 unfolding words punctuators chars keyword_of
 html_like_next y h =
     let st : Stands html_like 1 ((codes "<!--b") ∷ []) [] [] = record { within = omega arith; splits = refl; trivia = refl } in
@@ -86,9 +86,9 @@ html_like_next y h =
 -- `a<!--b` has no list of lexemes in a module
 html_like_not_in_module : (ls : Lexemes) → Lexed module_goal html_like ls → ⊥
 html_like_not_in_module (last x) h = let e = html_like_first x h.lexes in let i = subst (λ (y : Lexeme). ends_once (last y) ≡ true) e h.ends in cc
-html_like_not_in_module (next x ls) h = let e = html_like_first x h.lexes.0 in go ls (subst (λ (y : Lexeme). Lexes (Lex in_module html_like) y.to ls) e h.lexes.1)
+html_like_not_in_module (next x ls) h = let e = html_like_first x h.lexes.0 in go ls (subst (λ (y : Lexeme). Lexes (NextLexeme in_module html_like) y.to ls) e h.lexes.1)
   where
-    go : (ls : Lexemes) → Lexes (Lex in_module html_like) 1 ls → ⊥
+    go : (ls : Lexemes) → Lexes (NextLexeme in_module html_like) 1 ls → ⊥
     go (last y) k = html_like_next y k
     go (next y ms) k = html_like_next y k.0
 
@@ -161,7 +161,7 @@ divisions_lexed = record {
 }
 
 -- behind the `a` a regular expression may stand too, `/b/g`: the lexemes leave that to the grammar
-pattern_behind_name : Lex in_script divisions 1 (placed RegExp 1 5 [])
+pattern_behind_name : NextLexeme in_script divisions 1 (placed RegExp 1 5 [])
 unfolding words punctuators chars keyword_of
 pattern_behind_name = stand in_script divisions 1 [] regular_expression (codes "/b/g") [] RegExp (omega arith) refl refl refl
 
@@ -169,12 +169,12 @@ pattern_behind_name = stand in_script divisions 1 [] regular_expression (codes "
 abbrev brace : List ℕ
 brace = codes "}a`"
 
-brace_stands : Lex in_script brace 0 (placed RCurly 0 1 [])
+brace_stands : NextLexeme in_script brace 0 (placed RCurly 0 1 [])
 unfolding words punctuators chars keyword_of
 brace_stands = stand in_script brace 0 [] division (codes "}") (codes "a`") RCurly (omega arith) refl refl refl
 
 -- in its place a template part may stand too, of all three characters
-template_part_stands : Lex in_script brace 0 (placed TemplateTail 0 3 [])
+template_part_stands : NextLexeme in_script brace 0 (placed TemplateTail 0 3 [])
 unfolding words punctuators chars keyword_of
 template_part_stands = stand in_script brace 0 [] template_tail (codes "}a`") [] TemplateTail (omega arith) refl refl refl
 
@@ -182,7 +182,7 @@ template_part_stands = stand in_script brace 0 [] template_tail (codes "}a`") []
 abbrev flag_twice : List ℕ
 flag_twice = codes "/a/gg"
 
-flag_twice_first : (y : Lexeme) → Lex in_script flag_twice 0 y → y.kind ≡ RegExp → ⊥
+flag_twice_first : (y : Lexeme) → NextLexeme in_script flag_twice 0 y → y.kind ≡ RegExp → ⊥
 unfolding words punctuators chars keyword_of
 flag_twice_first y h r = go h.goal refl
   where
@@ -322,18 +322,18 @@ shift_lexed = record {
 }
 
 -- none of these begins with a lexeme
-two_separators : (p : Passing) (y : Lexeme) → Lex p (codes "1__0") 0 y → ⊥
+two_separators : (p : Passing) (y : Lexeme) → NextLexeme p (codes "1__0") 0 y → ⊥
 unfolding words punctuators chars keyword_of
 two_separators p = number_goes_on p (codes "1__0") 0 [] 49 [] (codes "__0") Decimal (omega arith) refl refl refl refl refl refl
 
-zero_separator : (p : Passing) (y : Lexeme) → Lex p (codes "0_1") 0 y → ⊥
+zero_separator : (p : Passing) (y : Lexeme) → NextLexeme p (codes "0_1") 0 y → ⊥
 unfolding words punctuators chars keyword_of
 zero_separator p = number_goes_on p (codes "0_1") 0 [] 48 [] (codes "_1") Decimal (omega arith) refl refl refl refl refl refl
 
-word_behind : (p : Passing) (y : Lexeme) → Lex p (codes "3in") 0 y → ⊥
+word_behind : (p : Passing) (y : Lexeme) → NextLexeme p (codes "3in") 0 y → ⊥
 unfolding words punctuators chars keyword_of
 word_behind p = number_goes_on p (codes "3in") 0 [] 51 [] (codes "in") Decimal (omega arith) refl refl refl refl refl refl
 
-no_binary : (p : Passing) (y : Lexeme) → Lex p (codes "0b2") 0 y → ⊥
+no_binary : (p : Passing) (y : Lexeme) → NextLexeme p (codes "0b2") 0 y → ⊥
 unfolding words punctuators chars keyword_of
 no_binary p = number_goes_on p (codes "0b2") 0 [] 48 [] (codes "b2") Decimal (omega arith) refl refl refl refl refl refl

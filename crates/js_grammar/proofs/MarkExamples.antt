@@ -14,7 +14,7 @@ use Rattle.js_grammar.specs.Grammar.{Lexeme, Lexemes, last, next}
 use Rattle.js_grammar.specs.Words.{'new', 'with'}
 use Rattle.js_grammar.specs.Settings.{script}
 use Rattle.js_grammar.specs.Lexemes.{division}
-use Rattle.js_grammar.specs.Lexed.{Lex, Lexes, Stands, all_faults, end_of}
+use Rattle.js_grammar.specs.Lexed.{NextLexeme, Lexes, Stands, all_faults, end_of}
 use Rattle.js_grammar.specs.LexicalFaults.{Reached, Faulty}
 use Rattle.js_grammar.specs.Marks.{IsLexemeOf, a_lexeme, a_sign, a_fault, goes_on, begins_with_greater, of_kinds, another_word, opens, is_part, EdgeOf, the_start, the_end, inside_start, inside_end, none, StandsAt}
 use Rattle.js_grammar.proofs.Alike.{stands-same}
@@ -25,19 +25,19 @@ abbrev span : ℕ → ℕ → Span
 span from to = record { start = from; end = to }
 
 -- Before a character that is no slash and no right brace one lexeme stands, and at the text's end one.
-settled : (text : List ℕ) (s : ℕ) (z : Lexeme) (ps : List (List ℕ)) (c : ℕ) (cs : List ℕ) → Stands text s ps [] (c ∷ cs) → one_of (47 ∷ 125 ∷ []) c ≡ false → Lex all_faults text s z → (y : Lexeme) → Lex all_faults text s y → y ≡ z
+settled : (text : List ℕ) (s : ℕ) (z : Lexeme) (ps : List (List ℕ)) (c : ℕ) (cs : List ℕ) → Stands text s ps [] (c ∷ cs) → one_of (47 ∷ 125 ∷ []) c ≡ false → NextLexeme all_faults text s z → (y : Lexeme) → NextLexeme all_faults text s y → y ≡ z
 settled text s z ps c cs st n k y h =
     elim (choice all_faults all_faults text s y z h k) [
       | inl e ↦ e
       | inr b ↦ absurd (let same = (stands-same b.stands st).back in let f : b.first ≡ c = cc in false≢true (sym n ∙ subst (λ (v : ℕ). one_of (47 ∷ 125 ∷ []) v ≡ true) f b.is))
     ]
 
-settled_last : (text : List ℕ) (s : ℕ) (z : Lexeme) → Stands text s [] [] [] → Lex all_faults text s z → (y : Lexeme) → Lex all_faults text s y → y ≡ z
+settled_last : (text : List ℕ) (s : ℕ) (z : Lexeme) → Stands text s [] [] [] → NextLexeme all_faults text s z → (y : Lexeme) → NextLexeme all_faults text s y → y ≡ z
 settled_last text s z st k y h = elim (choice all_faults all_faults text s y z h k) [ inl e ↦ e | inr b ↦ absurd (let same = (stands-same b.stands st).back in cc) ]
 
 -- what holds of the text's start, and from each place on of the next, holds of each place that is reached
-module _ {text : List ℕ} (P : ℕ → Type 0) (on : (s : ℕ) → P s → (y : Lexeme) → Lex all_faults text s y → P y.to) where
-  end_holds : (s : ℕ) (ls : Lexemes) → P s → Lexes (Lex all_faults text) s ls → P (end_of ls)
+module _ {text : List ℕ} (P : ℕ → Type 0) (on : (s : ℕ) → P s → (y : Lexeme) → NextLexeme all_faults text s y → P y.to) where
+  end_holds : (s : ℕ) (ls : Lexemes) → P s → Lexes (NextLexeme all_faults text) s ls → P (end_of ls)
   end_holds s (last y) p l = on s p y l
   end_holds s (next y ls) p l = end_holds y.to ls (on s p y l.0) l.1
 
@@ -59,22 +59,22 @@ record Outside (y : Lexeme) : Type 0 where
 abbrev AtName : ℕ → Type 0
 AtName s = (s ≡ 0) ⊎ ((s ≡ 3) ⊎ (s ≡ 5))
 
-name_at : (s : ℕ) → AtName s → (y : Lexeme) → Lex all_faults names s y → AtName y.to × Outside y
+name_at : (s : ℕ) → AtName s → (y : Lexeme) → NextLexeme all_faults names s y → AtName y.to × Outside y
 unfolding words punctuators chars keyword_of
 name_at s (inl e) y h =
     let same : y ≡ lexeme_of 0 [] (codes "foo") Ident = settled names 0 (lexeme_of 0 [] (codes "foo") Ident) [] 102 (codes "oo b") (record { within = omega arith; splits = refl; trivia = refl }) refl
-    (stand all_faults names 0 [] division (codes "foo") (codes " b") Ident (omega arith) refl refl refl) y (subst (λ (v : ℕ). Lex all_faults names v y) e h) in
+    (stand all_faults names 0 [] division (codes "foo") (codes " b") Ident (omega arith) refl refl refl) y (subst (λ (v : ℕ). NextLexeme all_faults names v y) e h) in
     subst (λ (v : Lexeme). AtName v.to × Outside v) (sym same) (inr (inl refl), record { start = λ q. absurd (omega arith); end = λ q. absurd (omega arith); whole = refl; uncut = refl })
 name_at s (inr (inl e)) y h =
     let same : y ≡ lexeme_of 3 (codes " " ∷ []) (codes "b") Ident = settled names 3 (lexeme_of 3 (codes " " ∷ []) (codes "b") Ident) (codes " " ∷ []) 98 [] (record { within = omega arith; splits = refl; trivia = refl }) refl
-    (stand all_faults names 3 (codes " " ∷ []) division (codes "b") [] Ident (omega arith) refl refl refl) y (subst (λ (v : ℕ). Lex all_faults names v y) e h) in
+    (stand all_faults names 3 (codes " " ∷ []) division (codes "b") [] Ident (omega arith) refl refl refl) y (subst (λ (v : ℕ). NextLexeme all_faults names v y) e h) in
     subst (λ (v : Lexeme). AtName v.to × Outside v) (sym same) (inr (inr refl), record { start = λ q. absurd (omega arith); end = λ q. absurd (omega arith); whole = refl; uncut = refl })
 name_at s (inr (inr e)) y h =
     let same : y ≡ lexeme_of 5 [] [] Eof = settled_last names 5 (lexeme_of 5 [] [] Eof) (record { within = omega arith; splits = refl; trivia = refl })
-    (stand all_faults names 5 [] division [] [] Eof (omega arith) refl refl refl) y (subst (λ (v : ℕ). Lex all_faults names v y) e h) in
+    (stand all_faults names 5 [] division [] [] Eof (omega arith) refl refl refl) y (subst (λ (v : ℕ). NextLexeme all_faults names v y) e h) in
     subst (λ (v : Lexeme). AtName v.to × Outside v) (sym same) (inr (inr refl), record { start = λ q. absurd (omega arith); end = λ q. absurd (omega arith); whole = refl; uncut = refl })
 
-name_outside : (s : ℕ) → Reached names s → (y : Lexeme) → Lex all_faults names s y → Outside y
+name_outside : (s : ℕ) → Reached names s → (y : Lexeme) → NextLexeme all_faults names s y → Outside y
 name_outside s r y h = (name_at s (place_holds AtName (λ s p y h. (name_at s p y h).0) (inl refl) s r) y h).1
 
 -- no fault stops the text's lexemes
@@ -100,7 +100,7 @@ within_name n h = name_no_edge n h.0.0
 abbrev head : List ℕ
 head = codes "`a${"
 
-head_stands : Lex all_faults head 0 (lexeme_of 0 [] (codes "`a${") TemplateHead)
+head_stands : NextLexeme all_faults head 0 (lexeme_of 0 [] (codes "`a${") TemplateHead)
 unfolding words punctuators chars keyword_of
 head_stands = stand all_faults head 0 [] division (codes "`a${") [] TemplateHead (omega arith) refl refl refl
 
@@ -109,15 +109,15 @@ unfolding words keyword_of
 between_delimiters = (inside_start (a_lexeme (inl refl) head_stands) refl refl, inside_end (a_lexeme (inl refl) head_stands) refl refl)
 
 -- The head is no bracket.
-head_opens : (s : ℕ) → (s ≡ 0) ⊎ (s ≡ 4) → (y : Lexeme) → Lex all_faults head s y → ((y.to ≡ 0) ⊎ (y.to ≡ 4)) × (opens y ≡ false)
+head_opens : (s : ℕ) → (s ≡ 0) ⊎ (s ≡ 4) → (y : Lexeme) → NextLexeme all_faults head s y → ((y.to ≡ 0) ⊎ (y.to ≡ 4)) × (opens y ≡ false)
 unfolding words punctuators chars keyword_of
 head_opens s (inl e) y h =
     let same : y ≡ lexeme_of 0 [] (codes "`a${") TemplateHead = settled head 0 (lexeme_of 0 [] (codes "`a${") TemplateHead) [] 96 (codes "a${") (record { within = omega arith; splits = refl; trivia = refl }) refl
-    (stand all_faults head 0 [] division (codes "`a${") [] TemplateHead (omega arith) refl refl refl) y (subst (λ (v : ℕ). Lex all_faults head v y) e h) in
+    (stand all_faults head 0 [] division (codes "`a${") [] TemplateHead (omega arith) refl refl refl) y (subst (λ (v : ℕ). NextLexeme all_faults head v y) e h) in
     subst (λ (v : Lexeme). ((v.to ≡ 0) ⊎ (v.to ≡ 4)) × (opens v ≡ false)) (sym same) (inr refl, refl)
 head_opens s (inr e) y h =
     let same : y ≡ lexeme_of 4 [] [] Eof = settled_last head 4 (lexeme_of 4 [] [] Eof) (record { within = omega arith; splits = refl; trivia = refl })
-    (stand all_faults head 4 [] division [] [] Eof (omega arith) refl refl refl) y (subst (λ (v : ℕ). Lex all_faults head v y) e h) in
+    (stand all_faults head 4 [] division [] [] Eof (omega arith) refl refl refl) y (subst (λ (v : ℕ). NextLexeme all_faults head v y) e h) in
     subst (λ (v : Lexeme). ((v.to ≡ 0) ⊎ (v.to ≡ 4)) × (opens v ≡ false)) (sym same) (inr refl, refl)
 
 no_bracket : (y : Lexeme) → IsLexemeOf script head y → opens y ≡ false
@@ -133,17 +133,17 @@ behind_head h = let x = h.1.lexeme in false≢true (sym (no_bracket x.lexeme x.o
 abbrev new_sign : List ℕ
 new_sign = codes "new.;"
 
-word_is_new : (y : Lexeme) → Lex all_faults new_sign 0 y → y.to ≡ 3
+word_is_new : (y : Lexeme) → NextLexeme all_faults new_sign 0 y → y.to ≡ 3
 unfolding words punctuators chars keyword_of
 word_is_new y h = ap (λ (v : Lexeme). v.to) (settled new_sign 0 (lexeme_of 0 [] (codes "new") 'new') [] 110 (codes "ew.;") (record { within = omega arith; splits = refl; trivia = refl }) refl
     (stand all_faults new_sign 0 [] division (codes "new") (codes ".;") 'new' (omega arith) refl refl refl) y h)
 
-dot_is : (y : Lexeme) → Lex all_faults new_sign 3 y → y.to ≡ 4
+dot_is : (y : Lexeme) → NextLexeme all_faults new_sign 3 y → y.to ≡ 4
 unfolding words punctuators chars keyword_of
 dot_is y h = ap (λ (v : Lexeme). v.to) (settled new_sign 3 (lexeme_of 3 [] (codes ".") Dot) [] 46 (codes ";") (record { within = omega arith; splits = refl; trivia = refl }) refl
     (stand all_faults new_sign 3 [] division (codes ".") (codes ";") Dot (omega arith) refl refl refl) y h)
 
-no_word : (y : Lexeme) → Lex all_faults new_sign 4 y → another_word y ≡ false
+no_word : (y : Lexeme) → NextLexeme all_faults new_sign 4 y → another_word y ≡ false
 unfolding words punctuators chars keyword_of
 no_word y h = ap another_word (settled new_sign 4 (lexeme_of 4 [] (codes ";") Semicolon) [] 59 [] (record { within = omega arith; splits = refl; trivia = refl }) refl
     (stand all_faults new_sign 4 [] division (codes ";") [] Semicolon (omega arith) refl refl refl) y h)
@@ -153,9 +153,9 @@ no_new_dot h =
     let d = h.0 in
     let l = d.part.lexed in
     let p : d.place ≡ 0 = (let f = l.0.from in let b = d.begins in omega arith) in
-    let a = word_is_new d.word (subst (λ (v : ℕ). Lex all_faults new_sign v d.word) p l.0) in
-    let b = dot_is d.dot (subst (λ (v : ℕ). Lex all_faults new_sign v d.dot) a l.1.0) in
-    let c = no_word d.other (subst (λ (v : ℕ). Lex all_faults new_sign v d.other) b l.1.1) in
+    let a = word_is_new d.word (subst (λ (v : ℕ). NextLexeme all_faults new_sign v d.word) p l.0) in
+    let b = dot_is d.dot (subst (λ (v : ℕ). NextLexeme all_faults new_sign v d.dot) a l.1.0) in
+    let c = no_word d.other (subst (λ (v : ℕ). NextLexeme all_faults new_sign v d.other) b l.1.1) in
     false≢true (sym c ∙ d.is_other)
 
 -- ---- `a;a`: two equal names, and no clause of attributes
@@ -166,23 +166,23 @@ equal_names = codes "a;a"
 abbrev AtEqual : ℕ → Type 0
 AtEqual s = (s ≡ 0) ⊎ ((s ≡ 1) ⊎ ((s ≡ 2) ⊎ (s ≡ 3)))
 
-equal_at : (s : ℕ) → AtEqual s → (y : Lexeme) → Lex all_faults equal_names s y → AtEqual y.to × (of_kinds (Str ∷ []) y ≡ false)
+equal_at : (s : ℕ) → AtEqual s → (y : Lexeme) → NextLexeme all_faults equal_names s y → AtEqual y.to × (of_kinds (Str ∷ []) y ≡ false)
 unfolding words punctuators chars keyword_of
 equal_at s (inl e) y h =
     let same : y ≡ lexeme_of 0 [] (codes "a") Ident = settled equal_names 0 (lexeme_of 0 [] (codes "a") Ident) [] 97 (codes ";a") (record { within = omega arith; splits = refl; trivia = refl }) refl
-    (stand all_faults equal_names 0 [] division (codes "a") (codes ";a") Ident (omega arith) refl refl refl) y (subst (λ (v : ℕ). Lex all_faults equal_names v y) e h) in
+    (stand all_faults equal_names 0 [] division (codes "a") (codes ";a") Ident (omega arith) refl refl refl) y (subst (λ (v : ℕ). NextLexeme all_faults equal_names v y) e h) in
     subst (λ (v : Lexeme). AtEqual v.to × (of_kinds (Str ∷ []) v ≡ false)) (sym same) (inr (inl refl), refl)
 equal_at s (inr (inl e)) y h =
     let same : y ≡ lexeme_of 1 [] (codes ";") Semicolon = settled equal_names 1 (lexeme_of 1 [] (codes ";") Semicolon) [] 59 (codes "a") (record { within = omega arith; splits = refl; trivia = refl }) refl
-    (stand all_faults equal_names 1 [] division (codes ";") (codes "a") Semicolon (omega arith) refl refl refl) y (subst (λ (v : ℕ). Lex all_faults equal_names v y) e h) in
+    (stand all_faults equal_names 1 [] division (codes ";") (codes "a") Semicolon (omega arith) refl refl refl) y (subst (λ (v : ℕ). NextLexeme all_faults equal_names v y) e h) in
     subst (λ (v : Lexeme). AtEqual v.to × (of_kinds (Str ∷ []) v ≡ false)) (sym same) (inr (inr (inl refl)), refl)
 equal_at s (inr (inr (inl e))) y h =
     let same : y ≡ lexeme_of 2 [] (codes "a") Ident = settled equal_names 2 (lexeme_of 2 [] (codes "a") Ident) [] 97 [] (record { within = omega arith; splits = refl; trivia = refl }) refl
-    (stand all_faults equal_names 2 [] division (codes "a") [] Ident (omega arith) refl refl refl) y (subst (λ (v : ℕ). Lex all_faults equal_names v y) e h) in
+    (stand all_faults equal_names 2 [] division (codes "a") [] Ident (omega arith) refl refl refl) y (subst (λ (v : ℕ). NextLexeme all_faults equal_names v y) e h) in
     subst (λ (v : Lexeme). AtEqual v.to × (of_kinds (Str ∷ []) v ≡ false)) (sym same) (inr (inr (inr refl)), refl)
 equal_at s (inr (inr (inr e))) y h =
     let same : y ≡ lexeme_of 3 [] [] Eof = settled_last equal_names 3 (lexeme_of 3 [] [] Eof) (record { within = omega arith; splits = refl; trivia = refl })
-    (stand all_faults equal_names 3 [] division [] [] Eof (omega arith) refl refl refl) y (subst (λ (v : ℕ). Lex all_faults equal_names v y) e h) in
+    (stand all_faults equal_names 3 [] division [] [] Eof (omega arith) refl refl refl) y (subst (λ (v : ℕ). NextLexeme all_faults equal_names v y) e h) in
     subst (λ (v : Lexeme). AtEqual v.to × (of_kinds (Str ∷ []) v ≡ false)) (sym same) (inr (inr (inr refl)), refl)
 
 no_clause : StandsAt Redeclaration script equal_names (span 2 3) (Some (span 0 1)) None → ⊥

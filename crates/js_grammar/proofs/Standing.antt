@@ -8,7 +8,7 @@ use Rattle.js_grammar.specs.Longest.{longest, none_longer, none_begins, joined}
 use Rattle.js_grammar.specs.Trivia.{are_trivia}
 use Rattle.js_grammar.specs.Numbers.{is_number, stops_number}
 use Rattle.js_grammar.specs.Lexemes.{LexicalGoal, division, regular_expression, template_tail, hashbang, lexemes_in, kind_in, may_begin, is_escaped, units_of}
-use Rattle.js_grammar.specs.Lexed.{Passing, Lex, Stands, comments_pass, flags_right}
+use Rattle.js_grammar.specs.Lexed.{Passing, NextLexeme, Stands, comments_pass, flags_right}
 use Rattle.js_grammar.proofs.LongestLemmas.{both-left, both-right, none_longer-at, longest-same}
 use Rattle.js_grammar.proofs.Alike.{stands-same}
 
@@ -19,7 +19,7 @@ lexeme_of s ps word k = record { kind = k; from = s + width (joined ps); to = s 
 abbrev pub passes : Passing → ℕ → List (List ℕ) → LexicalGoal → List ℕ → List ℕ → Kind → Bool
 passes p s ps g word rest k = are_trivia (s == 0) ps (word ++ rest) && (longest (lexemes_in g) word rest && (may_begin g (s + width (joined ps)) && ((not (is_number k) || stops_number rest) && (comments_pass p ps && flags_right p k word))))
 
-unfoldable pub stand : (p : Passing) (text : List ℕ) (s : ℕ) (ps : List (List ℕ)) (g : LexicalGoal) (word rest : List ℕ) (k : Kind) → s ≤ length text → chars (drop s text) ≡ joined ps ++ (word ++ rest) → kind_in g word rest ≡ Some k → passes p s ps g word rest k ≡ true → Lex p text s (lexeme_of s ps word k)
+unfoldable pub stand : (p : Passing) (text : List ℕ) (s : ℕ) (ps : List (List ℕ)) (g : LexicalGoal) (word rest : List ℕ) (k : Kind) → s ≤ length text → chars (drop s text) ≡ joined ps ++ (word ++ rest) → kind_in g word rest ≡ Some k → passes p s ps g word rest k ≡ true → NextLexeme p text s (lexeme_of s ps word k)
 stand p text s ps g word rest k l e h t =
     let a1 = both-right (are_trivia (s == 0) ps (word ++ rest)) (longest (lexemes_in g) word rest && (may_begin g (s + width (joined ps)) && ((not (is_number k) || stops_number rest) && (comments_pass p ps && flags_right p k word)))) t in
     let a2 = both-right (longest (lexemes_in g) word rest) (may_begin g (s + width (joined ps)) && ((not (is_number k) || stops_number rest) && (comments_pass p ps && flags_right p k word))) a1 in
@@ -67,7 +67,7 @@ none_stands g (d ∷ word) rest c cs n e h =
 
 -- in no lexical goal a lexeme begins
 pub nothing_stands : (p : Passing) (text : List ℕ) (s : ℕ) (ps : List (List ℕ)) (c : ℕ) (cs : List ℕ) → s ≤ length text → chars (drop s text) ≡ joined ps ++ (c ∷ cs) → are_trivia (s == 0) ps (c ∷ cs) ≡ true
-    → (none_begins (lexemes_in division) (c ∷ cs) && no_other (c ∷ cs)) ≡ true → (y : Lexeme) → Lex p text s y → ⊥
+    → (none_begins (lexemes_in division) (c ∷ cs) && no_other (c ∷ cs)) ≡ true → (y : Lexeme) → NextLexeme p text s y → ⊥
 nothing_stands p text s ps c cs l e t n y h =
     let same = stands-same h.stands (let st : Stands text s ps [] (c ∷ cs) = record { within = l; splits = e; trivia = t } in st) in
     let o = both-right (none_begins (lexemes_in division) (c ∷ cs)) (no_other (c ∷ cs)) n in
@@ -86,7 +86,7 @@ other_goals _ = true
 
 -- the lexeme of the division goal is a number that goes on, and in the other goals none begins
 pub number_goes_on : (p : Passing) (text : List ℕ) (s : ℕ) (ps : List (List ℕ)) (c : ℕ) (cs rest : List ℕ) (k : Kind) → s ≤ length text → chars (drop s text) ≡ joined ps ++ (c ∷ cs ++ rest) → are_trivia (s == 0) ps (c ∷ cs ++ rest) ≡ true
-    → kind_in division (c ∷ cs) rest ≡ Some k → longest (lexemes_in division) (c ∷ cs) rest ≡ true → (not (is_number k) || stops_number rest) ≡ false → no_other (c ∷ cs ++ rest) ≡ true → (y : Lexeme) → Lex p text s y → ⊥
+    → kind_in division (c ∷ cs) rest ≡ Some k → longest (lexemes_in division) (c ∷ cs) rest ≡ true → (not (is_number k) || stops_number rest) ≡ false → no_other (c ∷ cs ++ rest) ≡ true → (y : Lexeme) → NextLexeme p text s y → ⊥
 number_goes_on p text s ps c cs rest k l e t kd lg ng n y h =
     let same = stands-same h.stands (let st : Stands text s ps (c ∷ cs) rest = record { within = l; splits = e; trivia = t } in st) in
     let o' = both-right (none_begins (lexemes_in regular_expression) (c ∷ cs ++ rest)) (none_begins (lexemes_in template_tail) (c ∷ cs ++ rest) && none_begins (lexemes_in hashbang) (c ∷ cs ++ rest)) n in

@@ -15,7 +15,7 @@ use Rattle.js_grammar.specs.Longest.{longest, none_longer, joined}
 use Rattle.js_grammar.specs.Trivia.{are_trivia}
 use Rattle.js_grammar.specs.Numbers.{is_number, stops_number}
 use Rattle.js_grammar.specs.Lexemes.{LexicalGoal, kind_in, lexemes_in, may_begin}
-use Rattle.js_grammar.specs.Lexed.{Passing, Lex, Lexes, Lexed, passing_of, comments_pass, flags_right, ends_once}
+use Rattle.js_grammar.specs.Lexed.{Passing, NextLexeme, Lexes, Lexed, passing_of, comments_pass, flags_right, ends_once}
 use Rattle.js_grammar.specs.Settings.{Goal}
 use Rattle.js_grammar.specs.Options.{program_flags}
 use Rattle.js_grammar.specs.Productions.{Symbol, Program, Expression, at}
@@ -67,7 +67,7 @@ stands p s x rest =
     && (may_begin x.goal (s + width (joined x.trivia))
     && ((not (is_number x.kind) || stops_number rest) && (comments_pass p x.trivia && flags_right p x.kind x.word)))))
 
-pub stands_right : (p : Passing) (text : List ℕ) (s : ℕ) (x : Written) (rest : List ℕ) → At text s (joined x.trivia ++ (x.word ++ rest)) → stands p s x rest ≡ true → Lex p text s (lexeme_at s x)
+pub stands_right : (p : Passing) (text : List ℕ) (s : ℕ) (x : Written) (rest : List ℕ) → At text s (joined x.trivia ++ (x.word ++ rest)) → stands p s x rest ≡ true → NextLexeme p text s (lexeme_at s x)
 stands_right p text s x rest place h =
     let a = and_parts (is_kind (kind_in x.goal x.word rest) x.kind) _ h in
     let b = and_parts (trivia_stands (s == 0) x.trivia (x.word ++ rest)) _ a.1 in
@@ -81,7 +81,7 @@ abbrev pub all_stand : Passing → ℕ → Written → List Written → Bool
 all_stand p s x [] = stands p s x []
 all_stand p s x (y ∷ ys) = stands p s x (characters y ys) && all_stand p (s + width (joined x.trivia) + width x.word) y ys
 
-pub all_right : (p : Passing) (text : List ℕ) (s : ℕ) (x : Written) (ys : List Written) → At text s (characters x ys) → all_stand p s x ys ≡ true → Lexes (Lex p text) s (lexemes_at s x ys)
+pub all_right : (p : Passing) (text : List ℕ) (s : ℕ) (x : Written) (ys : List Written) → At text s (characters x ys) → all_stand p s x ys ≡ true → Lexes (NextLexeme p text) s (lexemes_at s x ys)
 all_right p text s x [] place h = stands_right p text s x [] (subst (λ (v : List ℕ). At text s (joined x.trivia ++ v)) (sym (append-nil x.word)) place) h
 all_right p text s x (y ∷ ys) place h =
     let a = and_parts (stands p s x (characters y ys)) _ h in

@@ -47,7 +47,7 @@ abbrev pub permitted_core : Lexeme → Lexeme → Bool
 permitted_core before y = same_kind Eof y.kind || (y.newline && (not (same_kind Semicolon y.kind) && (one_of_kinds (Plus2 ∷ Minus2 ∷ []) y.kind || not (continues before.kind y.kind))))
 
 -- Program derives the tree from the text's lexemes by the whole table.
-pub record IsDerived (text : List ℕ) (v8 : Bool) (t : Tree) : Type 0 where
+pub record IsDerivedByWhole (text : List ℕ) (v8 : Bool) (t : Tree) : Type 0 where
   pub lexemes : Lexemes
   pub lexed : Lexed script text lexemes
   pub end : ℕ
@@ -56,7 +56,7 @@ pub record IsDerived (text : List ℕ) (v8 : Bool) (t : Tree) : Type 0 where
 
 -- On core texts that is the same.
 abbrev pub CoreReading : Type 0
-CoreReading = (text : List ℕ) (v8 : Bool) (t : Tree) → IsUtf8 text → CoreSource text → (IsReading text v8 t → IsDerived text v8 t) × (IsDerived text v8 t → IsReading text v8 t)
+CoreReading = (text : List ℕ) (v8 : Bool) (t : Tree) → IsUtf8 text → CoreSource text → (IsReading text v8 t → IsDerivedByWhole text v8 t) × (IsDerivedByWhole text v8 t → IsReading text v8 t)
 
 -- The lexemes from one place to another, with x standing last.
 pub data EndsWith : Lexemes → Lexeme → Lexemes → Type 0 where

@@ -16,8 +16,8 @@ abbrev pub last : ℕ
 last = 2 ^ 64 - 1
 
 -- A fault was counted, from one count to another, or the count stood at its last value.
-abbrev pub IsFault : ℕ → ℕ → Type 0
-IsFault before after = (before < after) ⊎ (before ≡ last)
+abbrev pub CountsFault : ℕ → ℕ → Type 0
+CountsFault before after = (before < after) ⊎ (before ≡ last)
 
 -- What the ends of a run tell: the source's bytes and faults at first and in the end, the sink's bytes and faults at first and in the end.
 pub record Told : Type 0 where

@@ -42,7 +42,7 @@ pub record IsLexeme (goal : LexicalGoal) (i : ℕ) (word rest : List ℕ) (k : K
   pub apart : IsTrue (not (is_number k) || stops_number rest)
 
 -- y may be the next lexeme behind the place s, the end of the one before.
-pub record Lex (passing : Passing) (text : List ℕ) (s : ℕ) (y : Lexeme) : Type 0 where
+pub record NextLexeme (passing : Passing) (text : List ℕ) (s : ℕ) (y : Lexeme) : Type 0 where
   pub trivia : List (List ℕ)
   pub goal : LexicalGoal
   pub word : List ℕ
@@ -59,7 +59,7 @@ pub record Lex (passing : Passing) (text : List ℕ) (s : ℕ) (y : Lexeme) : Ty
 
 -- behind the place s stands the lexeme y of a lexical goal
 pub record LexemeBehind (goal : LexicalGoal) (text : List ℕ) (s : ℕ) (y : Lexeme) : Type 0 where
-  pub lex : Lex all_faults text s y
+  pub lex : NextLexeme all_faults text s y
   pub of_goal : lex.goal ≡ goal
 
 -- Lexemes one behind the other, from a place on. The last may be any, so that a fault further on changes nothing.
@@ -84,5 +84,5 @@ ends_once (next x ls) = not (same_kind Eof x.kind) && ends_once ls
 
 -- the lexemes of a whole text at a goal
 pub record Lexed (goal : Goal) (text : List ℕ) (ls : Lexemes) : Type 0 where
-  pub lexes : Lexes (Lex (passing_of goal) text) 0 ls
+  pub lexes : Lexes (NextLexeme (passing_of goal) text) 0 ls
   pub ends : IsTrue (ends_once ls)

@@ -19,7 +19,7 @@ use Rattle.js_grammar.specs.Templates.{template_kind, template_tail_kind}
 use Rattle.js_grammar.specs.RegularExpressions.{flags}
 use Rattle.js_grammar.specs.Lexemes.{lexemes_in, division, regular_expression}
 use Rattle.js_grammar.specs.Lexed.{Lexes}
-use Rattle.js_grammar.specs.Lexed.{Stands, Lex, end_of, all_faults, in_module, passing_of}
+use Rattle.js_grammar.specs.Lexed.{Stands, NextLexeme, end_of, all_faults, in_module, passing_of}
 use Rattle.js_grammar.specs.CoreTexts.{starts}
 
 -- the characters from a place on
@@ -144,7 +144,7 @@ pub record BinaryFile (text : List ℕ) (from to : ℕ) : Type 0 where
 -- behind the place s stands a regular expression with a flag that is none of the eight, or that stood before
 pub record WrongFlag (text : List ℕ) (s from to : ℕ) : Type 0 where
   pub lexeme : Lexeme
-  pub lex : Lex all_faults text s lexeme
+  pub lex : NextLexeme all_faults text s lexeme
   pub is : lexeme.kind ≡ RegExp
   pub before : List ℕ
   pub flag : ℕ
@@ -195,7 +195,7 @@ is_invalid_character _ = false
 
 -- the place is the text's start, or the end of a part that begins there; faults that don't stop pass
 abbrev pub Reached : List ℕ → ℕ → Type 0
-Reached text s = (s ≡ 0) ⊎ ((ls : Lexemes) × Lexes (Lex all_faults text) 0 ls × (end_of ls ≡ s))
+Reached text s = (s ≡ 0) ⊎ ((ls : Lexemes) × Lexes (NextLexeme all_faults text) 0 ls × (end_of ls ≡ s))
 
 -- A fault of a text. No character is invalid at which a hashbang comment begins.
 pub record Faulty (kind : DiagnosticKind) (goal : Goal) (text : List ℕ) (from to : ℕ) : Type 0 where

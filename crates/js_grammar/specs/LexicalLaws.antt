@@ -8,17 +8,17 @@ use Rattle.js_base.specs.part_text.Characters.{one_of}
 use Rattle.js_grammar.specs.Characters.{is_white_space, is_identifier_start, is_identifier_part}
 use Rattle.js_grammar.specs.Grammar.{Lexeme, Lexemes}
 use Rattle.js_grammar.specs.Lexed.{Lexes}
-use Rattle.js_grammar.specs.Lexed.{Passing, all_faults, Lex, Stands, Lexed, end_of, join}
+use Rattle.js_grammar.specs.Lexed.{Passing, all_faults, NextLexeme, Stands, Lexed, end_of, join}
 use Rattle.js_grammar.specs.Settings.{Goal}
 use Rattle.js_grammar.specs.CoreTexts.{CoreSource}
 
 -- a part, and another from its end on, are one part together
 abbrev pub Joining : Type 0
-Joining = (passing : Passing) (text : List ℕ) (s : ℕ) (ls ms : Lexemes) → Lexes (Lex passing text) s ls → Lexes (Lex passing text) (end_of ls) ms → Lexes (Lex passing text) s (join ls ms)
+Joining = (passing : Passing) (text : List ℕ) (s : ℕ) (ls ms : Lexemes) → Lexes (NextLexeme passing text) s ls → Lexes (NextLexeme passing text) (end_of ls) ms → Lexes (NextLexeme passing text) s (join ls ms)
 
 -- a part that is cut behind a lexeme is two parts, of which the second begins where the first ends
 abbrev pub Cutting : Type 0
-Cutting = (passing : Passing) (text : List ℕ) (s : ℕ) (ls ms : Lexemes) → Lexes (Lex passing text) s (join ls ms) → Lexes (Lex passing text) s ls × Lexes (Lex passing text) (end_of ls) ms
+Cutting = (passing : Passing) (text : List ℕ) (s : ℕ) (ls ms : Lexemes) → Lexes (NextLexeme passing text) s (join ls ms) → Lexes (NextLexeme passing text) s ls × Lexes (NextLexeme passing text) (end_of ls) ms
 
 -- one list of lexemes, and no other, whichever the goal
 pub record OneList (text : List ℕ) : Type 0 where
@@ -38,7 +38,7 @@ pub record CharacterClasses : Type 0 where
 
 -- faults aside, the marks of diagnostics allow what texts allow
 abbrev pub Leniency : Type 0
-Leniency = (passing : Passing) (text : List ℕ) (s : ℕ) (y : Lexeme) → Lex passing text s y → Lex all_faults text s y
+Leniency = (passing : Passing) (text : List ℕ) (s : ℕ) (y : Lexeme) → NextLexeme passing text s y → NextLexeme all_faults text s y
 
 -- behind trivia, a slash or a right brace stands
 pub record AtSlashOrBrace (text : List ℕ) (s : ℕ) : Type 0 where
@@ -50,4 +50,4 @@ pub record AtSlashOrBrace (text : List ℕ) (s : ℕ) : Type 0 where
 
 -- nothing else is left to choice, whichever faults pass
 abbrev pub Choice : Type 0
-Choice = (p q : Passing) (text : List ℕ) (s : ℕ) (y z : Lexeme) → Lex p text s y → Lex q text s z → (y ≡ z) ⊎ AtSlashOrBrace text s
+Choice = (p q : Passing) (text : List ℕ) (s : ℕ) (y z : Lexeme) → NextLexeme p text s y → NextLexeme q text s z → (y ≡ z) ⊎ AtSlashOrBrace text s

@@ -19,7 +19,7 @@ use Rattle.js_grammar.specs.Characters.{width}
 use Rattle.js_grammar.specs.Longest.{joined}
 use Rattle.js_grammar.specs.Trivia.{is_single_line_comment, is_multi_line_comment, is_html_comment}
 use Rattle.js_grammar.specs.Lexemes.{division, is_word}
-use Rattle.js_grammar.specs.Lexed.{Lex, Lexes, Stands, all_faults, end_of}
+use Rattle.js_grammar.specs.Lexed.{NextLexeme, Lexes, Stands, all_faults, end_of}
 use Rattle.js_grammar.specs.CoreTexts.{max_len, occurs}
 use Rattle.js_grammar.specs.LexicalFaults.{Reached, Faulty}
 
@@ -44,8 +44,8 @@ faulty_lexeme from to = record { kind = Undetermined; from = from; to = to; newl
 
 -- A lexeme of the text.
 pub data IsLexemeOf (goal : Goal) (text : List ℕ) : Lexeme → Type 0 where
-  a_lexeme : {s : ℕ} {x : Lexeme} → Reached text s → Lex all_faults text s x → IsLexemeOf goal text x
-  a_sign : {s : ℕ} {x : Lexeme} → Reached text s → Lex all_faults text s x → IsTrue (begins_with_greater x.kind) → IsLexemeOf goal text (cut_sign x)
+  a_lexeme : {s : ℕ} {x : Lexeme} → Reached text s → NextLexeme all_faults text s x → IsLexemeOf goal text x
+  a_sign : {s : ℕ} {x : Lexeme} → Reached text s → NextLexeme all_faults text s x → IsTrue (begins_with_greater x.kind) → IsLexemeOf goal text (cut_sign x)
   a_fault : {k : DiagnosticKind} {from to : ℕ} → Faulty k goal text from to → IsTrue (not (goes_on k)) → IsLexemeOf goal text (faulty_lexeme from to)
 
 abbrev pub Is : Lexeme → Span → Type 0
@@ -85,7 +85,7 @@ pub record BeginsWith (test : Lexeme → Bool) (goal : Goal) (text : List ℕ) (
 -- Lexemes from a place on that is reached from the text's start.
 pub record Part (text : List ℕ) (place : ℕ) (ls : Lexemes) : Type 0 where
   pub reached : Reached text place
-  pub lexed : Lexes (Lex all_faults text) place ls
+  pub lexed : Lexes (NextLexeme all_faults text) place ls
 
 -- The span runs from a lexeme to the next, and these pass a test.
 pub record TwoAt (test : Lexeme → Lexeme → Bool) (text : List ℕ) (s : Span) : Type 0 where
@@ -344,7 +344,7 @@ middle_marker text (next x ls) = elim (begins_closing text x) [
 
 -- a lexeme of the plain goal
 pub record Plain (text : List ℕ) (s : ℕ) (x : Lexeme) : Type 0 where
-  pub lex : Lex all_faults text s x
+  pub lex : NextLexeme all_faults text s x
   pub plain : lex.goal ≡ division
 
 abbrev pub NoPlain : List ℕ → ℕ → Type 0
@@ -379,7 +379,7 @@ no_comments = list_all (λ p. not (is_comment p))
 -- lexemes lead from the start of the text to the place, with no comment before any
 pub data Quiet (text : List ℕ) : ℕ → Type 0 where
   start : Quiet text 0
-  more : {s : ℕ} {y : Lexeme} → Quiet text s → (h : Lex all_faults text s y) → IsTrue (no_comments h.trivia) → Quiet text y.to
+  more : {s : ℕ} {y : Lexeme} → Quiet text s → (h : NextLexeme all_faults text s y) → IsTrue (no_comments h.trivia) → Quiet text y.to
 
 -- The first comment of the text holds `@flow`.
 pub record FlowComment (text : List ℕ) (s : Span) : Type 0 where

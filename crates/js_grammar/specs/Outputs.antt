@@ -17,7 +17,7 @@ abbrev pub Valid : Settings → List ℕ → Tree → Type 0
 Valid s text t = IsWhole Program text (read_at s.goal) (options_of s) t
 
 -- The output is the lines of the text's only reading. It is valid, and where the lexemes of the text are read and begin no production that isn't built, no other tree is, but for the mark `pure`.
-pub record Accepts (s : Settings) (text out : List ℕ) : Type 0 where
+pub record AcceptsText (s : Settings) (text out : List ℕ) : Type 0 where
   pub tree : Tree
   pub only : IsOnlyReading text (read_at s.goal) (options_of s) tree
   pub lines : out ≡ tree_text tree
@@ -25,7 +25,7 @@ pub record Accepts (s : Settings) (text out : List ℕ) : Type 0 where
   pub only_valid : (t : Tree) (v : Valid s text t) → AreBuilt text v.derived.lexemes → without_pure t ≡ tree
 
 -- The text has no reading, and no valid tree over lexemes that are read and begin no production that isn't built; the output is the lines of diagnostics, one at least. Each has its mark, and a span in the text.
-pub record Refuses (s : Settings) (text out : List ℕ) : Type 0 where
+pub record RefusesText (s : Settings) (text out : List ℕ) : Type 0 where
   pub found : List Diagnostic
   pub some : found ≡ [] → ⊥
   pub told : AreOf (read_at s.goal) text found
@@ -35,5 +35,5 @@ pub record Refuses (s : Settings) (text out : List ℕ) : Type 0 where
 
 -- true, where the text is refused
 abbrev pub Gives : Settings → List ℕ → Bool → List ℕ → Type 0
-Gives s text false out = Accepts s text out
-Gives s text true out = Refuses s text out
+Gives s text false out = AcceptsText s text out
+Gives s text true out = RefusesText s text out

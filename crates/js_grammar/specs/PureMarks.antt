@@ -6,7 +6,7 @@ use Rattle.js_grammar.specs.Words.{'const'}
 use Rattle.js_grammar.specs.Trees.{NodeKind, parenthesized_expression, chain_expression, static_member_expression, computed_member_expression, private_field_expression, call_expression, new_expression, function_expression, function_declaration, arrow_function_expression, variable_declaration, export_declaration, export_default_declaration, Op, of, Label, Slots, end, hole, tree, Tree}
 use Rattle.js_grammar.specs.Grammar.{Lexemes, last, next, here}
 use Rattle.js_grammar.specs.Productions.{Name, Symbol, LeftHandSide, SimpleTarget, Assignment, Item, ListItem, Sub, Statement, ExportDecl, pure_flag, has_flag}
-use Rattle.js_grammar.specs.Lexed.{Passing, Lex, Lexes}
+use Rattle.js_grammar.specs.Lexed.{Passing, NextLexeme, Lexes}
 use Rattle.js_grammar.specs.Trivia.{is_single_line_comment, is_multi_line_comment, is_html_comment}
 use Rattle.js_grammar.specs.CommentMarks.{is_pure_comment, is_no_side_effects_comment}
 use Rattle.js_grammar.specs.Derivations.{Use, SomeUse}
@@ -17,7 +17,7 @@ use Rattle.js_grammar.specs.TreeForms.{not_pure, lacks_parens}
 
 -- Comments before a lexeme: between it and the one before.
 
-abbrev pub trivia_before : (p : Passing) (text : List ℕ) (s : ℕ) (ls : Lexemes) → Lexes (Lex p text) s ls → ℕ → List (List ℕ)
+abbrev pub trivia_before : (p : Passing) (text : List ℕ) (s : ℕ) (ls : Lexemes) → Lexes (NextLexeme p text) s ls → ℕ → List (List ℕ)
 trivia_before p text s (last x) h from = cond (x.from == from) h.trivia []
 trivia_before p text s (next x ls) h from = cond (x.from == from) h.0.trivia (trivia_before p text x.to ls h.1 from)
 

@@ -4,7 +4,7 @@ use Rattle.js_base.specs.declared.kind.Kind.{Kind}
 use Rattle.js_base.specs.declared.kind.Kind.TheVariants.{At, PrivateIdentifier, HashbangComment, Undetermined}
 use Rattle.js_base.specs.Kinds.{one_of_kinds}
 use Rattle.js_grammar.specs.Grammar.{Lexeme}
-use Rattle.js_grammar.specs.Lexed.{Lex as StandsBehind, passing_of}
+use Rattle.js_grammar.specs.Lexed.{NextLexeme, passing_of}
 use Rattle.js_grammar.specs.Settings.{Goal}
 
 -- The kinds that aren't read, and that of a token where no lexeme stands.
@@ -20,4 +20,4 @@ is_read y = is_read_kind y.kind
 
 -- A lexeme that is read may stand there with no fault: in a module no HTML-like comment stands before it (ECMA-262, B.1.1)
 abbrev pub Faultless : Goal → List ℕ → ℕ → Lexeme → Type 0
-Faultless source text s y = StandsBehind (passing_of source) text s y × IsTrue (is_read y)
+Faultless source text s y = NextLexeme (passing_of source) text s y × IsTrue (is_read y)

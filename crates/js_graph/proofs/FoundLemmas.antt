@@ -12,7 +12,7 @@ use Rattle.js_graph.specs.declared.resolution.BindingName.TheVariants as named
 use Rattle.js_graph.specs.declared.resolution.Resolution.{Resolution}
 use Rattle.js_graph.specs.declared.resolution.Resolution.TheVariants as answer
 use Rattle.js_graph.specs.Following.{name_eq, binding_eq, noted}
-use Rattle.js_graph.specs.Resolving.{Answers}
+use Rattle.js_graph.specs.Resolving.{Resolves}
 
 -- what is known of a set of bindings, by cases
 abbrev pub Tells : (Binding → Type 0) → Resolution → Type 0
@@ -80,7 +80,7 @@ pub of_all : (bs : List Binding) → Tells (Contains bs) (fold noted answer.Null
 of_all bs = Tells-same (λ c. ⊥ ⊎ Contains bs c) (Contains bs) (fold noted answer.Null bs) (λ c g. elim g [ inl n ↦ absurd n | inr n ↦ n ]) (λ c n. inr n) (all_more (λ c. ⊥) answer.Null bs (λ b n. n))
 
 -- what is known is what is answered
-pub Answers-tell : (P : Binding → Type 0) (r : Resolution) → Tells P r → Answers P r
+pub Answers-tell : (P : Binding → Type 0) (r : Resolution) → Tells P r → Resolves P r
 Answers-tell P answer.Null h = record {
   null = (λ e. h, λ n. refl);
   one = λ b. (λ e. cc, λ f. absurd (h b f.0));

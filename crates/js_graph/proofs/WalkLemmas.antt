@@ -14,7 +14,7 @@ use Rattle.js_graph.specs.Following.{pair_eq, entered, noted}
 use Rattle.js_graph.specs.Leads.{Pair, Lead, to_binding, to_pairs, bindings_of, lead_of, next_of}
 use Rattle.js_graph.specs.Modules.{Module}
 use Rattle.js_graph.specs.Paths.{Reaches}
-use Rattle.js_graph.specs.Resolving.{Answers, Bindings}
+use Rattle.js_graph.specs.Resolving.{Resolves, Bindings}
 use Rattle.js_graph.specs.declared.walk.Walk.{Walk}
 use Rattle.js_graph.specs.Walks.{IsFollowed}
 use Rattle.std.proofs.lemmas.Option.{slice_get-get_or}
@@ -104,14 +104,14 @@ module _ (g : List Module) (start : Pair) (ks : List Pair) (done : ℕ) (r : Res
   are_reached b h = from_found g start (take done ks) b (All-take (Reaches (next_of g) start) done ks w.followed.reached) h
 
   -- where all are followed, what is known is the answer
-  pub walked_all : length ks ≤ done → Answers (Bindings g start.0 start.1) r
+  pub walked_all : length ks ≤ done → Resolves (Bindings g start.0 start.1) r
   walked_all le = Answers-tell (Bindings g start.0 start.1) r (Tells-same (Contains founds) (Bindings g start.0 start.1) r are_reached back told)
     where
       back : (b : Binding) → Bindings g start.0 start.1 b → Contains founds b
       back b h = to_found g (take done ks) h.0 b (subst (λ (v : List Pair). Contains v h.0) (sym (take_all done ks le)) (all_followed (next_of g) start ks done w.followed le h.0 h.1)) h.2
 
   -- where two bindings are found, that is the answer, whatever is yet to be followed
-  pub walked_twice : r ≡ answer.Ambiguous → Answers (Bindings g start.0 start.1) r
+  pub walked_twice : r ≡ answer.Ambiguous → Resolves (Bindings g start.0 start.1) r
   walked_twice e =
       let two = subst (Tells (Contains founds)) e told in
-      subst (Answers (Bindings g start.0 start.1)) (sym e) (Answers-tell (Bindings g start.0 start.1) answer.Ambiguous (two.0, two.1, are_reached two.0 two.2, are_reached two.1 two.3, two.4))
+      subst (Resolves (Bindings g start.0 start.1)) (sym e) (Answers-tell (Bindings g start.0 start.1) answer.Ambiguous (two.0, two.1, are_reached two.0 two.2, are_reached two.1 two.3, two.4))

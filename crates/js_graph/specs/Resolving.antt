@@ -12,7 +12,7 @@ abbrev pub Bindings : List Module → ℕ → List ℕ → Binding → Type 0
 Bindings g number name b = (p : Pair) × Reaches (next_of g) (number, name) p × (lead_of g p ≡ to_binding b)
 
 -- what is answered for a set of bindings: null exactly where there is none, a binding exactly where it is there alone, and that it is ambiguous exactly where there are two
-pub record Answers (found : Binding → Type 0) (r : Resolution) : Type 0 where
+pub record Resolves (found : Binding → Type 0) (r : Resolution) : Type 0 where
   pub null : (r ≡ answer.Null) ↔ ((b : Binding) → ¬ (found b))
   pub one : (b : Binding) → (r ≡ answer.Binding b) ↔ (found b × ((c : Binding) → found c → c ≡ b))
   pub ambiguous : (r ≡ answer.Ambiguous) ↔ ((b : Binding) × (c : Binding) × found b × found c × (b ≢ c))

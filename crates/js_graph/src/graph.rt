@@ -5,7 +5,7 @@ ghost use Rattle.std.specs.List.{IsDistinct};
 ghost use Rattle.js_grammar.specs.ModuleRecords.{own_export_names};
 ghost use Rattle.js_graph.specs.Modules.{are_linked, unlinked, with_link};
 ghost use Rattle.js_graph.specs.Names.{AreExported};
-ghost use Rattle.js_graph.specs.Resolving.{Answers, Bindings};
+ghost use Rattle.js_graph.specs.Resolving.{Resolves, Bindings};
 
 use crate::module::{Module, are_linked};
 use crate::names::{Texts, exported_names};
@@ -96,7 +96,7 @@ impl Graph {
     ) -> Result<Resolution, NoMemory>
         requires module_exists { «module» < length self.now }
         requires linked { IsTrue (are_linked self.now) }
-        ensures resolved { IfOk result (Answers (Bindings self.now «module» name.now)) }
+        ensures resolved { IfOk result (Resolves (Bindings self.now «module» name.now)) }
     {
         resolve(alloc, &self.modules, module, name)
     }

@@ -7,7 +7,7 @@ ghost use Rattle.js_graph.specs.Following.{entered, noted};
 ghost use Rattle.js_graph.specs.Walks.{IsFollowed};
 ghost use Rattle.js_graph.specs.Leads.{Pair, binding_name, bindings_of, by_star, lead_in, lead_of, pairs_of, through};
 ghost use Rattle.js_graph.specs.Modules.{target_by};
-ghost use Rattle.js_graph.specs.Resolving.{Answers, Bindings};
+ghost use Rattle.js_graph.specs.Resolving.{Resolves, Bindings};
 
 use crate::module::Module;
 use crate::name::Name;
@@ -171,7 +171,7 @@ impl<'a> Walk<'a> {
 
     /// Follows all that was reached, and what is reached from there, up to a second binding.
     fn follow_all(&mut self, alloc: Global, modules: &'a Vec<Module>) -> Result<(), NoMemory>
-        ensures { OnOk result ((start : Pair) → self.old.reached.keys ≡ start ∷ [] → self.old.found ≡ Resolution.Null → Answers (Bindings modules.now.items start.0 start.1) self.new.found) }
+        ensures { OnOk result ((start : Pair) → self.old.reached.keys ≡ start ∷ [] → self.old.found ≡ Resolution.Null → Resolves (Bindings modules.now.items start.0 start.1) self.new.found) }
     {
         let mut done = 0;
         while done < self.reached.len() {
@@ -192,7 +192,7 @@ pub(crate) fn resolve<'a>(
     number: usize,
     name: &'a str,
 ) -> Result<Resolution, NoMemory>
-    ensures { IfOk result (Answers (Bindings modules.now.items number name.now)) }
+    ensures { IfOk result (Resolves (Bindings modules.now.items number name.now)) }
 {
     let mut walk = Walk::new(alloc, number, name)?;
     walk.follow_all(alloc, modules)?;

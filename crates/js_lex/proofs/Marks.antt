@@ -15,7 +15,7 @@ use Rattle.part_words.specs.js_grammar.Characters.{width}
 use Rattle.part_words.specs.js_grammar.Longest.{joined}
 use Rattle.part_words.specs.js_grammar.Trivia.{is_html_comment}
 use Rattle.part_words.specs.js_grammar.Lexemes.{LexicalGoal, regular_expression, kind_in}
-use Rattle.part_words.specs.js_grammar.Lexed.{Lex, Stands, all_faults, in_module, passing_of}
+use Rattle.part_words.specs.js_grammar.Lexed.{NextLexeme, Stands, all_faults, in_module, passing_of}
 use Rattle.part_words.specs.js_grammar.RegularExpressions.{behind_pattern, flags}
 use Rattle.part_words.specs.js_grammar.LexicalFaults.{behind, FaultyBehind}
 use Rattle.part_words.specs.Places.{Word}
@@ -75,7 +75,7 @@ abbrev pub Marks : Goal → List ℕ → ℕ → Diagnostic → Type 0
 Marks source text s d = FaultyBehind d.kind source text s d.span.start d.span.end
 
 -- flags that stand behind others, up to the end of a regular expression
-flags_marked_from : (text : List ℕ) (source : Goal) (s : ℕ) (y : Lexeme) (lex : Lex all_faults text s y) → IsUtf8 text → y.kind ≡ RegExp → (i : ℕ) (before fs : List ℕ) → flags lex.word ≡ Some (before ++ fs) → IsCharBoundary text i → Word text i y.to fs → All (Marks source text s) (flag_faults i before fs)
+flags_marked_from : (text : List ℕ) (source : Goal) (s : ℕ) (y : Lexeme) (lex : NextLexeme all_faults text s y) → IsUtf8 text → y.kind ≡ RegExp → (i : ℕ) (before fs : List ℕ) → flags lex.word ≡ Some (before ++ fs) → IsCharBoundary text i → Word text i y.to fs → All (Marks source text s) (flag_faults i before fs)
 flags_marked_from text source s y lex t k i before [] h b w = All-nil (Marks source text s)
 flags_marked_from text source s y lex t k i before (f ∷ fs) h b w =
     let parts : Word text i (i + width (f ∷ [])) (f ∷ []) × Word text (i + width (f ∷ [])) y.to fs = split_word text i y.to (f ∷ []) fs t b w in

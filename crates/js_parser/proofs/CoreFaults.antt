@@ -16,7 +16,7 @@ use Rattle.js_base.specs.part_text.Decoding.{string_points}
 use Rattle.js_grammar.specs.Grammar.{Lexeme, Lexemes, last, next}
 use Rattle.js_grammar.specs.Characters.{width, begins}
 use Rattle.js_grammar.specs.Longest.{longest, none_longer, none_begins, joined}
-use Rattle.js_grammar.specs.Lexed.{Lexes, Lex, Stands, all_faults, end_of}
+use Rattle.js_grammar.specs.Lexed.{Lexes, NextLexeme, Stands, all_faults, end_of}
 use Rattle.js_grammar.specs.Lexemes.{a_number, a_string, division, lexemes_in, may_precede, opening}
 use Rattle.js_grammar.specs.Numbers.{number_kind, digits, is_number, stops_number}
 use Rattle.js_grammar.specs.Settings.{Goal}
@@ -109,7 +109,7 @@ record Stood (text : List ℕ) (s : ℕ) (y : Lexeme) : Type 0 where
   pub behind : Place text y.to
   pub plain : y.kind ≡ RegExp → ⊥
 
-stood : {text : List ℕ} {s : ℕ} → Place text s → (y : Lexeme) → Lex all_faults text s y → Stood text s y
+stood : {text : List ℕ} {s : ℕ} → Place text s → (y : Lexeme) → NextLexeme all_faults text s y → Stood text s y
 stood {text} {s} p y l = go (ahead (s == 0) p.glued p.pieces p.core p.lacks)
   where
     go : Ahead (s == 0) p.pieces → Stood text s y
@@ -130,7 +130,7 @@ stood {text} {s} p y l = go (ahead (s == 0) p.glued p.pieces p.core p.lacks)
           plain = λ z. let n : (code RegExp == code RegExp) ≡ false = subst (λ (a : Kind). (code RegExp == code a) ≡ false) (sym (ap (λ (x : Lexeme). x.kind) same) ∙ z) other in cc;
         }
 
-through : {text : List ℕ} {s : ℕ} → Place text s → (ls : Lexemes) → Lexes (Lex all_faults text) s ls → Place text (end_of ls)
+through : {text : List ℕ} {s : ℕ} → Place text s → (ls : Lexemes) → Lexes (NextLexeme all_faults text) s ls → Place text (end_of ls)
 through p (last x) l = (stood p x l).behind
 through p (next x ls) l = through (stood p x l.0).behind ls l.1
 

@@ -12,7 +12,7 @@ use Rattle.js_grammar.specs.Trees.{Tree}
 use Rattle.js_grammar.specs.Grammar.{Lexeme, Lexemes, last, next, Derives}
 use Rattle.js_grammar.specs.Productions.{Program, at}
 use Rattle.js_grammar.specs.Lexemes.{LexicalGoal, kind_in, hashbang, hashbang_kind}
-use Rattle.js_grammar.specs.Lexed.{Lex, Lexes, Lexed, all_faults, passing_of}
+use Rattle.js_grammar.specs.Lexed.{NextLexeme, Lexes, Lexed, all_faults, passing_of}
 use Rattle.js_grammar.specs.Trivia.{after, within_line}
 use Rattle.js_grammar.specs.Settings.{Goal, script}
 use Rattle.js_grammar.specs.Options.{Options, program_flags}
@@ -57,11 +57,11 @@ plainly_so false h = refl
 read_so : (y : Lexeme) → core_lexeme y ≡ true → is_read y ≡ true
 read_so y h = let k = and_parts (one_of_kinds core_kinds y.kind) (not y.escaped) h in read_of y refl (every_at is_read_kind core_kinds y.kind k.0 refl)
 
-all_read : (text : List ℕ) (goal : Goal) (s : ℕ) (ls : Lexemes) → Lexes (Lex (passing_of goal) text) s ls → AllCore ls → Lexes (Faultless goal text) s ls
+all_read : (text : List ℕ) (goal : Goal) (s : ℕ) (ls : Lexemes) → Lexes (NextLexeme (passing_of goal) text) s ls → AllCore ls → Lexes (Faultless goal text) s ls
 all_read text goal s (last x) l c = (l, read_so x c)
 all_read text goal s (next x ls) l c = ((l.0, read_so x c.0), all_read text goal x.to ls l.1 c.1)
 
-pub plainly : (text : List ℕ) (goal : Goal) (s : ℕ) (ls : Lexemes) → Lexes (Faultless goal text) s ls → Lexes (Lex (passing_of goal) text) s ls
+pub plainly : (text : List ℕ) (goal : Goal) (s : ℕ) (ls : Lexemes) → Lexes (Faultless goal text) s ls → Lexes (NextLexeme (passing_of goal) text) s ls
 plainly text goal s (last x) l = l.0
 plainly text goal s (next x ls) l = (l.0.0, plainly text goal x.to ls l.1)
 
@@ -81,7 +81,7 @@ module _ {text : List ℕ} (u : IsUtf8 text) (s : CoreSource text) where
       false≢true (subst (λ (a : Kind). one_of_kinds core_kinds a ≡ true) (sym k) c.0)
 
   module _ (goal : Goal) (o : Options) where
-    all_plain : (ls : Lexemes) → AreRead text goal ls → Lexes (Lex (passing_of goal) text) 0 ls
+    all_plain : (ls : Lexemes) → AreRead text goal ls → Lexes (NextLexeme (passing_of goal) text) 0 ls
     all_plain ls (from_text_start l) = plainly text goal 0 ls l
     all_plain ls (behind_a_hashbang b) = absurd (no_hashbang b.comment b.stands)
 

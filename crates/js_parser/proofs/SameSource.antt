@@ -11,7 +11,7 @@ use Rattle.js_base.specs.declared.kind.Kind.TheVariants.{Ident}
 use Rattle.js_grammar.specs.Trees.{NodeKind, function_expression, arrow_function_expression, Op, Label, Span, Slots, end, hole, tree, Tree, append}
 use Rattle.js_grammar.specs.Grammar.{Look, Extent, exact, inside, Lexeme, Lexemes, last, next, lexeme, seq, alt, ahead, when, many, commas, marked, node, ended, keep, span_of, Takes, Derives, is_nothing, is_lexeme, is_look, is_text, is_ahead, is_empty_slot, is_seq, is_left, is_right, is_when, is_many, is_commas, is_such, is_marked, is_node, is_ended, is_keep, is_kept}
 use Rattle.js_grammar.specs.Longest.{joined}
-use Rattle.js_grammar.specs.Lexed.{Passing, passing_of, IsLexeme, Lex, Lexes}
+use Rattle.js_grammar.specs.Lexed.{Passing, passing_of, IsLexeme, NextLexeme, Lexes}
 use Rattle.js_grammar.specs.Lexemes.{LexicalGoal, is_word, division, regular_expression, template_tail, hashbang}
 use Rattle.js_grammar.specs.LexicalFaults.{behind}
 use Rattle.js_grammar.specs.CoverInitialisers.{with_cover}
@@ -38,7 +38,7 @@ record Standing (text : List ℕ) (y : Lexeme) : Type 0 where
   pub same : (passes : Kind → Bool) (h : passes y.kind ≡ true) → (one passes h).kind ≡ y.kind
   pub boundary : IsCharBoundary text y.to
 
-stands : {p : Passing} {text : List ℕ} {s : ℕ} {y : Lexeme} → IsUtf8 text → IsCharBoundary text s → Lex p text s y → Standing text y
+stands : {p : Passing} {text : List ℕ} {s : ℕ} {y : Lexeme} → IsUtf8 text → IsCharBoundary text s → NextLexeme p text s y → Standing text y
 stands {p} {text} {s} {y} u b l =
     let v : Word text s y.from (joined l.trivia) = subst (λ (n : ℕ). Word text s n (joined l.trivia)) (sym l.from) (front_word text s (joined l.trivia) (l.word ++ l.rest) u b l.stands.splits) in
     let here : behind text y.from ≡ l.word ++ l.rest = cancel (joined l.trivia) (behind text y.from) (l.word ++ l.rest) (sym v.splits ∙ l.stands.splits) in
@@ -57,7 +57,7 @@ stands {p} {text} {s} {y} u b l =
     }
 
 -- all of them do
-all_stand : (p : Passing) {text : List ℕ} → IsUtf8 text → (s : ℕ) (ls : Lexemes) → IsCharBoundary text s → Lexes (Lex p text) s ls → Lexes (λ n y. Standing text y) s ls
+all_stand : (p : Passing) {text : List ℕ} → IsUtf8 text → (s : ℕ) (ls : Lexemes) → IsCharBoundary text s → Lexes (NextLexeme p text) s ls → Lexes (λ n y. Standing text y) s ls
 all_stand p u s (last x) b l = stands u b l
 all_stand p u s (next x ls) b l = let a = stands u b l.0 in (a, all_stand p u x.to ls a.boundary l.1)
 

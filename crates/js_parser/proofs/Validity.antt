@@ -9,7 +9,7 @@ use Rattle.js_grammar.specs.Trees.{Tree}
 use Rattle.js_grammar.specs.Grammar.{Lexeme, Lexemes, last, next, Derives}
 use Rattle.js_grammar.specs.Characters.{width}
 use Rattle.js_grammar.specs.CoreTexts.{max_len}
-use Rattle.js_grammar.specs.Lexed.{Passing, in_script, in_module, all_faults, comments_pass, flags_right, Lex, Lexes, passing_of}
+use Rattle.js_grammar.specs.Lexed.{Passing, in_script, in_module, all_faults, comments_pass, flags_right, NextLexeme, Lexes, passing_of}
 use Rattle.js_grammar.specs.Lexemes.{LexicalGoal, may_begin, hashbang}
 use Rattle.js_grammar.specs.Longest.{joined}
 use Rattle.js_grammar.specs.Options.{Options}
@@ -51,7 +51,7 @@ no_flags in_script w = refl
 no_flags in_module w = refl
 no_flags all_faults w = refl
 
-at_goal : (p : Passing) {text : List ℕ} {y : Lexeme} → LexemeBehind hashbang text 0 y → Lex p text 0 y
+at_goal : (p : Passing) {text : List ℕ} {y : Lexeme} → LexemeBehind hashbang text 0 y → NextLexeme p text 0 y
 at_goal p {y = y} b =
     let l = b.lex in
     let start : y.from ≡ 0 = eqb-true y.from 0 (subst (λ (g : LexicalGoal). may_begin g y.from ≡ true) b.of_goal l.lexeme.begins) in
@@ -76,17 +76,17 @@ at_goal p {y = y} b =
 -- ---- lexemes
 
 module _ (text : List ℕ) (goal : Goal) where
-  pub all_plain : (ls : Lexemes) → AreRead text goal ls → Lexes (Lex (passing_of goal) text) 0 ls
+  pub all_plain : (ls : Lexemes) → AreRead text goal ls → Lexes (NextLexeme (passing_of goal) text) 0 ls
   all_plain ls (from_text_start l) = plainly text goal 0 ls l
-  all_plain ls (behind_a_hashbang b) = subst (λ (ms : Lexemes). Lexes (Lex (passing_of goal) text) 0 ms) (sym b.is) (at_goal (passing_of goal) b.stands, plainly text goal b.comment.to b.others b.lexed)
+  all_plain ls (behind_a_hashbang b) = subst (λ (ms : Lexemes). Lexes (NextLexeme (passing_of goal) text) 0 ms) (sym b.is) (at_goal (passing_of goal) b.stands, plainly text goal b.comment.to b.others b.lexed)
 
-  faultless : (s : ℕ) (ls : Lexemes) → Lexes (Lex (passing_of goal) text) s ls → AllBuilt ls → Lexes (Faultless goal text) s ls
+  faultless : (s : ℕ) (ls : Lexemes) → Lexes (NextLexeme (passing_of goal) text) s ls → AllBuilt ls → Lexes (Faultless goal text) s ls
   faultless s (last x) l c = (l, (and_parts (is_read x) _ c).0)
   faultless s (next x ls) l c = ((l.0, (and_parts (is_read x) _ c.0).0), faultless x.to ls l.1 c.1)
 
-  are_read : (ls : Lexemes) → Lexes (Lex (passing_of goal) text) 0 ls → AreBuilt text ls → AreRead text goal ls
+  are_read : (ls : Lexemes) → Lexes (NextLexeme (passing_of goal) text) 0 ls → AreBuilt text ls → AreRead text goal ls
   are_read ls l (Rattle.js_grammar.specs.BuiltTexts.from_text_start c) = from_text_start (faultless 0 ls l c)
-  are_read ls l (Rattle.js_grammar.specs.BuiltTexts.behind_a_hashbang y ms b e c) = behind_a_hashbang (record { comment = y; stands = b; others = ms; is = e; lexed = faultless y.to ms (subst (λ (v : Lexemes). Lexes (Lex (passing_of goal) text) 0 v) e l).1 c })
+  are_read ls l (Rattle.js_grammar.specs.BuiltTexts.behind_a_hashbang y ms b e c) = behind_a_hashbang (record { comment = y; stands = b; others = ms; is = e; lexed = faultless y.to ms (subst (λ (v : Lexemes). Lexes (NextLexeme (passing_of goal) text) 0 v) e l).1 c })
 
 all_begin_none : (ls : Lexemes) → AllBuilt ls → BeginNoUnbuilt ls
 all_begin_none (last x) c = (and_parts (is_read x) _ c).1

@@ -71,7 +71,7 @@ pub record IsOverlong (nodes : List Node) (out : LexerOutput) (fatal : Bool) : T
   pub alone : nodes ≡ empty_program ∷ []
   pub is_fatal : fatal ≡ true
 
-pub record Answers (text : List ℕ) (given taken : SourceType) (o : ParseOptions) (nodes : List Node) (out : LexerOutput) (fatal : Bool) : Type 0 where
+pub record IsReturn (text : List ℕ) (given taken : SourceType) (o : ParseOptions) (nodes : List Node) (out : LexerOutput) (fatal : Bool) : Type 0 where
   pub settled : goal_of taken ≡ read_at (goal_of given)
   pub short : length text ≤ MAX_LEN → IsAnswer text (read_at (goal_of given)) (options_of o) nodes out fatal
   pub long : MAX_LEN < length text → IsOverlong nodes out fatal

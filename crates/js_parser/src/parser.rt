@@ -10,7 +10,7 @@ ghost use Rattle.js_cursor.specs.js_lex.States.{goal_of};
 ghost use Rattle.js_parser.specs.CoreAnswers.{IsCoreAnswer};
 ghost use Rattle.js_core.specs.Kept.{KeepsRight};
 ghost use Rattle.js_core.specs.Readings.{read_at};
-ghost use Rattle.js_parser.specs.Parsed.{default_options, options_of, Answers, IsAnswer, output_of};
+ghost use Rattle.js_parser.specs.Parsed.{default_options, options_of, IsReturn, IsAnswer, output_of};
 
 use crate::answer::{ParserReturn, overlong, refused, taken};
 use js_base::{MAX_LEN, NoMemory, ParseOptions, SourceType};
@@ -85,7 +85,7 @@ impl<'a, C: ParserConfig> Parser<'a, C> {
         // Without diagnostics, comments and white space are those of the lexemes of the reading, and so are the tokens,
         // where the config asks for them; where it doesn't, there are none.
         ensures kept { IfOk result (λ r. KeepsRight self.entry.source_text.now (read_at (goal_of self.entry.source_type)) (options_of self.entry.options) (C.asks_for_tokens self.entry.config) (output_of r)) }
-        ensures answers { IfOk result (λ r. Answers self.entry.source_text.now self.entry.source_type r.program.source_type self.entry.options r.program.tree (output_of r) r.fatal_error) }
+        ensures answers { IfOk result (λ r. IsReturn self.entry.source_text.now self.entry.source_type r.program.source_type self.entry.options r.program.tree (output_of r) r.fatal_error) }
         // Of a text that is too long no declaration of a module is read.
         ensures overlong_record { IfOk result (λ r. MAX_LEN < length self.entry.source_text.now → r.module_record ≡ record_of_parts []) }
         ensures no_flow { IfOk result (λ r. r.is_flow_language ≡ false) }

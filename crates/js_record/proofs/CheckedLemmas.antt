@@ -16,11 +16,11 @@ use Rattle.js_tree.specs.Sources.{text_of}
 use Rattle.js_tree.specs.Nodes.{Node, label, empty_program}
 use Rattle.js_tree.specs.Holding.{stands, StandsAll, no_slots, next_child, next_hole}
 use Rattle.js_record.specs.Checked.{IsUnder, AreSound}
-use Rattle.js_record.specs.NodeKinds.{is_word, is_string}
+use Rattle.js_record.specs.NodeKinds.{is_name_kind, is_string}
 use Rattle.js_record.specs.Shown.{IsTree, IsRead, IsReadWhole}
 
 -- what a kind asks of the text
-word_as : (text : List ℕ) (l : Label) (k : NodeKind) → is_word k ≡ true → IsSome (word_at text l) → IsReadAs (kind_of k) text l
+word_as : (text : List ℕ) (l : Label) (k : NodeKind) → is_name_kind k ≡ true → IsSome (word_at text l) → IsReadAs (kind_of k) text l
 word_as text l node.IdentifierReference h w = w
 word_as text l node.BindingIdentifier h w = w
 word_as text l node.LabelIdentifier h w = w
@@ -32,7 +32,7 @@ string_as : (text : List ℕ) (l : Label) (k : NodeKind) → is_string k ≡ tru
 string_as text l node.StringLiteral h w = w
 string_as text l _ h w = absurd (true≢false (sym h))
 
-other_as : (text : List ℕ) (l : Label) (k : NodeKind) → is_word k ≡ false → is_string k ≡ false → IsReadAs (kind_of k) text l
+other_as : (text : List ℕ) (l : Label) (k : NodeKind) → is_name_kind k ≡ false → is_string k ≡ false → IsReadAs (kind_of k) text l
 other_as text l node.IdentifierReference h s = absurd (true≢false h)
 other_as text l node.BindingIdentifier h s = absurd (true≢false h)
 other_as text l node.LabelIdentifier h s = absurd (true≢false h)
@@ -45,14 +45,14 @@ module _ (n : Node) (text : List ℕ) (s : Span) (k : NodeKind) (se : s ≡ n.sp
   lies_too : LiesIn (span_of (label n)) text
   lies_too = subst (λ (v : Span). LiesIn v text) se lies
 
-  pub word_from : (bs : List ℕ) → bs ≡ text_of n text → is_word k ≡ true → IsSome (name_text (chars (without_sign bs))) → IsReadFrom text (label n)
-  word_from bs e h w = (lies_too, word_as text (label n) n.kind (ap is_word (sym ke) ∙ h) (subst (λ (v : List ℕ). IsSome (name_text (chars (without_sign v)))) e w))
+  pub word_from : (bs : List ℕ) → bs ≡ text_of n text → is_name_kind k ≡ true → IsSome (name_text (chars (without_sign bs))) → IsReadFrom text (label n)
+  word_from bs e h w = (lies_too, word_as text (label n) n.kind (ap is_name_kind (sym ke) ∙ h) (subst (λ (v : List ℕ). IsSome (name_text (chars (without_sign v)))) e w))
 
   pub string_from : (bs : List ℕ) → bs ≡ text_of n text → is_string k ≡ true → string_kind (chars bs) ≡ Some Str → IsReadFrom text (label n)
   string_from bs e h w = (lies_too, string_as text (label n) n.kind (ap is_string (sym ke) ∙ h) (subst (λ (v : List ℕ). string_kind (chars v) ≡ Some Str) e w))
 
-  pub other_from : is_word k ≡ false → is_string k ≡ false → IsReadFrom text (label n)
-  other_from h t = (lies_too, other_as text (label n) n.kind (ap is_word (sym ke) ∙ h) (ap is_string (sym ke) ∙ t))
+  pub other_from : is_name_kind k ≡ false → is_string k ≡ false → IsReadFrom text (label n)
+  other_from h t = (lies_too, other_as text (label n) n.kind (ap is_name_kind (sym ke) ∙ h) (ap is_string (sym ke) ∙ t))
 
 record Kids (ns : List Node) (text : List ℕ) (b : ℕ) (ids : List (Option NodeId)) : Type 0 where
   pub slots : Slots

@@ -10,10 +10,10 @@ use Rattle.js_grammar.specs.Trees.{Label}
 use Rattle.js_tree.specs.declared.kind.NodeKind.{NodeKind}
 use Rattle.js_tree.specs.declared.kind.NodeKind.TheVariants as node
 use Rattle.js_tree.specs.Labels.{kind_of}
-use Rattle.js_record.specs.NodeKinds.{is_word, is_string}
+use Rattle.js_record.specs.NodeKinds.{is_name_kind, is_string}
 
 module _ (text : List ℕ) (l : Label) where
-  pub word_read : (k : NodeKind) → is_word k ≡ true → IsReadAs (kind_of k) text l → IsSome (word_at text l)
+  pub word_read : (k : NodeKind) → is_name_kind k ≡ true → IsReadAs (kind_of k) text l → IsSome (word_at text l)
   word_read node.IdentifierReference h r = r
   word_read node.BindingIdentifier h r = r
   word_read node.LabelIdentifier h r = r
@@ -21,7 +21,7 @@ module _ (text : List ℕ) (l : Label) where
   word_read node.PrivateIdentifier h r = r
   word_read _ h r = absurd (true≢false (sym h))
 
-  pub word_name : (k : NodeKind) → is_word k ≡ true → name_by (kind_of k) text l ≡ word_at text l
+  pub word_name : (k : NodeKind) → is_name_kind k ≡ true → name_by (kind_of k) text l ≡ word_at text l
   word_name node.IdentifierReference h = refl
   word_name node.BindingIdentifier h = refl
   word_name node.LabelIdentifier h = refl
@@ -45,7 +45,7 @@ module _ (text : List ℕ) (l : Label) where
   no_string node.StringLiteral h = absurd (true≢false h)
   no_string _ h = refl
 
-  pub no_word : (k : NodeKind) → is_word k ≡ false → is_string k ≡ false → name_by (kind_of k) text l ≡ None
+  pub no_word : (k : NodeKind) → is_name_kind k ≡ false → is_string k ≡ false → name_by (kind_of k) text l ≡ None
   no_word node.IdentifierReference h s = absurd (true≢false h)
   no_word node.BindingIdentifier h s = absurd (true≢false h)
   no_word node.LabelIdentifier h s = absurd (true≢false h)

@@ -6,7 +6,7 @@ ghost use Rattle.js_grammar.specs.NodeNames.{word_at, string_at, name_at, IsRead
 ghost use Rattle.js_grammar.specs.Modules.{named, specifier as specified};
 ghost use Rattle.js_tree.specs.declared.kind.NodeKind.TheVariants as node;
 ghost use Rattle.js_tree.specs.Nodes.{node_at};
-ghost use Rattle.js_record.specs.NodeKinds.{is_word, is_string};
+ghost use Rattle.js_record.specs.NodeKinds.{is_name_kind, is_string};
 ghost use Rattle.js_record.specs.Shown.{label_at, IsNear, first_shown, second_shown, optional_shown, first_of, rest_of};
 
 use js_base::{NoMemory, Span, Text, decode_name};
@@ -16,7 +16,7 @@ use std::alloc::Global;
 
 /// Whether a node of this kind is a name.
 pub(crate) fn is_word(kind: NodeKind) -> bool
-    ensures { result ≡ is_word kind }
+    ensures { result ≡ is_name_kind kind }
 {
     matches!(
         kind,

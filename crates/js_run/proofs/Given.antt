@@ -11,14 +11,14 @@ use Rattle.js_parser.specs.js_lex.declared.output.LexerOutput.{LexerOutput}
 use Rattle.js_parser.specs.js_tree.Nodes.{Node}
 use Rattle.js_parser.specs.js_tree.Holding.{IsTree}
 use Rattle.js_grammar.specs.TreeForms.{without_pure}
-use Rattle.js_parser.specs.Parsed.{Answers}
+use Rattle.js_parser.specs.Parsed.{IsReturn}
 use Rattle.js_parser.proofs.Validity.{readings_are_valid}
 use Rattle.js_run.specs.declared.words.Settings.{Settings}
-use Rattle.js_run.specs.Outputs.{Accepts, Refuses}
+use Rattle.js_run.specs.Outputs.{AcceptsText, RefusesText}
 use Rattle.js_run.specs.Words.{settings_of}
 
-module _ (s : Settings) {text : List ℕ} {taken : SourceType} {nodes : List Node} {out : LexerOutput} {fatal : Bool} (a : Answers text s.goal taken s.options nodes out fatal) (short : length text ≤ MAX_LEN) where
-  pub accepts : {lines : List ℕ} → out.errors ≡ [] → ((t : Tree) → IsTree nodes t → lines ≡ tree_text t) → Accepts (settings_of s) text lines
+module _ (s : Settings) {text : List ℕ} {taken : SourceType} {nodes : List Node} {out : LexerOutput} {fatal : Bool} (a : IsReturn text s.goal taken s.options nodes out fatal) (short : length text ≤ MAX_LEN) where
+  pub accepts : {lines : List ℕ} → out.errors ≡ [] → ((t : Tree) → IsTree nodes t → lines ≡ tree_text t) → AcceptsText (settings_of s) text lines
   accepts z f =
       let r = a.short short in
       let c = r.clean z in
@@ -30,12 +30,12 @@ module _ (s : Settings) {text : List ℕ} {taken : SourceType} {nodes : List Nod
         only_valid = λ t v b. (c.only (without_pure t) (readings_are_valid.reading text _ _ t v b)).0;
       }
 
-  pub refuses : {lines : List ℕ} → (out.errors ≡ [] → ⊥) → lines ≡ diagnostic_text out.errors → Refuses (settings_of s) text lines
+  pub refuses : {lines : List ℕ} → (out.errors ≡ [] → ⊥) → lines ≡ diagnostic_text out.errors → RefusesText (settings_of s) text lines
   refuses n e = let r = a.short short in record { found = out.errors; some = n; told = r.told; lines = e; none = r.unclean n; none_valid = λ t v b. r.unclean n (without_pure t) (readings_are_valid.reading text _ _ t v b) }
 
 -- the parser's own text, goal and options are those that were given
-pub answered : {text source : List ℕ} {given goal taken : SourceType} {asked o : ParseOptions} {nodes : List Node} {out : LexerOutput} {fatal : Bool} → source ≡ text → goal ≡ given → o ≡ asked → Answers source goal taken o nodes out fatal → Answers text given taken asked nodes out fatal
-answered {text} {given = given} {goal} {taken} {o = o} {nodes} {out} {fatal} e g q a = subst (λ (v : ParseOptions). Answers text given taken v nodes out fatal) q (subst (λ (v : SourceType). Answers text v taken o nodes out fatal) g (subst (λ (v : List ℕ). Answers v goal taken o nodes out fatal) e a))
+pub answered : {text source : List ℕ} {given goal taken : SourceType} {asked o : ParseOptions} {nodes : List Node} {out : LexerOutput} {fatal : Bool} → source ≡ text → goal ≡ given → o ≡ asked → IsReturn source goal taken o nodes out fatal → IsReturn text given taken asked nodes out fatal
+answered {text} {given = given} {goal} {taken} {o = o} {nodes} {out} {fatal} e g q a = subst (λ (v : ParseOptions). IsReturn text given taken v nodes out fatal) q (subst (λ (v : SourceType). IsReturn text v taken o nodes out fatal) g (subst (λ (v : List ℕ). IsReturn v goal taken o nodes out fatal) e a))
 
 pub true_of : {b : Bool} {P : Type 0} → IsTrue b ↔ P → b ≡ true → P
 true_of i e = i.0 e

@@ -7,9 +7,9 @@ use Rattle.std.specs.Io.KnownBytes.{Consumes, Appends, Keeps, IsAtEnd}
 use Rattle.std.proofs.KnownBytes.{Appends-trans, Appends-kept, Consumes-trans, Consumes-kept}
 use Rattle.js_run.specs.declared.status.Status.{Status}
 use Rattle.js_run.specs.declared.status.Status.TheVariants.{Ok, Refused, Usage, ReadFault, WriteFault, NoMemory, NotUtf8, TooLong}
-use Rattle.js_run.specs.Ends.{IsFault}
+use Rattle.js_run.specs.Ends.{CountsFault}
 use Rattle.std.specs.Str.{IsUtf8}
-use Rattle.js_run.specs.Outputs.{Accepts, Refuses, Gives, WritesReading, WritesDiagnostics, AsksForTree}
+use Rattle.js_run.specs.Outputs.{AcceptsText, RefusesText, Gives, WritesReading, WritesDiagnostics, AsksForTree}
 use Rattle.js_grammar.specs.Settings.{Settings}
 use Rattle.js_grammar.specs.CommandLine.{Admitted}
 use Rattle.js_grammar.specs.CoreTexts.{CoreSource}
@@ -17,11 +17,11 @@ use Rattle.js_grammar.specs.Options.{options_of}
 use Rattle.js_parser.specs.js_core.Readings.{read_at}
 use Rattle.js_parser.proofs.CoreTexts.{only_core, none_core}
 use Rattle.js_run.specs.Words.{Sets}
-use Rattle.js_run.specs.Runs.{limit, Gave, IsText, IsLong, ReadsUpTo, Told, Answers, HasCause, FitsWords, LeavesSink, LeavesSource, ComesBefore, IsAnswerBy, IsAnswerTo, IsCoreAnswerTo}
+use Rattle.js_run.specs.Runs.{limit, Gave, IsText, IsLong, ReadsUpTo, Told, PutsOut, HasCause, FitsWords, LeavesSink, LeavesSource, ComesBefore, IsAnswerBy, IsAnswerTo, IsCoreAnswerTo}
 use Rattle.js_run.specs.Steps.{Made, ReadPiece, ReadCause, StopCause, TookFront, PutCause}
 
 -- A fault of a part of a time is one of the whole.
-pub fault_later : (a b c d : ℕ) → a ≤ b → b ≤ c → c ≤ d → IsFault b c → IsFault a d
+pub fault_later : (a b c d : ℕ) → a ≤ b → b ≤ c → c ≤ d → CountsFault b c → CountsFault a d
 fault_later a b c d p q r f = elim f [ inl lt ↦ inl (omega arith) | inr e ↦ elim (cases_lt a b) [ inl lt ↦ inl (omega arith) | inr ge ↦ inr (omega arith) ] ]
 
 pub takes_on : (a b c : Option (List ℕ)) (done n : ℕ) (out : List ℕ) → Appends a b (take done out) → Appends b c (take n (drop done out)) → Appends a c (take (done + n) out)
@@ -67,7 +67,7 @@ put_has_cause Refused words s refused out t a m h = (s, a, record { text = m.tex
 put_has_cause Usage words s refused out t a m h = absurd h
 put_has_cause ReadFault words s refused out t a m h = absurd h
 put_has_cause WriteFault words s refused out t a m h =
-    let gives : (r : Bool) → Gives s m.text r out → Answers s m.text (h.0.front ++ h.0.rest) = λ r. elim r as (λ r. Gives s m.text r out → Answers s m.text (h.0.front ++ h.0.rest)) [ true ↦ λ g. inr (subst (Refuses s m.text) h.0.parts g) | false ↦ λ g. inl (subst (Accepts s m.text) h.0.parts g) ] in
+    let gives : (r : Bool) → Gives s m.text r out → PutsOut s m.text (h.0.front ++ h.0.rest) = λ r. elim r as (λ r. Gives s m.text r out → PutsOut s m.text (h.0.front ++ h.0.rest)) [ true ↦ λ g. inr (subst (RefusesText s m.text) h.0.parts g) | false ↦ λ g. inl (subst (AcceptsText s m.text) h.0.parts g) ] in
     (s, a, record { text = m.text; front = h.0.front; rest = h.0.rest; gave = m.gave; is_text = m.is_text; puts = gives refused m.gives; written = h.0.took; fault = h.1 })
 put_has_cause NoMemory words s refused out t a m h = absurd h
 put_has_cause NotUtf8 words s refused out t a m h = absurd h
@@ -97,11 +97,11 @@ same_settings : {words : List (List ℕ)} {s t : Settings} → Sets words s → 
 same_settings a b = sym (a.only _ b)
 
 answer_to_text : (status : Status) (words : List (List ℕ)) (t : Told) (text : List ℕ) (s : Settings) → t.given ≡ Some text → IsText text → Admitted words s → FitsWords status words → HasCause status words t → IsAnswerTo s text t status
-answer_to_text Ok words t text s e is a f (r, b, h) = let g = gave_all _ _ text h.text e h.gave in (h.out, subst (λ (v : Settings). Accepts v text h.out) (same_settings b a) (subst (λ (x : List ℕ). Accepts r x h.out) g.0 h.puts), h.written, g.1)
-answer_to_text Refused words t text s e is a f (r, b, h) = let g = gave_all _ _ text h.text e h.gave in (h.out, subst (λ (v : Settings). Refuses v text h.out) (same_settings b a) (subst (λ (x : List ℕ). Refuses r x h.out) g.0 h.puts), h.written, g.1)
+answer_to_text Ok words t text s e is a f (r, b, h) = let g = gave_all _ _ text h.text e h.gave in (h.out, subst (λ (v : Settings). AcceptsText v text h.out) (same_settings b a) (subst (λ (x : List ℕ). AcceptsText r x h.out) g.0 h.puts), h.written, g.1)
+answer_to_text Refused words t text s e is a f (r, b, h) = let g = gave_all _ _ text h.text e h.gave in (h.out, subst (λ (v : Settings). RefusesText v text h.out) (same_settings b a) (subst (λ (x : List ℕ). RefusesText r x h.out) g.0 h.puts), h.written, g.1)
 answer_to_text Usage words t text s e is a f h = f s a
 answer_to_text ReadFault words t text s e is a f h = h.fault
-answer_to_text WriteFault words t text s e is a f (r, b, h) = let g = gave_all _ _ text h.text e h.gave in (h.front, h.rest, subst (λ (v : Settings). Answers v text (h.front ++ h.rest)) (same_settings b a) (subst (λ (x : List ℕ). Answers r x (h.front ++ h.rest)) g.0 h.puts), h.written, g.1, h.fault)
+answer_to_text WriteFault words t text s e is a f (r, b, h) = let g = gave_all _ _ text h.text e h.gave in (h.front, h.rest, subst (λ (v : Settings). PutsOut v text (h.front ++ h.rest)) (same_settings b a) (subst (λ (x : List ℕ). PutsOut r x (h.front ++ h.rest)) g.0 h.puts), h.written, g.1, h.fault)
 answer_to_text NoMemory words t text s e is a f h = tt
 answer_to_text NotUtf8 words t text s e is a f h = let g = gave_all _ _ text h.bytes e h.gave in h.not_utf8 (subst IsUtf8 (sym g.0) is.utf8)
 answer_to_text TooLong words t text s e is a f h = not_long t text e h is.short
@@ -203,7 +203,7 @@ pub no_text_if_told : (status : Status) (words : List (List ℕ)) (t : Told) (gi
 no_text_if_told status words t None e h = tt
 no_text_if_told status words t (Some bytes) e h = no_text_or_before status words t bytes e h
 
-no_fault : (a b : ℕ) → a ≡ 0 → b ≡ 0 → IsFault a b → ⊥
+no_fault : (a b : ℕ) → a ≡ 0 → b ≡ 0 → CountsFault a b → ⊥
 no_fault a b p q f = elim f [ inl lt ↦ omega arith | inr e ↦ omega arith ]
 
 pub no_read_fault : (status : Status) (words : List (List ℕ)) (t : Told) → t.read_faults ≡ 0 → t.read_faults_after ≡ 0 → HasCause status words t → status ≡ ReadFault → ⊥
@@ -218,10 +218,10 @@ no_read_fault TooLong words t p q h e = cc
 
 -- ---- core texts
 
-writes_reading : (s : Settings) (text out : List ℕ) → IsUtf8 text → CoreSource text → Accepts s text out → WritesReading s.allow_v8 text out
+writes_reading : (s : Settings) (text out : List ℕ) → IsUtf8 text → CoreSource text → AcceptsText s text out → WritesReading s.allow_v8 text out
 writes_reading s text out u c a = record { tree = a.tree; only = only_core u c (read_at s.goal) (options_of s) a.tree a.only; lines = a.lines }
 
-writes_diagnostics : (s : Settings) (text out : List ℕ) → IsUtf8 text → CoreSource text → Refuses s text out → WritesDiagnostics s.allow_v8 text out
+writes_diagnostics : (s : Settings) (text out : List ℕ) → IsUtf8 text → CoreSource text → RefusesText s text out → WritesDiagnostics s.allow_v8 text out
 writes_diagnostics s text out u c r = record { none = none_core u c (read_at s.goal) (options_of s) r.none; found = r.found; some = r.some; inside = r.told.lie; lines = r.lines }
 
 answer_by : {A B C D : List ℕ → Type 0} → ((out : List ℕ) → A out → C out) → ((out : List ℕ) → B out → D out) → (t : Told) (status : Status) → IsAnswerBy A B t status → IsAnswerBy C D t status

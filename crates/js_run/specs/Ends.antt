@@ -2,7 +2,7 @@
 use Rattle.std.specs.Prelude.{ℕ, ◌≡◌, ◌+◌, ◌-◌, ◌<◌, ◌⊎◌, ◌↔◌, List, ◌++◌, length, take, min, Result, Ok, Err, IsErr}
 use Rattle.std.specs.List.{Contains}
 use Rattle.js_run.specs.declared.ends.Failed.{Failed}
-pub use Rattle.js_grammar.specs.Ends.{last, IsFault}
+pub use Rattle.js_grammar.specs.Ends.{last, CountsFault}
 
 -- one more, up to the last value
 abbrev pub next_count : ℕ → ℕ

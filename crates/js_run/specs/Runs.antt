@@ -4,11 +4,11 @@ use Rattle.std.specs.Str.{IsUtf8}
 use Rattle.std.specs.Io.KnownBytes.{Consumes, Appends, IsAtEnd}
 use Rattle.js_run.specs.declared.status.Status.{Status}
 use Rattle.js_run.specs.declared.status.Status.TheVariants.{Ok, Refused, Usage, ReadFault, WriteFault, NoMemory, NotUtf8, TooLong}
-use Rattle.js_run.specs.Ends.{IsFault}
+use Rattle.js_run.specs.Ends.{CountsFault}
 use Rattle.js_run.specs.Words.{NoneAdmitted, Sets}
 use Rattle.js_grammar.specs.Settings.{Settings}
 use Rattle.js_grammar.specs.CommandLine.{Admitted}
-use Rattle.js_run.specs.Outputs.{Accepts, Refuses, WritesReading, WritesDiagnostics}
+use Rattle.js_run.specs.Outputs.{AcceptsText, RefusesText, WritesReading, WritesDiagnostics}
 pub use Rattle.js_grammar.specs.Ends.{limit, IsText, Told}
 
 -- The source gave these bytes, and has no more.
@@ -34,7 +34,7 @@ pub record BrokeOff (Puts : List ℕ → List ℕ → Type 0) (given left before
   pub is_text : IsText text
   pub puts : Puts text (front ++ rest)
   pub written : Appends before after front
-  pub fault : IsFault faults faults_after
+  pub fault : CountsFault faults faults_after
 
 -- The source gave bytes that are not UTF-8, and not too many.
 pub record IsNoText (given left : Option (List ℕ)) : Type 0 where
@@ -57,7 +57,7 @@ pub record ReadsUpTo (most : ℕ) (given left : Option (List ℕ)) : Type 0 wher
 
 -- The source failed before it gave a byte more than a text may have.
 pub record ReadFailed (given left : Option (List ℕ)) (faults faults_after : ℕ) : Type 0 where
-  pub fault : IsFault faults faults_after
+  pub fault : CountsFault faults faults_after
   pub reads : ReadsUpTo limit given left
 
 -- what the ends tell, by the members of their types
@@ -65,8 +65,8 @@ abbrev pub told : {S K : Type 0} → (S → Option (List ℕ)) → (S → ℕ) �
 told remaining read_faults taken write_faults source source_after sink sink_after = record { given = remaining source; left = remaining source_after; read_faults = read_faults source; read_faults_after = read_faults source_after; before = taken sink; after = taken sink_after; write_faults = write_faults sink; write_faults_after = write_faults sink_after }
 
 -- what is put out for a text, accepted or refused
-abbrev pub Answers : Settings → List ℕ → List ℕ → Type 0
-Answers s text out = Accepts s text out ⊎ Refuses s text out
+abbrev pub PutsOut : Settings → List ℕ → List ℕ → Type 0
+PutsOut s text out = AcceptsText s text out ⊎ RefusesText s text out
 
 -- the words set one thing, of which this holds
 abbrev pub SetBy : List (List ℕ) → (Settings → Type 0) → Type 0
@@ -74,11 +74,11 @@ SetBy words P = (s : Settings) × Sets words s × P s
 
 -- Each status has its cause.
 abbrev pub HasCause : Status → List (List ℕ) → Told → Type 0
-HasCause Ok words t = SetBy words (λ s. Answered (Accepts s) t.given t.left t.before t.after)
-HasCause Refused words t = SetBy words (λ s. Answered (Refuses s) t.given t.left t.before t.after)
+HasCause Ok words t = SetBy words (λ s. Answered (AcceptsText s) t.given t.left t.before t.after)
+HasCause Refused words t = SetBy words (λ s. Answered (RefusesText s) t.given t.left t.before t.after)
 HasCause Usage words t = Unit {0}
 HasCause ReadFault words t = ReadFailed t.given t.left t.read_faults t.read_faults_after
-HasCause WriteFault words t = SetBy words (λ s. BrokeOff (Answers s) t.given t.left t.before t.after t.write_faults t.write_faults_after)
+HasCause WriteFault words t = SetBy words (λ s. BrokeOff (PutsOut s) t.given t.left t.before t.after t.write_faults t.write_faults_after)
 HasCause NoMemory words t = Unit {0}
 HasCause NotUtf8 words t = IsNoText t.given t.left
 HasCause TooLong words t = IsLong t.given t.left
@@ -112,15 +112,15 @@ abbrev pub IsAnswerBy : (List ℕ → Type 0) → (List ℕ → Type 0) → Told
 IsAnswerBy Accepted Rejected t Ok = (out : List ℕ) × Accepted out × Appends t.before t.after out × (t.left ≡ Some [])
 IsAnswerBy Accepted Rejected t Refused = (out : List ℕ) × Rejected out × Appends t.before t.after out × (t.left ≡ Some [])
 IsAnswerBy Accepted Rejected t Usage = ⊥
-IsAnswerBy Accepted Rejected t ReadFault = IsFault t.read_faults t.read_faults_after
-IsAnswerBy Accepted Rejected t WriteFault = (front : List ℕ) × (rest : List ℕ) × (Accepted (front ++ rest) ⊎ Rejected (front ++ rest)) × Appends t.before t.after front × (t.left ≡ Some []) × IsFault t.write_faults t.write_faults_after
+IsAnswerBy Accepted Rejected t ReadFault = CountsFault t.read_faults t.read_faults_after
+IsAnswerBy Accepted Rejected t WriteFault = (front : List ℕ) × (rest : List ℕ) × (Accepted (front ++ rest) ⊎ Rejected (front ++ rest)) × Appends t.before t.after front × (t.left ≡ Some []) × CountsFault t.write_faults t.write_faults_after
 IsAnswerBy Accepted Rejected t NoMemory = Unit {0}
 IsAnswerBy Accepted Rejected t NotUtf8 = ⊥
 IsAnswerBy Accepted Rejected t TooLong = ⊥
 
 -- The same where the words set this, of the text's only reading and of diagnostics where it has none.
 abbrev pub IsAnswerTo : Settings → List ℕ → Told → Status → Type 0
-IsAnswerTo s text t status = IsAnswerBy (Accepts s text) (Refuses s text) t status
+IsAnswerTo s text t status = IsAnswerBy (AcceptsText s text) (RefusesText s text) t status
 
 -- The same of a core text.
 abbrev pub IsCoreAnswerTo : Settings → List ℕ → Told → Status → Type 0

@@ -3,7 +3,7 @@ use Rattle.std.specs.Prelude.{ℕ, Bool, true, false, ◌≡◌, ◌+◌, ◌≤
 use Rattle.std.specs.Io.KnownBytes.{Consumes, Appends, Keeps, IsAtEnd}
 use Rattle.js_run.specs.declared.status.Status.{Status}
 use Rattle.js_run.specs.declared.status.Status.TheVariants.{Ok, Refused, ReadFault, WriteFault, NoMemory, NotUtf8, TooLong}
-use Rattle.js_run.specs.Ends.{IsFault}
+use Rattle.js_run.specs.Ends.{CountsFault}
 use Rattle.js_run.specs.Runs.{limit, Gave, IsText, ReadFailed, IsNoText, IsLong}
 use Rattle.js_grammar.specs.Settings.{Settings}
 use Rattle.js_run.specs.Outputs.{Gives}
@@ -19,7 +19,7 @@ pub record ReadPiece (given left : Option (List ℕ)) (old new : List ℕ) (n : 
 
 -- why a read ended the reading: the bytes of the source before it and after it, and its faults
 abbrev pub ReadCause : Status → Option (List ℕ) → Option (List ℕ) → ℕ → ℕ → Type 0
-ReadCause ReadFault given left faults faults_after = IsFault faults faults_after × Keeps given left
+ReadCause ReadFault given left faults faults_after = CountsFault faults faults_after × Keeps given left
 ReadCause NoMemory given left faults faults_after = Unit {0}
 ReadCause _ given left faults faults_after = ⊥
 
@@ -49,5 +49,5 @@ pub record TookFront (before after : Option (List ℕ)) (out : List ℕ) : Type 
 abbrev pub PutCause : Status → Bool → List ℕ → Option (List ℕ) → Option (List ℕ) → ℕ → ℕ → Type 0
 PutCause Ok refused out before after faults faults_after = (refused ≡ false) × Appends before after out
 PutCause Refused refused out before after faults faults_after = (refused ≡ true) × Appends before after out
-PutCause WriteFault refused out before after faults faults_after = TookFront before after out × IsFault faults faults_after
+PutCause WriteFault refused out before after faults faults_after = TookFront before after out × CountsFault faults faults_after
 PutCause _ refused out before after faults faults_after = ⊥

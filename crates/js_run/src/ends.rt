@@ -2,7 +2,7 @@
 
 ghost use Rattle.std.specs.Prelude.{ℕ, ◌<◌, ◌≤◌, List, Option, length, IfOk, OnErr};
 ghost use Rattle.std.specs.Io.KnownBytes.{ReadConsumes, WriteAppends};
-ghost use Rattle.js_run.specs.Ends.{IsFault};
+ghost use Rattle.js_run.specs.Ends.{CountsFault};
 
 /// A read or a write failed.
 #[derive(Debug, Drop)]
@@ -22,7 +22,7 @@ pub trait Source {
         ensures fits { IfOk result (λ n. n ≤ length into.new) }
         ensures bytes { ReadConsumes (remaining self.old) (remaining self.new) result into.new }
         ensures counts { faults self.old ≤ faults self.new }
-        ensures failed { OnErr result (IsFault (faults self.old) (faults self.new)) };
+        ensures failed { OnErr result (CountsFault (faults self.old) (faults self.new)) };
 }
 
 /// Where bytes go.
@@ -39,5 +39,5 @@ pub trait Sink {
         ensures bytes { WriteAppends (taken self.old) (taken self.new) result piece.now }
         ensures goes_on { IfOk result (λ n. 0 < length piece.now → 0 < n) }
         ensures counts { faults self.old ≤ faults self.new }
-        ensures failed { OnErr result (IsFault (faults self.old) (faults self.new)) };
+        ensures failed { OnErr result (CountsFault (faults self.old) (faults self.new)) };
 }

@@ -1,7 +1,7 @@
 //! A source that fails at calls that are listed.
 
 ghost use Rattle.std.specs.Prelude.{◌≡◌, ◌≤◌, Some, OnErr};
-ghost use Rattle.js_run.specs.Ends.{Failing, FailingRead, IsFault};
+ghost use Rattle.js_run.specs.Ends.{Failing, FailingRead, CountsFault};
 
 use crate::ends::{Failed, Source};
 use crate::steady::SteadySource;
@@ -44,7 +44,7 @@ impl Source for FailingSource {
     fn read(&mut self, into: &mut [u8]) -> Result<usize, Failed>
         ensures read { FailingRead self.old self.new into.new result }
         ensures counts { self.old.faults ≤ self.new.faults }
-        ensures failed { OnErr result (IsFault self.old.faults self.new.faults) }
+        ensures failed { OnErr result (CountsFault self.old.faults self.new.faults) }
     {
         self.calls = self.calls.saturating_add(1);
         if self.fails.contains(&self.calls) {

@@ -6,7 +6,7 @@ ghost use Rattle.std.specs.Io.KnownBytes.{Appends};
 ghost use Rattle.js_grammar.specs.CommandLine.{Admitted};
 ghost use Rattle.js_grammar.specs.CoreTexts.{CoreSource};
 ghost use Rattle.js_grammar.specs.Settings.{Settings as Set};
-ghost use Rattle.js_run.specs.Ends.{IsFault};
+ghost use Rattle.js_run.specs.Ends.{CountsFault};
 ghost use Rattle.js_run.specs.Outputs.{AsksForTree};
 ghost use Rattle.js_run.specs.Runs.{limit, ReadsUpTo, Gave, told, HasCause, FitsWords, LeavesSink, LeavesSource, ComesBefore, IsAnswerTo, IsCoreAnswerTo, IsText};
 ghost use Rattle.js_run.specs.Steps.{ReadPiece, ReadCause, StopCause, Made, TookFront, PutCause};
@@ -95,7 +95,7 @@ fn make<S: Source>(alloc: Global, settings: &Settings, source: &mut S) -> Result
 /// Writes all of these bytes.
 fn write_all<K: Sink>(sink: &mut K, out: &[u8]) -> Result<(), Failed>
     ensures ok { OnOk result (Appends (K.taken sink.old) (K.taken sink.new) out.now) }
-    ensures failed { OnErr result (IsFault (K.faults sink.old) (K.faults sink.new)) }
+    ensures failed { OnErr result (CountsFault (K.faults sink.old) (K.faults sink.new)) }
     ensures part { OnErr result (TookFront (K.taken sink.old) (K.taken sink.new) out.now) }
     ensures counts { K.faults sink.old ≤ K.faults sink.new }
 {

@@ -1,7 +1,7 @@
 //! A sink with room for so many bytes.
 
 ghost use Rattle.std.specs.Prelude.{◌≡◌, ◌<◌, ◌≤◌, [], Some, length, IfOk, OnErr, vec_capacity};
-ghost use Rattle.js_run.specs.Ends.{Room, RoomWrite, IsFault};
+ghost use Rattle.js_run.specs.Ends.{Room, RoomWrite, CountsFault};
 
 use crate::ends::{Failed, Sink};
 use js_base::NoMemory;
@@ -61,7 +61,7 @@ impl Sink for RoomSink {
         ensures write { RoomWrite self.old self.new piece.now result }
         ensures goes_on { IfOk result (λ n. 0 < length piece.now → 0 < n) }
         ensures counts { self.old.faults ≤ self.new.faults }
-        ensures failed { OnErr result (IsFault self.old.faults self.new.faults) }
+        ensures failed { OnErr result (CountsFault self.old.faults self.new.faults) }
     {
         self.calls = self.calls.saturating_add(1);
         let left = self.room - self.taken.len();

@@ -37,12 +37,12 @@ use Rattle.laws_shared.proofs.js_lex.Again.{cut_same}
 use Rattle.laws_shared.specs.js_lex.States.{goal_of}
 use Rattle.js_base.specs.declared.diagnostic.Diagnostic.{Diagnostic}
 use Rattle.js_base.specs.declared.kind.Kind.TheVariants.{Undetermined}
-use Rattle.js_grammar.specs.Lexed.{Lex as StandsBehind, all_faults}
+use Rattle.js_grammar.specs.Lexed.{NextLexeme, all_faults}
 use Rattle.js_grammar.specs.Lexemes.{is_escaped}
 use Rattle.js_grammar.specs.Marks.{Mark, a_lexeme}
 use Rattle.js_grammar.specs.RightEdges.{may_end}
 use Rattle.laws_shared.specs.js_cursor.Moves.{Peeks}
-use Rattle.laws_shared.specs.js_cursor.Moves.{Keeps as Keeps_one}
+use Rattle.laws_shared.specs.js_cursor.Moves.{KeepsDiagnostic as Keeps_one}
 use Rattle.js_base.specs.declared.diagnostic.DiagnosticKind.TheVariants.{LineterminatorBeforeArrow}
 use Rattle.laws_shared.specs.Told.{unrelated_at}
 use Rattle.laws_shared.specs.js_cursor.Places.{goal}
@@ -969,6 +969,6 @@ late_marked {text} {f} {p} s a k w e =
       within = a.at.lies.ends_whole.0;
       begins_between = a.at.lies.starts_whole;
       ends_between = a.at.lies.ends_whole;
-      stands = (record { lexeme = y.0; of_text = a_lexeme a.at.reached (subst (λ (t : List ℕ). StandsBehind all_faults t p.prev_token_end y.0) (sym a.text_is) y.1); is = (sym y.2.start, sym y.2.end); passes = rw (sym y.2.kind ∙ k, sym y.2.newline ∙ w) refl }, (refl, refl));
+      stands = (record { lexeme = y.0; of_text = a_lexeme a.at.reached (subst (λ (t : List ℕ). NextLexeme all_faults t p.prev_token_end y.0) (sym a.text_is) y.1); is = (sym y.2.start, sym y.2.end); passes = rw (sym y.2.kind ∙ k, sym y.2.newline ∙ w) refl }, (refl, refl));
     } in
     subst (λ (v : Span). Mark (goal p) p.text (late_arrow v)) (sym e) m

@@ -11,7 +11,7 @@ use Rattle.js_base.specs.Texts.{words}
 use Rattle.js_grammar.specs.Trees.{NodeKind, Op, of, Label, Slots, end, tree, logical_expression}
 use Rattle.js_grammar.specs.Grammar.{Lexeme, Lexemes, last, next, here, seen, such, nothing, Takes, Derives, is_nothing, is_left, is_right}
 use Rattle.js_grammar.specs.Lexed.{Lexes, all_faults}
-use Rattle.js_grammar.specs.Lexed.{Lex as StandsBehind}
+use Rattle.js_grammar.specs.Lexed.{NextLexeme}
 use Rattle.js_grammar.specs.LexicalFaults.{Reached}
 use Rattle.js_grammar.specs.Marks.{Mark, loose}
 use Rattle.js_grammar.specs.Parsing.{Test, Goes, Reaches, always, passing}
@@ -265,7 +265,7 @@ module _ {text : List ℕ} {f : Flags} where
           record {
             place = p.prev_token_end;
             lexemes = s.pass behind_left;
-            part = record { reached = subst (λ (t : List ℕ). Reached t p.prev_token_end) (sym whole.text) a.at.reached; lexed = subst (λ (t : List ℕ). Lexes (StandsBehind all_faults t) p.prev_token_end (s.pass behind_left)) (sym x.answer.at.text_is) (all_stand text p.prev_token_end (s.pass behind_left) all_lexed) };
+            part = record { reached = subst (λ (t : List ℕ). Reached t p.prev_token_end) (sym whole.text) a.at.reached; lexed = subst (λ (t : List ℕ). Lexes (NextLexeme all_faults t) p.prev_token_end (s.pass behind_left)) (sym x.answer.at.text_is) (all_stand text p.prev_token_end (s.pass behind_left) all_lexed) };
             begins = begins_here a (here (s.pass behind_left)) (here_at (Lex text) (s.pass behind_left) all_lexed);
             flags = f;
             left = record { label = s.label; slots = s.slots };

@@ -35,7 +35,7 @@ use Rattle.laws_shared.specs.js_cursor.declared.stop.Stop.TheVariants.{Fatal, No
 use Rattle.js_base.specs.declared.diagnostic.DiagnosticKind.TheVariants as fault
 use Rattle.js_base.specs.declared.source_type.SourceType.{SourceType}
 use Rattle.js_grammar.specs.LexicalFaults.{Reached}
-use Rattle.js_grammar.specs.Lexed.{Lex as StandsBehind, all_faults}
+use Rattle.js_grammar.specs.Lexed.{NextLexeme, all_faults}
 use Rattle.js_grammar.specs.Marks.{Mark, LexemeAt, a_lexeme, of_kinds}
 use Rattle.js_grammar.specs.RightEdges.{of_operand}
 use Rattle.laws_shared.specs.js_lex.States.{goal_of}
@@ -288,7 +288,7 @@ pub asked_here : {text : List ℕ} {f : Flags} {p q : Parser} → At text f p �
 asked_here {text} {f} {p} {q} a k e m = record {
   sign = record {
     lexeme = m.lexeme;
-    of_text = a_lexeme (subst (λ (v : List ℕ). Reached v p.prev_token_end) (a.text_is ∙ sym m.at.text_is) a.at.reached) (subst (λ (v : List ℕ). StandsBehind all_faults v p.prev_token_end m.lexeme) (sym m.at.text_is) m.stood);
+    of_text = a_lexeme (subst (λ (v : List ℕ). Reached v p.prev_token_end) (a.text_is ∙ sym m.at.text_is) a.at.reached) (subst (λ (v : List ℕ). NextLexeme all_faults v p.prev_token_end m.lexeme) (sym m.at.text_is) m.stood);
     is = (sym m.tells.start, sym m.tells.end);
     passes = rw (sym m.tells.kind ∙ k, sym m.tells.escaped ∙ e) refl;
   };

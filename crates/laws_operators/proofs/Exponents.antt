@@ -16,7 +16,7 @@ use Rattle.js_grammar.specs.Trees.{Label, Slots, Span as TreeSpan, end, tree, bi
 use Rattle.js_grammar.specs.Grammar.{Lexeme, Lexemes, last, Look, here, seen, is, exact, such, nothing, Takes, is_nothing, is_such, is_seq, is_left, is_right, is_lexeme, is_node, is_when, ◌▸◌}
 use Rattle.js_grammar.specs.Insertion.{Row, after_expression, after_postfix, after_body, after_yield, after_declarator, after_word}
 use Rattle.js_grammar.specs.Lexed.{Lexes, all_faults}
-use Rattle.js_grammar.specs.Lexed.{Lex as StandsBehind}
+use Rattle.js_grammar.specs.Lexed.{NextLexeme}
 use Rattle.js_grammar.specs.LexicalFaults.{Reached}
 use Rattle.js_grammar.specs.Marks.{Mark, StandsAt, Part, loose}
 use Rattle.js_grammar.specs.Settings.{Goal}
@@ -45,7 +45,7 @@ use Rattle.laws_shared.proofs.js_tree.HoldingLemmas.{Keeps-trans, Keeps-made}
 use Rattle.laws_shared.specs.js_cursor.Parsers.{Parser}
 use Rattle.laws_shared.specs.js_cursor.Checkpoints.{Follows}
 use Rattle.laws_shared.specs.js_cursor.Moves.{is_last}
-use Rattle.laws_shared.specs.js_cursor.Moves.{Keeps as KeepsOne}
+use Rattle.laws_shared.specs.js_cursor.Moves.{KeepsDiagnostic}
 use Rattle.laws_shared.specs.js_cursor.Places.{IsAt, goal}
 use Rattle.laws_shared.proofs.js_cursor.Later.{keeps_follows, follows_on}
 use Rattle.laws_operators.specs.Exponents.{ChecksBase, begins_by_unary, unary_base}
@@ -285,7 +285,7 @@ module _ {text : List ℕ} {f : Flags} {p q : Parser} {id : NodeId} (a : At text
       let l = y.goes.passes.lexed (last star.0) lx in
       let d = derived_of (y.goes.sound end end q.prev_token_end (last star.0) (last star.0) lx (inl y.near) is_nothing) in
       base_stands_there (goal q) q.text p.prev_token_end q.prev_token_end p.token.span.start f x.answer.label x.answer.slots ls star.0
-      (record { reached = subst (λ (v : List ℕ). Reached v p.prev_token_end) (sym x.answer.same.follows.text) a.at.reached; lexed = subst (λ (v : List ℕ). Lexes (StandsBehind all_faults v) p.prev_token_end ls) (sym x.answer.at.text_is) (all_stand text p.prev_token_end ls l) })
+      (record { reached = subst (λ (v : List ℕ). Reached v p.prev_token_end) (sym x.answer.same.follows.text) a.at.reached; lexed = subst (λ (v : List ℕ). Lexes (NextLexeme all_faults v) p.prev_token_end ls) (sym x.answer.at.text_is) (all_stand text p.prev_token_end ls l) })
       (begins_here a (here ls) (here_at (Lex text) ls l)) d (base_node h l d) star.2
     where
       derived_of : {ls : Lexemes} → Takes rule (such (at Unary f) always) end (tree x.answer.label x.answer.slots end) p.prev_token_end ls end q.prev_token_end (last star.0) → Takes rule (rule (at Unary f)) end (tree x.answer.label x.answer.slots end) p.prev_token_end ls end q.prev_token_end (last star.0)
@@ -313,7 +313,7 @@ module _ {text : List ℕ} {f : Flags} {p q : Parser} {id : NodeId} (a : At text
     keeps = x.keeps;
   }
 
-  told : {d : Diagnostic} {r : Parser} → begins_by_unary f.awaits p.token.kind ≡ true → KeepsOne d q r → IsEarly d → Numbered text f (at Update f) p r id
+  told : {d : Diagnostic} {r : Parser} → begins_by_unary f.awaits p.token.kind ≡ true → KeepsDiagnostic d q r → IsEarly d → Numbered text f (at Update f) p r id
   told {d} {r} h c y = subst (λ (z : Parser). Numbered text f (at Update f) p z id) (sym c.is) (record {
     answer = record {
       at = beside_errors x.answer.at (subst IsAt c.is c.at);

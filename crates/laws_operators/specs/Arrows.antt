@@ -19,9 +19,9 @@ use Rattle.js_grammar.specs.Table.{args, rule}
 use Rattle.laws_shared.specs.js_tree.declared.id.NodeId.{NodeId}
 use Rattle.laws_shared.specs.js_tree.declared.kind.NodeKind.TheVariants.{ParenthesizedExpression}
 use Rattle.laws_shared.specs.js_tree.Nodes.{node_at}
-use Rattle.laws_shared.specs.js_tree.Holding.{Holds, Keeps as KeepsNodes}
+use Rattle.laws_shared.specs.js_tree.Holding.{Holds, Keeps}
 use Rattle.laws_shared.specs.js_cursor.Checkpoints.{GoesOn}
-use Rattle.laws_shared.specs.js_cursor.Moves.{Keeps}
+use Rattle.laws_shared.specs.js_cursor.Moves.{KeepsDiagnostic}
 use Rattle.laws_shared.specs.js_cursor.Notes.{is_noted}
 use Rattle.laws_shared.specs.js_cursor.Parsers.{Parser}
 use Rattle.laws_shared.specs.js_cursor.declared.stop.Stop.{Stop}
@@ -89,7 +89,7 @@ pub record Head (text : List ℕ) (f g : Flags) (p q : Parser) (id : NodeId) : T
   pub walked : Walked text (spot p) (spot q) pass
   pub read : Stretch text (plain full) (head_of g) p.prev_token_end nothing q.prev_token_end (tree label slots) pass
   pub holds : Holds q.nodes (length p.nodes) (length q.nodes) id.0 label slots
-  pub keeps : KeepsNodes p.nodes q.nodes
+  pub keeps : Keeps p.nodes q.nodes
 
 -- What stands before `=>` was read, and something was told of it.
 pub record ToldHead (text : List ℕ) (f : Flags) (p q : Parser) (id : NodeId) : Type 0 where
@@ -102,7 +102,7 @@ pub record ToldHead (text : List ℕ) (f : Flags) (p q : Parser) (id : NodeId) :
   pub pass : Lexemes → Lexemes
   pub walked : Walked text (spot p) (spot q) pass
   pub holds : Holds q.nodes (length p.nodes) (length q.nodes) id.0 label slots
-  pub keeps : KeepsNodes p.nodes q.nodes
+  pub keeps : Keeps p.nodes q.nodes
 
 -- What stands before `=>`, without `async`: no operand begins with it. Where something was told of it, no assignment is derived from there, neither behind a head nor as an expression.
 pub data PlainHead (text : List ℕ) (f : Flags) (o p : Parser) (id : NodeId) : Type 0 where
@@ -174,7 +174,7 @@ pub record Unmoved (p q : Parser) : Type 0 where
   pub spot_is : spot q ≡ spot p
   pub start : q.token.span.start ≡ p.token.span.start
   pub kind : q.token.kind ≡ p.token.kind
-  pub keeps : KeepsNodes p.nodes q.nodes
+  pub keeps : Keeps p.nodes q.nodes
 
 -- a head was read; or none stands here, and the parser is where it was
 abbrev pub FindsHead : Parser → Parser → Option NodeId → Type 0
@@ -318,7 +318,7 @@ abbrev pub late_arrow : Span → Diagnostic
 late_arrow s = record { kind = LineterminatorBeforeArrow; span = s; first = None; second = None }
 
 abbrev pub ChecksLine : Parser → Parser → Type 0
-ChecksLine p q = ((p.token.is_on_new_line ≡ true) × Keeps (late_arrow p.token.span) p q) ⊎ ((p.token.is_on_new_line ≡ false) × (q ≡ p))
+ChecksLine p q = ((p.token.is_on_new_line ≡ true) × KeepsDiagnostic (late_arrow p.token.span) p q) ⊎ ((p.token.is_on_new_line ≡ false) × (q ≡ p))
 
 -- `=>` stands here, behind parentheses of which more was told than so many diagnostics
 abbrev pub IsRefusedHead : NodeId → ℕ → Parser → Bool → Type 0

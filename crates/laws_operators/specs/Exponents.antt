@@ -6,7 +6,7 @@ use Rattle.js_base.specs.Contexts.{reads_await}
 use Rattle.js_base.specs.Kinds.{one_of_kinds, same_kind}
 use Rattle.js_base.specs.declared.diagnostic.Diagnostic.{Diagnostic}
 use Rattle.js_base.specs.declared.diagnostic.DiagnosticKind.TheVariants.{UnaryExponentiationLeftOperand}
-use Rattle.laws_shared.specs.js_cursor.Moves.{Keeps}
+use Rattle.laws_shared.specs.js_cursor.Moves.{KeepsDiagnostic}
 use Rattle.laws_shared.specs.js_cursor.Parsers.{Parser}
 use Rattle.laws_shared.specs.Operators.{unary_kinds}
 
@@ -25,4 +25,4 @@ begins_by_unary awaits k = one_of_kinds unary_kinds k || (same_kind Await k && a
 
 -- That was told; or nothing was, of a base without an operator, or where more diagnostics are kept than before the base.
 abbrev pub ChecksBase : ℕ → Bool → ℕ → Parser → Parser → Type 0
-ChecksBase start is_unary found old new = ((is_unary ≡ true) × Keeps (unary_base start old.prev_token_end) old new) ⊎ ((new ≡ old) × (is_unary ≡ true → found ≡ length old.errors → ⊥))
+ChecksBase start is_unary found old new = ((is_unary ≡ true) × KeepsDiagnostic (unary_base start old.prev_token_end) old new) ⊎ ((new ≡ old) × (is_unary ≡ true → found ≡ length old.errors → ⊥))

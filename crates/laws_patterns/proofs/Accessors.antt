@@ -32,7 +32,7 @@ use Rattle.laws_shared.specs.js_lex.Reading.{is_right_angle}
 use Rattle.laws_shared.specs.js_tree.declared.id.NodeId.{NodeId}
 use Rattle.laws_shared.specs.js_tree.Nodes.{Node}
 use Rattle.laws_shared.specs.js_tree.Holding.{Holds, Keeps}
-use Rattle.laws_shared.specs.js_cursor.Moves.{Keeps as KeepsOne, Peeks}
+use Rattle.laws_shared.specs.js_cursor.Moves.{KeepsDiagnostic, Peeks}
 use Rattle.laws_shared.specs.js_cursor.Parsers.{Parser}
 use Rattle.laws_shared.specs.js_cursor.Places.{goal}
 use Rattle.laws_shared.specs.js_cursor.declared.stop.Stop.{Stop}
@@ -166,8 +166,8 @@ whole_there g p o q r e h = subst (λ (z : Parser). ReadsWhole g z q r) e h
 told_there : (k : DiagnosticKind) (p o q : Parser) (r : Result NodeId Stop) → o ≡ p → TellsParameters k o q r → TellsParameters k p q r
 told_there k p o q r e h = subst (λ (z : Parser). TellsParameters k z q r) e h
 
-pub kept_so : {k : DiagnosticKind} {d : Diagnostic} (s : Span) (p q : Parser) → d ≡ unrelated_at k s → KeepsOne d p q → KeepsOne (unrelated_at k s) p q
-kept_so s p q e h = subst (λ (v : Diagnostic). KeepsOne v p q) e h
+pub kept_so : {k : DiagnosticKind} {d : Diagnostic} (s : Span) (p q : Parser) → d ≡ unrelated_at k s → KeepsDiagnostic d p q → KeepsDiagnostic (unrelated_at k s) p q
+kept_so s p q e h = subst (λ (v : Diagnostic). KeepsDiagnostic v p q) e h
 
 pub getter_told : (p q r : Parser) (x : Result NodeId Stop) {b : Kind} → p.token.kind ≡ LParen → KindBehind p q b → (b ≡ RParen → ⊥) → TellsParameters GetterParameters q r x → ReadsWhole (parameters_of Getter) p r x
 getter_told p q r x k c n h = λ text f a. told_outcome f p r x (inl refl) (no_getter a k (λ y l e. n (sym ((c.1 text f a y l).1 (ap (one_of_kinds beside_parameters) e)) ∙ e))) (told_there GetterParameters p q r x c.0 h text f a)

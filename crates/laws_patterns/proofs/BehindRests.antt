@@ -10,7 +10,7 @@ use Rattle.js_base.specs.declared.source_type.SourceType.{SourceType}
 use Rattle.js_base.specs.declared.span.Span.{Span}
 use Rattle.js_base.specs.Kinds.{same_kind, one_of_kinds}
 use Rattle.js_base.proofs.KindLemmas.{kind_of_same}
-use Rattle.js_grammar.specs.Lexed.{Lex as StandsBehind, all_faults}
+use Rattle.js_grammar.specs.Lexed.{NextLexeme, all_faults}
 use Rattle.js_grammar.specs.LexicalFaults.{Reached}
 use Rattle.js_grammar.specs.Marks.{Mark, StandsAt, BeginsWith, of_kinds}
 use Rattle.js_grammar.specs.Grammar.{Lexeme, Look, next, is, seq, when}
@@ -31,7 +31,7 @@ use Rattle.laws_shared.specs.js_tree.declared.id.NodeId.{NodeId}
 use Rattle.laws_shared.specs.js_tree.Nodes.{Node}
 use Rattle.laws_shared.specs.js_tree.Holding.{HoldsAll, Keeps}
 use Rattle.laws_shared.proofs.js_tree.HoldingLemmas.{Keeps-refl}
-use Rattle.laws_shared.specs.js_cursor.Moves.{Keeps as KeepsOne, GivesUp, is_last}
+use Rattle.laws_shared.specs.js_cursor.Moves.{KeepsDiagnostic, GivesUp, is_last}
 use Rattle.laws_shared.specs.js_cursor.Parsers.{Parser}
 use Rattle.laws_shared.specs.js_cursor.Places.{goal}
 use Rattle.laws_shared.specs.js_cursor.declared.stop.Stop.{Stop}
@@ -98,7 +98,7 @@ module _ {text : List ℕ} {f : Flags} {p m : Parser} (close : Kind) (a : At tex
       closer_kind : one_of_kinds closers m.token.kind ≡ true
       closer_kind = subst (λ (z : Kind). one_of_kinds closers z ≡ true) (sym h) c
 
-      closer : (y : Lexeme) × (StandsBehind all_faults text m.prev_token_end y) × Tells y m.token
+      closer : (y : Lexeme) × (NextLexeme all_faults text m.prev_token_end y) × Tells y m.token
       closer = found v.at (uncut v.at (of_closer (λ z. same_kind RAngle z ≡ false) m.token.kind closer_kind refl refl refl)) (of_closer (λ z. is_last z ≡ false) m.token.kind closer_kind refl refl refl)
 
       it : Mark (goal m) text (unrelated_at RestElementTrailingComma p.token.span)
@@ -115,7 +115,7 @@ module _ {text : List ℕ} {f : Flags} {p m : Parser} (close : Kind) (a : At tex
                 place = p.prev_token_end;
                 first = v.lexeme;
                 second = y.0;
-                part = record { reached = subst (λ (z : List ℕ). Reached z p.prev_token_end) a.text_is a.at.reached; lexed = (v.stood, subst (λ (z : ℕ). StandsBehind all_faults text z y.0) (sym v.ends) y.1) };
+                part = record { reached = subst (λ (z : List ℕ). Reached z p.prev_token_end) a.text_is a.at.reached; lexed = (v.stood, subst (λ (z : ℕ). NextLexeme all_faults text z y.0) (sym v.ends) y.1) };
                 is = (sym v.tells.start, sym v.tells.end);
                 passes = and_from (same_kind Comma v.lexeme.kind) (one_of_kinds closers y.0.kind) (subst (λ (z : Kind). same_kind Comma z ≡ true) (sym (sym v.tells.kind ∙ k)) refl) (subst (λ (z : Kind). one_of_kinds closers z ≡ true) y.2.kind closer_kind);
               },
@@ -135,7 +135,7 @@ module _ {text : List ℕ} {f : Flags} {p m : Parser} (close : Kind) (a : At tex
   unfolding covers
   behind_comma h = then_by {X' = plain closing} (left (fails_nothing (λ ts y l e. false≢true (subst (λ (z : Kind). one_of_kinds closers z ≡ true) (kind_here a k refl y l) e.0))) ▹ (where_true h ▹ passes a Comma k (plain_sign Comma a k refl refl comma_plain) refl v)) (by_first firsts (by_plain closing) (of_closer (λ z. covers (starts first_of (tok z) full) closing ≡ true) close c refl refl refl))
 
-  pub comma_told : {d : Diagnostic} {q : Parser} (ids : List (Option NodeId)) → KeepsOne d m q → IsEarly d → OneMore text f (seq (rest_comma f) (tok close)) (tok close) p q ids ids
+  pub comma_told : {d : Diagnostic} {q : Parser} (ids : List (Option NodeId)) → KeepsDiagnostic d m q → IsEarly d → OneMore text f (seq (rest_comma f) (tok close)) (tok close) p q ids ids
   comma_told {d} {q} ids t y =
       let n : q.nodes ≡ p.nodes = ap (λ (z : Parser). z.nodes) t.is ∙ v.nodes in
       record {

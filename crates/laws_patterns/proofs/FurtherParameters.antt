@@ -23,7 +23,7 @@ use Rattle.laws_shared.specs.js_tree.declared.op.Op.TheVariants as op_made
 use Rattle.laws_shared.specs.js_tree.Nodes.{Node}
 use Rattle.laws_shared.specs.js_tree.Holding.{HoldsAll, Keeps}
 use Rattle.laws_shared.proofs.js_tree.HoldingLemmas.{HoldsAll-none, Keeps-made, Keeps-trans}
-use Rattle.laws_shared.specs.js_cursor.Moves.{Keeps as KeepsOne}
+use Rattle.laws_shared.specs.js_cursor.Moves.{KeepsDiagnostic}
 use Rattle.laws_shared.specs.js_cursor.Parsers.{Parser}
 use Rattle.laws_shared.specs.js_cursor.Places.{goal}
 use Rattle.laws_shared.specs.js_cursor.declared.stop.Stop.{Stop}
@@ -103,7 +103,7 @@ module _ {text : List ℕ} {f : Flags} {o p : Parser} {parameter : NodeId} (a : 
       pub unclosed_further : (w : Parser) (e : Stop) → Stops r w e (one_of_kinds (RParen ∷ []) r.token.kind ≡ false) → Stops o w e (Fails rule (Lex text) (plain full) end (parameters_of Setter f) o.prev_token_end)
       unclosed_further w e z = stops_behind w e (same_both x.same (same_both m.same y.same)) (λ g. grown_behind x.verdict (grown_then m.kept (grown_behind y.verdict g))) (λ n. not_one) z
 
-      module _ {s t : Parser} {d : Diagnostic} (c : Moved text f r s) (told : KeepsOne d s t) (early : IsEarly d) where
+      module _ {s t : Parser} {d : Diagnostic} (c : Moved text f r s) (told : KeepsDiagnostic d s t) (early : IsEarly d) where
         same : Same o t
         same = same_both x.same (same_both (same_closed x.at m y c) (told_same told early))
 

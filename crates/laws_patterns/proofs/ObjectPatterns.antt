@@ -37,7 +37,7 @@ use Rattle.laws_shared.specs.Lexemes.{Lex, may_name}
 use Rattle.laws_shared.specs.Moves.{Moved, MadeHere, LeafTaken, TakesLeaf, plain_label}
 use Rattle.laws_shared.specs.Stands.{NameHere, StandsHere}
 use Rattle.laws_shared.specs.Nesting.{CanNest, room}
-use Rattle.laws_shared.specs.declared.nested.Goal.{Goal}
+use Rattle.laws_shared.specs.declared.nested.Nonterminal.{Nonterminal}
 use Rattle.laws_shared.specs.States.{At, Same, NodesLie, Standing}
 use Rattle.laws_shared.proofs.Expected.{not_due, unexpected}
 use Rattle.laws_shared.proofs.Escapes.{read_as}
@@ -360,5 +360,5 @@ no_shorthand_named {text} {f} a k t c = let x = t text f a in no_shorthand_here 
 pub made_at : {q r : Parser} {l : Label} {id : NodeId} → Standing q → MadeHere l [] q r id → Standing r
 made_at {q} {r} a d = subst Standing (sym d.stays) (beside_nodes r.nodes a)
 
-pub made_nests : {q r : Parser} {l : Label} {id : NodeId} {can : Parser → Goal → Type 0} → CanNest can (room q + 1) → MadeHere l [] q r id → CanNest can (room r + 1)
+pub made_nests : {q r : Parser} {l : Label} {id : NodeId} {can : Parser → Nonterminal → Type 0} → CanNest can (room q + 1) → MadeHere l [] q r id → CanNest can (room r + 1)
 made_nests {q} {r} {can = can} c d = subst (λ (z : Parser). CanNest can (room z + 1)) (sym d.stays) c

@@ -24,7 +24,7 @@ use Rattle.laws_shared.specs.js_tree.declared.op.Op.TheVariants as op_made
 use Rattle.laws_shared.specs.js_tree.Nodes.{Node}
 use Rattle.laws_shared.specs.js_tree.Holding.{Holds, Keeps}
 use Rattle.laws_shared.proofs.js_tree.HoldingLemmas.{Keeps-trans, Keeps-made}
-use Rattle.laws_shared.specs.js_cursor.Moves.{Keeps as KeepsOne}
+use Rattle.laws_shared.specs.js_cursor.Moves.{KeepsDiagnostic}
 use Rattle.laws_shared.specs.js_cursor.Parsers.{Parser}
 use Rattle.laws_shared.specs.js_cursor.Places.{goal}
 use Rattle.laws_shared.specs.js_cursor.declared.stop.Stop.{Stop}
@@ -121,7 +121,7 @@ module _ {text : List ℕ} {f : Flags} {p q : Parser} (a : At text f p) (k : p.t
   pub value_stops : (w : Parser) (e : Stop) → Stops q w e (Underived text (at Assignment (plus_in f)) q.prev_token_end) → Stops p w e (Fails rule (Lex text) behind_item end (rest_initialiser f) p.prev_token_end)
   value_stops w e z = stops_behind w e m.same (λ g. grown_then m.kept g) no_value z
 
-  pub told_initialiser : {w v : Parser} {value : NodeId} {d : Diagnostic} → Numbered text f (at Assignment (plus_in f)) q w value → KeepsOne d w v → IsEarly d → PartTaken text f (rest_initialiser f) p v value
+  pub told_initialiser : {w v : Parser} {value : NodeId} {d : Diagnostic} → Numbered text f (at Assignment (plus_in f)) q w value → KeepsDiagnostic d w v → IsEarly d → PartTaken text f (rest_initialiser f) p v value
   told_initialiser {w} {v} {value} {d} y t early = record {
     at = told_at t y.answer.at;
     same = same_both m.same (same_both y.answer.same (told_same t early));

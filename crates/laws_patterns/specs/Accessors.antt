@@ -9,7 +9,7 @@ use Rattle.js_base.specs.Kinds.{one_of_kinds}
 use Rattle.js_grammar.specs.Grammar.{Lexeme, ◌▸◌}
 use Rattle.js_grammar.specs.Productions.{G, Flags, at, sym, tok, Param, Params}
 use Rattle.laws_shared.specs.js_tree.declared.id.NodeId.{NodeId}
-use Rattle.laws_shared.specs.js_cursor.Moves.{Keeps}
+use Rattle.laws_shared.specs.js_cursor.Moves.{KeepsDiagnostic}
 use Rattle.laws_shared.specs.js_cursor.Parsers.{Parser}
 use Rattle.laws_shared.specs.js_cursor.declared.stop.Stop.{Stop}
 use Rattle.laws_shared.specs.Answers.{Numbered, Stops}
@@ -37,7 +37,7 @@ pub record ToldParameters (k : DiagnosticKind) (text : List ℕ) (f : Flags) (p 
   pub behind : Parser
   pub read : Numbered text f (at Params f) p behind id
   pub span : Span
-  pub told : Keeps (unrelated_at k span) behind q
+  pub told : KeepsDiagnostic (unrelated_at k span) behind q
 
 abbrev pub ToldOutcome : DiagnosticKind → List ℕ → Flags → Parser → Parser → Result NodeId Stop → Type 0
 ToldOutcome k text f p q (Ok id) = ToldParameters k text f p q id

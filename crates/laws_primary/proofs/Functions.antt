@@ -9,7 +9,7 @@ use Rattle.js_base.specs.Kinds.{same_kind, one_of_kinds}
 use Rattle.js_base.specs.KindSets.{binding_identifier_kinds, identifier_name_kinds}
 use Rattle.js_grammar.specs.Trees.{Slots, end, hole, tree, append, Label, no_op, binding_identifier, function_expression}
 use Rattle.js_grammar.specs.Grammar.{Look, here, nothing, such, ◌▸◌, ◌◇◌}
-use Rattle.js_grammar.specs.Lexed.{Lex as StandsBehind, all_faults}
+use Rattle.js_grammar.specs.Lexed.{NextLexeme, all_faults}
 use Rattle.js_grammar.specs.Marks.{Mark, a_lexeme, the_start, the_end}
 use Rattle.js_grammar.specs.Parsing.{Test, plain, full, always, still, Goes, Fails}
 use Rattle.js_grammar.specs.Productions.{G, Flags, Symbol, at, async_flag, flag, generator_flag, only, slot, tok, params_of, body_of, BindingIdentifier, Body, FuncExpr, Params, Primary, no_newline}
@@ -351,7 +351,7 @@ module _ {text : List ℕ} {f : Flags} {p : Parser} (a : At text f p) (h : Begin
 pub nameless_marked : {text : List ℕ} {f : Flags} {p : Parser} (s : Span) → At text f p → p.token.kind ≡ LParen → s ≡ p.token.span → Mark (goal p) p.text (nameless s)
 nameless_marked {text} {f} {p} s a h e =
     let y = found a (uncut a (ap (same_kind RAngle) h)) (ap is_last h) in
-    let o = a_lexeme a.at.reached (subst (λ (t : List ℕ). StandsBehind all_faults t p.prev_token_end y.0) (sym a.text_is) y.1) in
+    let o = a_lexeme a.at.reached (subst (λ (t : List ℕ). NextLexeme all_faults t p.prev_token_end y.0) (sym a.text_is) y.1) in
     let m : Mark (goal p) p.text (nameless p.token.span) = record {
       ordered = a.at.lies.ordered;
       within = a.at.lies.ends_whole.0;

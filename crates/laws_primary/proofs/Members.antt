@@ -27,7 +27,7 @@ use Rattle.js_grammar.proofs.FollowLaws.{fails_by, surely}
 use Rattle.js_grammar.proofs.Lexemes.{first_or}
 use Rattle.js_base.specs.declared.diagnostic.DiagnosticKind.TheVariants as fault
 use Rattle.js_grammar.specs.Lexed.{all_faults}
-use Rattle.js_grammar.specs.Lexed.{Lex as StandsBehind}
+use Rattle.js_grammar.specs.Lexed.{NextLexeme}
 use Rattle.js_base.specs.declared.diagnostic.DiagnosticKind.{DiagnosticKind}
 use Rattle.js_base.specs.declared.source_type.SourceType.{SourceType}
 use Rattle.js_grammar.specs.Marks.{Mark, StandsAt, LexemeAt, of_kinds, a_lexeme}
@@ -1235,7 +1235,7 @@ sign_marked {text} {f} {p} k s t a h e =
       within = a.at.lies.ends_whole.0;
       begins_between = a.at.lies.starts_whole;
       ends_between = a.at.lies.ends_whole;
-      stands = t p.token.span (record { lexeme = y.0; of_text = a_lexeme a.at.reached (subst (λ (t : List ℕ). StandsBehind all_faults t p.prev_token_end y.0) (sym a.text_is) y.1); is = (sym y.2.start, sym y.2.end); passes = and_from (one_of_kinds (QuestionDot ∷ []) y.0.kind) (not y.0.escaped) (subst (λ (v : Kind). one_of_kinds (QuestionDot ∷ []) v ≡ true) (sym (sym y.2.kind ∙ h.0)) refl) (ap not (sym y.2.escaped ∙ h.1)) });
+      stands = t p.token.span (record { lexeme = y.0; of_text = a_lexeme a.at.reached (subst (λ (t : List ℕ). NextLexeme all_faults t p.prev_token_end y.0) (sym a.text_is) y.1); is = (sym y.2.start, sym y.2.end); passes = and_from (one_of_kinds (QuestionDot ∷ []) y.0.kind) (not y.0.escaped) (subst (λ (v : Kind). one_of_kinds (QuestionDot ∷ []) v ≡ true) (sym (sym y.2.kind ∙ h.0)) refl) (ap not (sym y.2.escaped ∙ h.1)) });
     } in
     subst (λ (v : Span). Mark (goal p) p.text (record { kind = k; span = v; first = None; second = None })) (sym e) m
 

@@ -14,7 +14,7 @@ use Rattle.js_grammar.specs.Trees.{Label, end, no_op, new_target_expression}
 use Rattle.js_grammar.specs.Grammar.{Lexeme, Look, nothing, such}
 use Rattle.js_grammar.specs.FirstSets.{first}
 use Rattle.js_grammar.specs.LexicalFaults.{Reached}
-use Rattle.js_grammar.specs.Lexed.{Lex as StandsBehind, all_faults}
+use Rattle.js_grammar.specs.Lexed.{NextLexeme, all_faults}
 use Rattle.js_grammar.specs.Lexemes.{is_word}
 use Rattle.js_grammar.specs.Marks.{Mark, a_lexeme, another_word, of_kinds, the_end, the_start}
 use Rattle.js_grammar.specs.Parsing.{Test, always, plain, full, Fails}
@@ -34,7 +34,7 @@ use Rattle.laws_shared.specs.js_tree.Nodes.{Node}
 use Rattle.laws_shared.specs.js_tree.Holding.{Keeps}
 use Rattle.laws_shared.proofs.js_tree.HoldingLemmas.{Keeps-made, Keeps-refl, Keeps-trans}
 use Rattle.laws_shared.specs.js_cursor.Moves.{GivesUp, is_last}
-use Rattle.laws_shared.specs.js_cursor.Moves.{Keeps as TellsOne}
+use Rattle.laws_shared.specs.js_cursor.Moves.{KeepsDiagnostic as TellsOne}
 use Rattle.laws_shared.specs.js_cursor.Parsers.{Parser}
 use Rattle.laws_shared.specs.js_cursor.Places.{goal}
 use Rattle.laws_shared.specs.js_cursor.declared.stop.Stop.{Stop}
@@ -70,7 +70,7 @@ behind_new {text} {f} {o} {p} {start} a s e m = record {
   place = o.prev_token_end;
   reached = subst (λ (t : List ℕ). Reached t o.prev_token_end) (sym m.same.follows.text) a.at.reached;
   word = m.lexeme;
-  stood = subst (λ (t : List ℕ). StandsBehind all_faults t o.prev_token_end m.lexeme) (sym m.at.text_is) m.stood;
+  stood = subst (λ (t : List ℕ). NextLexeme all_faults t o.prev_token_end m.lexeme) (sym m.at.text_is) m.stood;
   is_new = of_kind New m s;
   begins = sym m.tells.start ∙ sym e;
   ends = m.ends;
@@ -84,7 +84,7 @@ behind_dot {text} {f} {p} {q} b a s m = record {
   behind = b;
   text = m.same.follows.text;
   dot = m.lexeme;
-  stood = subst (λ (t : List ℕ). StandsBehind all_faults t p.prev_token_end m.lexeme) (sym m.at.text_is) m.stood;
+  stood = subst (λ (t : List ℕ). NextLexeme all_faults t p.prev_token_end m.lexeme) (sym m.at.text_is) m.stood;
   is_dot = of_kind Dot m s;
   ends = m.ends;
   before = let i = m.further in let j = a.behind in omega arith;
@@ -108,8 +108,8 @@ module _ {text : List ℕ} {f : Flags} {p q r : Parser} {start : ℕ} (b : Behin
     ends_between = subst (λ (v : ℕ). IsCharBoundary r.text v) (sym e) n.at.at.between;
     stands = (
       (
-        the_start (a_lexeme (subst (λ (t : List ℕ). Reached t b.place) (sym texts) b.reached) (subst (λ (t : List ℕ). StandsBehind all_faults t b.place b.word) (sym texts) b.stood)) (b.begins ∙ sym h),
-        the_end (a_lexeme (subst (λ (t : List ℕ). Reached t q.prev_token_end) (sym n.same.follows.text) m.at.at.reached) (subst (λ (t : List ℕ). StandsBehind all_faults t q.prev_token_end n.lexeme) (sym n.at.text_is) n.stood)) (n.ends ∙ sym e),
+        the_start (a_lexeme (subst (λ (t : List ℕ). Reached t b.place) (sym texts) b.reached) (subst (λ (t : List ℕ). NextLexeme all_faults t b.place b.word) (sym texts) b.stood)) (b.begins ∙ sym h),
+        the_end (a_lexeme (subst (λ (t : List ℕ). Reached t q.prev_token_end) (sym n.same.follows.text) m.at.at.reached) (subst (λ (t : List ℕ). NextLexeme all_faults t q.prev_token_end n.lexeme) (sym n.at.text_is) n.stood)) (n.ends ∙ sym e),
       ),
       (refl, refl),
     );
@@ -137,7 +137,7 @@ module _ {text : List ℕ} {f : Flags} {q : Parser} {start : ℕ} (b : BehindDot
   whole : (not (is_last q.token.kind) ≡ true) × (not (same_kind RAngle q.token.kind) ≡ true)
   whole = and_parts (not (is_last q.token.kind)) (not (same_kind RAngle q.token.kind)) (covered words whole_words words_whole q.token.kind false false w)
 
-  another : (y : Lexeme) × StandsBehind all_faults text q.prev_token_end y × Tells y q.token
+  another : (y : Lexeme) × NextLexeme all_faults text q.prev_token_end y × Tells y q.token
   another = found a (uncut a (not-true (same_kind RAngle q.token.kind) whole.1)) (not-true (is_last q.token.kind) whole.0)
 
   is_another : IsTrue (another_word another.0)
@@ -166,10 +166,10 @@ module _ {text : List ℕ} {f : Flags} {q : Parser} {start : ℕ} (b : BehindDot
         part = record {
           reached = subst (λ (t : List ℕ). Reached t b.behind.place) (sym b.text) b.behind.reached;
           lexed = (
-            subst (λ (t : List ℕ). StandsBehind all_faults t b.behind.place b.behind.word) (sym b.text) b.behind.stood,
+            subst (λ (t : List ℕ). NextLexeme all_faults t b.behind.place b.behind.word) (sym b.text) b.behind.stood,
             (
-              subst (λ (v : ℕ). StandsBehind all_faults q.text v b.dot) (sym b.behind.ends) b.stood,
-              subst (λ (v : ℕ). StandsBehind all_faults q.text v another.0) (sym b.ends) (subst (λ (t : List ℕ). StandsBehind all_faults t q.prev_token_end another.0) (sym a.text_is) another.1),
+              subst (λ (v : ℕ). NextLexeme all_faults q.text v b.dot) (sym b.behind.ends) b.stood,
+              subst (λ (v : ℕ). NextLexeme all_faults q.text v another.0) (sym b.ends) (subst (λ (t : List ℕ). NextLexeme all_faults t q.prev_token_end another.0) (sym a.text_is) another.1),
             ),
           );
         };

@@ -11,7 +11,7 @@ use Rattle.js_base.specs.part_text.Characters.{is_decimal}
 use Rattle.js_base.specs.Kinds.{one_of_kinds}
 use Rattle.js_grammar.specs.Characters.{begins, width}
 use Rattle.js_grammar.specs.Grammar.{Lexeme}
-use Rattle.js_grammar.specs.Lexed.{Lex as StandsBehind, all_faults}
+use Rattle.js_grammar.specs.Lexed.{NextLexeme, all_faults}
 use Rattle.js_grammar.specs.Lexemes.{LexicalGoal, division, regular_expression, template_tail, hashbang, Opening, a_template, kind_in, kind_of, opening, plain_kind}
 use Rattle.js_grammar.specs.LexicalFaults.{behind}
 use Rattle.js_grammar.specs.Longest.{joined}
@@ -146,7 +146,7 @@ pub record IsInside (text : List ℕ) (from to : ℕ) (k : Kind) : Type 0 where
   pub starts : IsCharBoundary text (from + 1)
   pub ends : IsCharBoundary text (to - cond (one_of_kinds last_parts k) 1 2)
 
-pub part_inside : {text : List ℕ} {s : ℕ} {y : Lexeme} → IsUtf8 text → IsCharBoundary text s → (l : StandsBehind all_faults text s y) → one_of_kinds parts y.kind ≡ true → IsInside text y.from y.to y.kind
+pub part_inside : {text : List ℕ} {s : ℕ} {y : Lexeme} → IsUtf8 text → IsCharBoundary text s → (l : NextLexeme all_faults text s y) → one_of_kinds parts y.kind ≡ true → IsInside text y.from y.to y.kind
 part_inside {text} {s} {y} u b l h =
     let p = part_word l.goal l.word l.rest y.kind h l.lexeme.kind in
     let before : Word text s y.from (joined l.trivia) = subst (λ (n : ℕ). Word text s n (joined l.trivia)) (sym l.from) (front_word text s (joined l.trivia) (l.word ++ l.rest) u b l.stands.splits) in

@@ -14,7 +14,7 @@ use Rattle.js_base.proofs.KindLemmas.{kind_of_same}
 use Rattle.js_grammar.specs.Trees.{Label, end, tree, no_op, reg_exp_literal}
 use Rattle.js_grammar.specs.Grammar.{Lexeme, Look, is, lexeme, next, nothing}
 use Rattle.js_grammar.specs.Lexemes.{LexicalGoal, division, is_escaped, kind_in, regular_expression}
-use Rattle.js_grammar.specs.Lexed.{IsLexeme, Lex as StandsBehind, Passing, all_faults, passing_of, comments_pass, flags_right}
+use Rattle.js_grammar.specs.Lexed.{IsLexeme, NextLexeme, Passing, all_faults, passing_of, comments_pass, flags_right}
 use Rattle.js_grammar.specs.Parsing.{Test, passing, Reads}
 use Rattle.js_grammar.specs.Productions.{Flags, Primary, at, tok}
 use Rattle.js_grammar.specs.RegularExpressions.{flags, flags_pass}
@@ -103,7 +103,7 @@ no_pattern_here a e = false≢true (sym (plain_token a.plain) ∙ ap (one_of_kin
 -- ---- the flags of a regular expression
 
 -- the flags of one lexeme are the same, however it is seen to stand there
-flags_alone : {m n : Passing} {text : List ℕ} {s : ℕ} {y : Lexeme} (h : StandsBehind m text s y) (k : StandsBehind n text s y) → h.goal ≡ regular_expression → k.goal ≡ regular_expression → h.word ≡ k.word
+flags_alone : {m n : Passing} {text : List ℕ} {s : ℕ} {y : Lexeme} (h : NextLexeme m text s y) (k : NextLexeme n text s y) → h.goal ≡ regular_expression → k.goal ≡ regular_expression → h.word ≡ k.word
 flags_alone {y = y} h k e f =
     (same_lexeme regular_expression y.from h.word h.rest k.word k.rest y.kind y.kind (stands-same h.stands k.stands).back
     (subst (λ (g : LexicalGoal). IsLexeme g y.from h.word h.rest y.kind) e h.lexeme)
@@ -122,7 +122,7 @@ goal_of_flags commonjs w h = h
 goal_of_flags unambiguous w h = h
 
 -- of any passing its goal is that of regular expressions
-any_goal : {m : Passing} {text : List ℕ} {s : ℕ} {y : Lexeme} (h : StandsBehind m text s y) → y.kind ≡ RegExp → h.goal ≡ regular_expression
+any_goal : {m : Passing} {text : List ℕ} {s : ℕ} {y : Lexeme} (h : NextLexeme m text s y) → y.kind ≡ RegExp → h.goal ≡ regular_expression
 any_goal h k = pattern_goal (record { trivia = h.trivia; goal = h.goal; word = h.word; rest = h.rest; stands = h.stands; lexeme = h.lexeme; comments = refl; flags = refl; from = h.from; to = h.to; newline = h.newline; escaped = h.escaped; units = h.units }) k
 
 read_slash : (k : Kind) → one_of_kinds slashes k ≡ true → is_read_kind k ≡ true
@@ -132,7 +132,7 @@ pub plain_sign_of : (k : Kind) → one_of_kinds slashes k ≡ true → one_of_ki
 plain_sign_of k h = by_sign (λ j. one_of_kinds other_goals j ≡ false) k h refl refl
 
 -- The faults of the flags were kept: the lexeme has none exactly where none was, if what stands before it has none.
-pattern_so : (source : Goal) (at_end : ℕ) {text : List ℕ} {s : ℕ} {y : Lexeme} {t : Token} {faults : List Diagnostic} → IsUtf8 text → IsCharBoundary text s → (h : StandsBehind all_faults text s y) → y.kind ≡ RegExp → IsTrue (is_read y) → Tells y t → FlagsStand text at_end t faults
+pattern_so : (source : Goal) (at_end : ℕ) {text : List ℕ} {s : ℕ} {y : Lexeme} {t : Token} {faults : List Diagnostic} → IsUtf8 text → IsCharBoundary text s → (h : NextLexeme all_faults text s y) → y.kind ≡ RegExp → IsTrue (is_read y) → Tells y t → FlagsStand text at_end t faults
     → (faults ≡ [] → IsRight source text s → Faultless source text s y) × ((faults ≡ [] → ⊥) → Faultless source text s y → ⊥)
 pattern_so source at_end {text} {s} {y} {t} {faults} u b h k r e x = (right, wrong)
   where
@@ -256,7 +256,7 @@ module _ {text : List ℕ} {f : Flags} {p q : Parser} {at_end : ℕ} (a : At tex
     abbrev y : Lexeme
     y = given.1.lexeme
 
-    abbrev stood : StandsBehind all_faults text p.prev_token_end y
+    abbrev stood : NextLexeme all_faults text p.prev_token_end y
     stood = given.1.stands.lex
 
     kind : y.kind ≡ RegExp

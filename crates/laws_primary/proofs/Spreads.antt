@@ -25,7 +25,7 @@ use Rattle.laws_shared.specs.js_tree.declared.op.Op.TheVariants as op
 use Rattle.laws_shared.specs.js_tree.Nodes.{Node}
 use Rattle.laws_shared.specs.js_tree.Holding.{Holds, Keeps}
 use Rattle.laws_shared.proofs.js_tree.HoldingLemmas.{Keeps-trans, Keeps-made}
-use Rattle.laws_shared.specs.js_cursor.Moves.{Keeps as KeepsOne}
+use Rattle.laws_shared.specs.js_cursor.Moves.{KeepsDiagnostic}
 use Rattle.laws_shared.specs.js_cursor.Parsers.{Parser}
 use Rattle.laws_shared.specs.js_cursor.Places.{goal}
 use Rattle.laws_shared.specs.js_cursor.declared.stop.Stop.{Stop}
@@ -142,7 +142,7 @@ module _ {text : List ℕ} {f : Flags} {p : Parser} (a : At text f p) (k : Stand
       spread_taken = part_answers (same_both m.same x.answer.same) made.stays (one_held p.nodes made (subst (λ (ns : List Node). Holds r.nodes (length ns) (length r.nodes) argument.0 x.answer.label x.answer.slots) m.nodes x.holds)) (Keeps-trans (subst (λ (ns : List Node). Keeps ns r.nodes) m.nodes x.keeps) (Keeps-made made.made)) refl (one_lies made) (spread_read x.answer)
 
 -- where none may be spread, that was told first
-module _ {text : List ℕ} {f : Flags} {p o : Parser} {d : Diagnostic} (a : At text f p) (k : StandsHere p Dot3 true) (t : KeepsOne d p o) where
+module _ {text : List ℕ} {f : Flags} {p o : Parser} {d : Diagnostic} (a : At text f p) (k : StandsHere p Dot3 true) (t : KeepsDiagnostic d p o) where
   pub no_spread_here : NoItem text (at Assignment (plus_in f)) p.prev_token_end
   no_spread_here = no_plain_item a k
 
@@ -169,7 +169,7 @@ module _ {text : List ℕ} {f : Flags} {p o : Parser} {d : Diagnostic} (a : At t
   pub told_stops : IsEarly d → (q : Parser) (e : Stop) (F : Type 0) → Stops o q e F → Stops p q e (NoItem text (at Assignment (plus_in f)) p.prev_token_end)
   told_stops early q e F z = stops_behind q e (told_same t early) (λ g. grown_both (kept_one t) g) (λ n. no_spread_here) z
 
-pub told_outcome : {text : List ℕ} {f : Flags} {p o : Parser} {d : Diagnostic} (w : Parser) (r : Result NodeId Stop) → At text f p → StandsHere p Dot3 true → KeepsOne d p o → IsEarly d → ItemOutcome text f (at Argument f) o w r → ItemOutcome text f (at Assignment (plus_in f)) p w r
+pub told_outcome : {text : List ℕ} {f : Flags} {p o : Parser} {d : Diagnostic} (w : Parser) (r : Result NodeId Stop) → At text f p → StandsHere p Dot3 true → KeepsDiagnostic d p o → IsEarly d → ItemOutcome text f (at Argument f) o w r → ItemOutcome text f (at Assignment (plus_in f)) p w r
 told_outcome w (Ok id) a k t i y = spread_told a k t i y
 told_outcome w (Err e) a k t i z = told_stops a k t i w e _ z
 

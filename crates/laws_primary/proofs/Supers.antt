@@ -12,7 +12,7 @@ use Rattle.js_base.specs.declared.span.Span.{Span}
 use Rattle.js_grammar.specs.Trees.{Label, Slots, end, tree, no_op, super_expression}
 use Rattle.js_grammar.specs.Grammar.{Lexemes, next, nothing}
 use Rattle.js_grammar.specs.LexicalFaults.{Reached}
-use Rattle.js_grammar.specs.Lexed.{Lex as StandsBehind, all_faults}
+use Rattle.js_grammar.specs.Lexed.{NextLexeme, all_faults}
 use Rattle.js_grammar.specs.Marks.{EdgeOf, Mark, a_lexeme, the_end, the_start}
 use Rattle.js_grammar.specs.Parsing.{plain, full}
 use Rattle.js_grammar.specs.Productions.{Flags, at, Primary}
@@ -29,7 +29,7 @@ use Rattle.laws_shared.specs.js_tree.Labels.{kind_of}
 use Rattle.laws_shared.specs.js_tree.Nodes.{Node, node_at}
 use Rattle.laws_shared.specs.js_tree.Holding.{Holds, Keeps, Stands, stands}
 use Rattle.laws_shared.proofs.js_tree.HoldingLemmas.{Keeps-made, Keeps-refl, Keeps-trans}
-use Rattle.laws_shared.specs.js_cursor.Moves.{Enters, Keeps as KeepsOne, Leaves, is_last}
+use Rattle.laws_shared.specs.js_cursor.Moves.{Enters, KeepsDiagnostic, Leaves, is_last}
 use Rattle.laws_shared.specs.js_cursor.Parsers.{Parser}
 use Rattle.laws_shared.specs.js_cursor.Places.{goal}
 use Rattle.laws_shared.specs.js_cursor.declared.stop.Stop.{Stop}
@@ -104,7 +104,7 @@ module _ {text : List ℕ} {f : Flags} {p q : Parser} (a : At text f p) (s : Sta
       it : Mark (goal p) p.text (alone_at p.token.span)
       it =
           let y = found a (uncut a (ap (same_kind RAngle) s.0)) (ap is_last s.0) in
-          let o = a_lexeme a.at.reached (subst (λ (t : List ℕ). StandsBehind all_faults t p.prev_token_end y.0) (sym a.text_is) y.1) in
+          let o = a_lexeme a.at.reached (subst (λ (t : List ℕ). NextLexeme all_faults t p.prev_token_end y.0) (sym a.text_is) y.1) in
           record {
             ordered = a.at.lies.ordered;
             within = a.at.lies.ends_whole.0;
@@ -193,7 +193,7 @@ module _ {text : List ℕ} {f : Flags} {o p : Parser} {word : NodeId} (a : At te
 
 -- ---- behind `new`
 
-told_taken : {text : List ℕ} {f : Flags} {C D : Label → Slots → (Lexemes → Lexemes) → ℕ → Type 0} {A B : Type 0} {o p q : Parser} {id : NodeId} {d : Diagnostic} → Taken text f o p id C A → KeepsOne d p q → IsEarly d → B → Taken text f o q id D B
+told_taken : {text : List ℕ} {f : Flags} {C D : Label → Slots → (Lexemes → Lexemes) → ℕ → Type 0} {A B : Type 0} {o p q : Parser} {id : NodeId} {d : Diagnostic} → Taken text f o p id C A → KeepsDiagnostic d p q → IsEarly d → B → Taken text f o q id D B
 told_taken {o = o} {id = id} x k e b = record {
   at = told_at k x.at;
   same = same_both x.same (told_same k e);

@@ -19,7 +19,7 @@ use Rattle.js_grammar.specs.FirstSets.{first}
 use Rattle.js_grammar.specs.Parsing.{Fails, Goes, Reads, Test, full, passing, plain, still}
 use Rattle.js_grammar.specs.Table.{part, rule, rule_of}
 use Rattle.js_grammar.specs.Lexemes.{LexicalGoal, division, is_word, kind_in, template_tail}
-use Rattle.js_grammar.specs.Lexed.{Lex as StandsBehind, all_faults, comments_pass, passing_of}
+use Rattle.js_grammar.specs.Lexed.{NextLexeme, all_faults, comments_pass, passing_of}
 use Rattle.js_grammar.specs.LexicalFaults.{Reached}
 use Rattle.js_grammar.specs.Marks.{Mark, EdgeOf, IsLexemeOf, the_start, the_end, a_lexeme}
 use Rattle.js_grammar.specs.Productions.{Expression, Flags, G, Primary, Symbol, Template, at, plus_in, tail_flag}
@@ -46,7 +46,7 @@ use Rattle.laws_shared.specs.js_tree.declared.op.Op.TheVariants as op
 use Rattle.laws_shared.specs.js_tree.Nodes.{Node}
 use Rattle.laws_shared.specs.js_tree.Holding.{Holds, HoldsAll, Keeps}
 use Rattle.laws_shared.proofs.js_tree.HoldingLemmas.{HoldsAll-none, HoldsAll-two, HoldsAll-next, Keeps-refl, Keeps-trans, Keeps-made}
-use Rattle.laws_shared.specs.js_cursor.Moves.{Completed, GivesUp, IsUnexpected, Keeps as KeepsOne, MovesOn, Passed as PassedOn, ReadAgain, is_last}
+use Rattle.laws_shared.specs.js_cursor.Moves.{Completed, GivesUp, IsUnexpected, KeepsDiagnostic, MovesOn, Passed as PassedOn, ReadAgain, is_last}
 use Rattle.laws_shared.specs.js_cursor.Notes.{Notes}
 use Rattle.laws_shared.specs.js_cursor.Parsers.{Parser}
 use Rattle.laws_shared.specs.js_cursor.Places.{IsAt, goal}
@@ -238,8 +238,8 @@ module _ {text : List ℕ} {f : Flags} {p q : Parser} (a : PartAt text f p) wher
     last_is : LastIs q p.token.kind
     last_is = record { lexeme = h.lexeme; of_text = subst (λ (t : List ℕ). IsLexemeOf (goal q) t h.lexeme) (sym h.stays.text) (a_lexeme a.at.reached h.stood); ends = sym h.moved; is = sym h.tells.kind }
 
-    stood : StandsBehind all_faults text p.prev_token_end h.lexeme
-    stood = subst (λ (v : List ℕ). StandsBehind all_faults v p.prev_token_end h.lexeme) a.text_is h.stood
+    stood : NextLexeme all_faults text p.prev_token_end h.lexeme
+    stood = subst (λ (v : List ℕ). NextLexeme all_faults v p.prev_token_end h.lexeme) a.text_is h.stood
 
     lexeme_read : IsTrue (is_read h.lexeme)
     lexeme_read = let k = part_read h.lexeme.kind (subst (λ (k : Kind). one_of_kinds parts k ≡ true) h.tells.kind a.part) in read_of h.lexeme refl k.0
@@ -735,7 +735,7 @@ module _ {text : List ℕ} {f : Flags} {p q : Parser} {template : NodeId} (a : A
   no_links_there : (c : LinkForm) (o : Bool) → NoLink text f p.prev_token_end c o
   no_links_there c o = no_links_here f c o (λ y l. subst (λ (k : Kind). one_of_kinds heads k ≡ true) (sym (heads_there a h y l).0) h)
 
-  pub template_tagged : {start : ℕ} {left id : NodeId} {s t : Span} {r w : Parser} → KeepsOne (unrelated_at OptionalChainTaggedTemplate s) q r → t.start ≡ start → t.end ≡ r.prev_token_end → MadeHere (plain_label node.TaggedTemplateExpression op.None t) (Some left ∷ Some template ∷ []) r w id → Tagged text f start left p w id
+  pub template_tagged : {start : ℕ} {left id : NodeId} {s t : Span} {r w : Parser} → KeepsDiagnostic (unrelated_at OptionalChainTaggedTemplate s) q r → t.start ≡ start → t.end ≡ r.prev_token_end → MadeHere (plain_label node.TaggedTemplateExpression op.None t) (Some left ∷ Some template ∷ []) r w id → Tagged text f start left p w id
   template_tagged {start} {left} {id} {s} {t} {r} {w} k b e m = record {
     sign = (p.token.kind, or_right (same_kind QuestionDot p.token.kind) _ h, heads_there a h);
     none = no_links_there;
@@ -755,7 +755,7 @@ module _ {text : List ℕ} {f : Flags} {p q : Parser} {template : NodeId} (a : A
   }
 
 -- it is told last, from where it begins to where it ends
-pub template_told : {text : List ℕ} {f : Flags} {p q r w : Parser} {template id : NodeId} {ids : List (Option NodeId)} {l : Label} (s : Span) (x : TemplateTaken text f p q template) → KeepsOne (unrelated_at OptionalChainTaggedTemplate s) q r → MadeHere l ids r w id → s.start ≡ p.token.span.start → s.end ≡ q.prev_token_end → TellsTemplate p w
+pub template_told : {text : List ℕ} {f : Flags} {p q r w : Parser} {template id : NodeId} {ids : List (Option NodeId)} {l : Label} (s : Span) (x : TemplateTaken text f p q template) → KeepsDiagnostic (unrelated_at OptionalChainTaggedTemplate s) q r → MadeHere l ids r w id → s.start ≡ p.token.span.start → s.end ≡ q.prev_token_end → TellsTemplate p w
 template_told {p = p} {q = q} {r = r} {w = w} s x k m b e =
     let place : w.prev_token_end ≡ q.prev_token_end = ap (λ (z : Parser). z.prev_token_end) m.stays ∙ ap (λ (z : Parser). z.prev_token_end) k.is in
     let kept : w.errors ≡ q.errors ++ unrelated_at OptionalChainTaggedTemplate s ∷ [] = ap (λ (z : Parser). z.errors) m.stays ∙ ap (λ (z : Parser). z.errors) k.is in

@@ -12,7 +12,7 @@ use Rattle.js_grammar.specs.Table.{rule, function_of}
 use Rattle.laws_shared.specs.js_tree.declared.id.NodeId.{NodeId}
 use Rattle.laws_shared.specs.js_tree.declared.kind.NodeKind.TheVariants as node
 use Rattle.laws_shared.specs.js_tree.declared.op.Op.TheVariants as op
-use Rattle.laws_shared.specs.js_cursor.Moves.{GivesUp, IsUnexpected, Keeps}
+use Rattle.laws_shared.specs.js_cursor.Moves.{GivesUp, IsUnexpected, KeepsDiagnostic}
 use Rattle.laws_shared.specs.js_cursor.Parsers.{Parser}
 use Rattle.laws_shared.specs.js_cursor.declared.stop.Stop.{Stop}
 use Rattle.laws_shared.specs.js_cursor.declared.stop.Stop.TheVariants.{Fatal, NoMemory}
@@ -111,6 +111,6 @@ NamesFunction Expression asynchronous generator p b = NameUnder generator asynch
 abbrev pub TakesName : FunctionForm → Bool → Bool → Parser → Parser → Result (Option NodeId) Stop → Type 0
 TakesName form asynchronous generator old new (Ok (Some id)) = NamesFunction form asynchronous generator old true × TakesLeaf node.BindingIdentifier op.None old new id
 TakesName Expression asynchronous generator old new (Ok None) = NameUnder generator asynchronous old false × (new ≡ old)
-TakesName Declaration asynchronous generator old new (Ok None) = NameHere old false × Keeps (nameless old.token.span) old new
+TakesName Declaration asynchronous generator old new (Ok None) = NameHere old false × KeepsDiagnostic (nameless old.token.span) old new
 TakesName form asynchronous generator old new (Err Fatal) = (form ≡ Declaration) × NameHere old false × GivesUp (IsUnexpected old) old new Fatal
 TakesName form asynchronous generator old new (Err NoMemory) = Unit {0}

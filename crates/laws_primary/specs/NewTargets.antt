@@ -7,11 +7,11 @@ use Rattle.js_base.specs.declared.kind.Kind.TheVariants.{Dot, New, Target}
 use Rattle.js_base.specs.declared.span.Span.{Span}
 use Rattle.js_grammar.specs.Grammar.{Lexeme, ◌▸◌}
 use Rattle.js_grammar.specs.LexicalFaults.{Reached}
-use Rattle.js_grammar.specs.Lexed.{Lex as StandsBehind, all_faults}
+use Rattle.js_grammar.specs.Lexed.{NextLexeme, all_faults}
 use Rattle.js_grammar.specs.Marks.{of_kinds}
 use Rattle.js_grammar.specs.Productions.{G, Flags, tok}
 use Rattle.laws_shared.specs.js_tree.declared.id.NodeId.{NodeId}
-use Rattle.laws_shared.specs.js_cursor.Moves.{Keeps}
+use Rattle.laws_shared.specs.js_cursor.Moves.{KeepsDiagnostic}
 use Rattle.laws_shared.specs.js_cursor.Parsers.{Parser}
 use Rattle.laws_shared.specs.js_cursor.declared.stop.Stop.{Stop}
 use Rattle.laws_primary.specs.Members.{MemberOutcome}
@@ -36,7 +36,7 @@ pub record BehindNew (start : ℕ) (p : Parser) : Type 0 where
   pub place : ℕ
   pub reached : Reached p.text place
   pub word : Lexeme
-  pub stood : StandsBehind all_faults p.text place word
+  pub stood : NextLexeme all_faults p.text place word
   pub is_new : IsTrue (of_kinds (New ∷ []) word)
   pub begins : word.from ≡ start
   pub ends : word.to ≡ p.prev_token_end
@@ -49,14 +49,14 @@ pub record BehindDot (start : ℕ) (q : Parser) : Type 0 where
   pub behind : BehindNew start new
   pub text : q.text ≡ new.text
   pub dot : Lexeme
-  pub stood : StandsBehind all_faults q.text new.prev_token_end dot
+  pub stood : NextLexeme all_faults q.text new.prev_token_end dot
   pub is_dot : IsTrue (of_kinds (Dot ∷ []) dot)
   pub ends : dot.to ≡ q.prev_token_end
   pub before : new.prev_token_end ≤ q.prev_token_end
 
 -- That was told, without the parameter NewTarget; or it may stand here.
 abbrev pub ChecksTarget : Span → Parser → Parser → Type 0
-ChecksTarget span old new = ((has_flag new_target_flag old.ctx ≡ false) × Keeps (outside_at span) old new) ⊎ ((has_flag new_target_flag old.ctx ≡ true) × (new ≡ old))
+ChecksTarget span old new = ((has_flag new_target_flag old.ctx ≡ false) × KeepsDiagnostic (outside_at span) old new) ⊎ ((has_flag new_target_flag old.ctx ≡ true) × (new ≡ old))
 
 -- From the state o, where `new` stood, up to the old one this word was passed; now what stands behind it is.
 abbrev pub TakesTarget : ℕ → Parser → Parser → Result NodeId Stop → Type 0

@@ -6,7 +6,7 @@ use Rattle.js_base.specs.declared.kind.Kind.TheVariants.{Super as super_kind}
 use Rattle.js_base.specs.declared.span.Span.{Span}
 use Rattle.js_grammar.specs.Productions.{Flags}
 use Rattle.laws_shared.specs.js_tree.declared.id.NodeId.{NodeId}
-use Rattle.laws_shared.specs.js_cursor.Moves.{Keeps}
+use Rattle.laws_shared.specs.js_cursor.Moves.{KeepsDiagnostic}
 use Rattle.laws_shared.specs.js_cursor.Parsers.{Parser}
 use Rattle.laws_shared.specs.js_cursor.declared.stop.Stop.{Stop}
 use Rattle.laws_primary.specs.Members.{LinkHere, NoMember, SuperWord, Taken, MemberOutcome}
@@ -25,11 +25,11 @@ callee_from from to = unrelated_at fault.NewSuper (record { start = from; end = 
 
 -- That was told, where none of the three stands; or one does.
 abbrev pub ChecksSuper : Span → Parser → Parser → Type 0
-ChecksSuper span old new = (LinkHere old base.Call false × Keeps (alone_at span) old new) ⊎ (LinkHere old base.Call true × (new ≡ old))
+ChecksSuper span old new = (LinkHere old base.Call false × KeepsDiagnostic (alone_at span) old new) ⊎ (LinkHere old base.Call true × (new ≡ old))
 
 -- That was told of the word alone, from a place on; or something else was read.
 abbrev pub ChecksCallee : Bool → ℕ → Parser → Parser → Type 0
-ChecksCallee word start old new = ((word ≡ true) × Keeps (callee_from start old.prev_token_end) old new) ⊎ ((word ≡ false) × (new ≡ old))
+ChecksCallee word start old new = ((word ≡ true) × KeepsDiagnostic (callee_from start old.prev_token_end) old new) ⊎ ((word ≡ false) × (new ≡ old))
 
 -- the word, before one of the three
 abbrev pub SuperTaken : List ℕ → Flags → Parser → Parser → NodeId → Type 0

@@ -2,7 +2,7 @@
 use Rattle.std.proofs.Common.{ℕ, ◌≡◌, ◌≤◌, List, sym, subst, arith, ◌∙◌}
 use Rattle.js_base.specs.declared.source_type.SourceType.{SourceType}
 use Rattle.js_base.specs.declared.span.Span.{Span}
-use Rattle.js_grammar.specs.Lexed.{Lex as StandsBehind, all_faults}
+use Rattle.js_grammar.specs.Lexed.{NextLexeme, all_faults}
 use Rattle.js_grammar.specs.LexicalFaults.{Reached}
 use Rattle.js_grammar.specs.Marks.{LexemeAt, a_lexeme, opens}
 use Rattle.js_grammar.specs.Productions.{Flags}
@@ -22,7 +22,7 @@ pub opened_here : {text : List ℕ} {f : Flags} {p q : Parser} → At text f p �
 opened_here {text} {f} {p} {q} a k m = record {
   bracket = record {
     lexeme = m.lexeme;
-    of_text = a_lexeme (subst (λ (v : List ℕ). Reached v p.prev_token_end) (a.text_is ∙ sym m.at.text_is) a.at.reached) (subst (λ (v : List ℕ). StandsBehind all_faults v p.prev_token_end m.lexeme) (sym m.at.text_is) m.stood);
+    of_text = a_lexeme (subst (λ (v : List ℕ). Reached v p.prev_token_end) (a.text_is ∙ sym m.at.text_is) a.at.reached) (subst (λ (v : List ℕ). NextLexeme all_faults v p.prev_token_end m.lexeme) (sym m.at.text_is) m.stood);
     is = (sym m.tells.start, sym m.tells.end);
     passes = subst (λ (v : Kind). one_of_kinds (LParen ∷ LBrack ∷ LCurly ∷ []) v ≡ true) m.tells.kind k;
   };

@@ -7,7 +7,7 @@ use Rattle.js_base.specs.declared.diagnostic.DiagnosticKind.{DiagnosticKind}
 use Rattle.js_base.specs.declared.span.Span.{Span}
 use Rattle.js_base.specs.Diagnostics.{class_of}
 pub use Rattle.js_grammar.proofs.FaultClasses.{lexical_by}
-use Rattle.js_cursor.specs.Moves.{GivesUp, IsHere, IsUnexpected, Keeps, a_fault, a_marker, a_lexeme}
+use Rattle.js_cursor.specs.Moves.{GivesUp, IsHere, IsUnexpected, KeepsDiagnostic, a_fault, a_marker, a_lexeme}
 use Rattle.js_cursor.specs.Parsers.{Parser}
 use Rattle.js_cursor.specs.Places.{IsAt, IsFault, goal}
 use Rattle.js_cursor.specs.declared.stop.Stop.{Stop}
@@ -35,5 +35,5 @@ gives_up_by p q NoMemory g w = g
 pub one_early : (d : Diagnostic) (ds : List Diagnostic) → IsEarly d → All IsEarly ds → All IsEarly (ds ++ d ∷ [])
 one_early d ds e h = All-push IsEarly ds d h e
 
-pub kept_early : {d : Diagnostic} {p q : Parser} → Keeps d p q → IsEarly d → All IsEarly p.errors → All IsEarly q.errors
+pub kept_early : {d : Diagnostic} {p q : Parser} → KeepsDiagnostic d p q → IsEarly d → All IsEarly p.errors → All IsEarly q.errors
 kept_early {d} {p} {q} k e h = All-same IsEarly q.errors (p.errors ++ d ∷ []) (ap (λ (r : Parser). r.errors) k.is) (one_early d p.errors e h)

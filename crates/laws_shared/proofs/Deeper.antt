@@ -10,21 +10,21 @@ use Rattle.js_cursor.specs.Parsers.{Parser}
 use Rattle.js_cursor.specs.Places.{IsAt}
 use Rattle.js_cursor.specs.declared.stop.Stop.{Stop}
 use Rattle.js_cursor.proofs.Later.{follows_on}
-use Rattle.laws_shared.specs.declared.nested.Goal.{Goal}
-use Rattle.laws_shared.specs.declared.nested.Goal.TheVariants.{Expression, Assignment, Element, Unary, Exponentiation, Binding, Statement, ListItem, Body, Params, MethodParameters}
+use Rattle.laws_shared.specs.declared.nested.Nonterminal.{Nonterminal}
+use Rattle.laws_shared.specs.declared.nested.Nonterminal.TheVariants.{Expression, Assignment, Element, Unary, Exponentiation, Binding, Statement, ListItem, Body, Params, MethodParameters}
 use Rattle.laws_shared.specs.Methods.{WholeTaken, parameters_of}
 use Rattle.js_grammar.specs.Parsing.{plain, full, Fails}
 use Rattle.js_grammar.specs.Productions.{G}
 use Rattle.js_grammar.specs.Table.{rule}
 use Rattle.js_grammar.specs.Trees.{end}
 use Rattle.laws_shared.specs.Lexemes.{Lex}
-use Rattle.laws_shared.specs.Nesting.{Ready, Reading}
+use Rattle.laws_shared.specs.Nesting.{Ready, AnswersFor}
 use Rattle.laws_shared.specs.States.{Standing}
 use Rattle.laws_shared.specs.Statements.{NoStatement}
 use Rattle.laws_shared.specs.Statements.{Statement as TheStatement}
 use Rattle.laws_shared.proofs.Moving.{standing, deeper, elsewhere, at_depth, stops_in, entered_none, entered_place, left}
 
-pub ready_at : {p : Parser} (g : Goal) → Ready g p → Standing p
+pub ready_at : {p : Parser} (g : Nonterminal) → Ready g p → Standing p
 ready_at Statement r = r.0
 ready_at ListItem r = r.0
 ready_at Body r = r.0
@@ -37,7 +37,7 @@ ready_at Binding r = r
 ready_at Params r = r
 ready_at (MethodParameters form) r = r
 
-pub ready_deeper : {k : ℕ} {p q : Parser} (g : Goal) → Ready g p → Enters k p q → Ready g q
+pub ready_deeper : {k : ℕ} {p q : Parser} (g : Nonterminal) → Ready g p → Enters k p q → Ready g q
 ready_deeper Statement r i = (standing (deeper r.0 i), ap (λ (q : Parser). has_flag in_flag q.ctx) i.is ∙ r.1)
 ready_deeper ListItem r i = (standing (deeper r.0 i), ap (λ (q : Parser). has_flag in_flag q.ctx) i.is ∙ r.1)
 ready_deeper Body r i = (standing (deeper r.0 i), ap (λ (q : Parser). has_flag in_flag q.ctx) i.is ∙ r.1)
@@ -56,7 +56,7 @@ none_deeper {text = text} {g = g} i x = subst (λ (s : ℕ). Fails rule (Lex tex
 no_deeper : {k : ℕ} {text : List ℕ} {n : Symbol} {p q : Parser} → Enters k p q → NoStatement text n q.prev_token_end → NoStatement text n p.prev_token_end
 no_deeper {text = text} {n = n} i x = subst (λ (s : ℕ). NoStatement text n s) (entered_place i) x
 
-pub stops_deeper : {k : ℕ} {p q : Parser} (r : Parser) (e : Stop) (g : Goal) → Enters k p q → Reading g q r (Err e) → Reading g p r (Err e)
+pub stops_deeper : {k : ℕ} {p q : Parser} (r : Parser) (e : Stop) (g : Nonterminal) → Enters k p q → AnswersFor g q r (Err e) → AnswersFor g p r (Err e)
 stops_deeper r e Statement i x = λ text f a. stops_in r e a.at i (no_deeper {n = at n.Sub f} i) (x text f (deeper a i))
 stops_deeper r e ListItem i x = λ text f a. stops_in r e a.at i (no_deeper {n = at n.ListItem f} i) (x text f (deeper a i))
 stops_deeper r e Body i x = λ text f a. stops_in r e a.at i (entered_none {n = at n.Body f} i) (x text f (deeper a i))
@@ -70,7 +70,7 @@ stops_deeper r e Params i x = λ text f a. stops_in r e a.at i (entered_none {n 
 stops_deeper r e (MethodParameters form) i x = λ text f a. stops_in r e a.at i (none_deeper {g = parameters_of form f} i) (x text f (deeper a i))
 
 -- the state before the level is given back
-pub read_deeper : {k : ℕ} {p e q : Parser} (id : NodeId) (g : Goal) → Ready g p → Enters k p e → Reading g e q (Ok id) → IsAt q × (q.depth ≡ e.depth)
+pub read_deeper : {k : ℕ} {p e q : Parser} (id : NodeId) (g : Nonterminal) → Ready g p → Enters k p e → AnswersFor g e q (Ok id) → IsAt q × (q.depth ≡ e.depth)
 read_deeper id Statement r i x = let y = x _ _ (deeper r.0 i) in (y.at.at, y.same.depth)
 read_deeper id ListItem r i x = let y = x _ _ (deeper r.0 i) in (y.at.at, y.same.depth)
 read_deeper id Body r i x = let y = (x _ _ (deeper r.0 i)).answer in (y.at.at, y.same.depth)
@@ -122,7 +122,7 @@ left_whole {k} {text} {f} {g} {p} {e} {q} {w} {id} a h l x =
     let d : w.depth ≡ p.depth = (let a = l.depth in let b = x.same.depth in let c = ap (λ (r : Parser). r.depth) h.is in omega arith) in
     subst (λ (r : Parser). WholeTaken text f g p r id) (sym l.is) (whole_out (p.depth + k) w.depth d a (subst (λ (r : Parser). WholeTaken text f g r q id) h.is x))
 
-pub left_deeper : {k : ℕ} {p e q w : Parser} (id : NodeId) (g : Goal) → Enters k p e → Leaves k q w → Reading g e q (Ok id) → Reading g p w (Ok id)
+pub left_deeper : {k : ℕ} {p e q w : Parser} (id : NodeId) (g : Nonterminal) → Enters k p e → Leaves k q w → AnswersFor g e q (Ok id) → AnswersFor g p w (Ok id)
 left_deeper id Statement i l x = λ text f a. left_statement a.at i l (x text f (deeper a i))
 left_deeper id ListItem i l x = λ text f a. left_statement a.at i l (x text f (deeper a i))
 left_deeper id Body i l x = λ text f a. left a.at i l (x text f (deeper a i))

@@ -16,7 +16,7 @@ use Rattle.js_grammar.proofs.FirstClaims.{firsts}
 use Rattle.js_grammar.proofs.FirstRules.{fails_here}
 use Rattle.js_grammar.proofs.Looks.{covers, covered, apart, not_both}
 use Rattle.js_cursor.specs.Parsers.{Parser}
-use Rattle.js_cursor.specs.Moves.{Keeps, GivesUp, IsUnexpected, OnlyMemory}
+use Rattle.js_cursor.specs.Moves.{KeepsDiagnostic, GivesUp, IsUnexpected, OnlyMemory}
 use Rattle.js_cursor.specs.declared.stop.Stop.{Stop}
 use Rattle.js_cursor.specs.declared.stop.Stop.TheVariants.{Fatal, NoMemory}
 use Rattle.js_cursor.proofs.Later.{keeps_follows}
@@ -30,7 +30,7 @@ use Rattle.laws_shared.proofs.Here.{escaped_here}
 use Rattle.laws_shared.specs.Classes.{EndsParse}
 use Rattle.laws_shared.proofs.Classes.{unexpected_ends}
 
-pub kept_one : {d : Diagnostic} {p q : Parser} → Keeps d p q → Grown p.errors q.errors
+pub kept_one : {d : Diagnostic} {p q : Parser} → KeepsDiagnostic d p q → Grown p.errors q.errors
 kept_one {d} k = record { more = d ∷ []; kept = ap (λ (r : Parser). r.errors) k.is; some = λ e. cc }
 
 -- by a diagnostic of a class that ends a parse

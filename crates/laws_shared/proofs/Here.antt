@@ -8,7 +8,7 @@ use Rattle.js_base.specs.declared.token.Token.{Token}
 use Rattle.js_base.specs.Kinds.{same_kind, one_of_kinds}
 use Rattle.js_grammar.specs.Grammar.{Lexeme, Look}
 use Rattle.js_grammar.specs.Lexemes.{LexicalGoal, division, regular_expression, template_tail, hashbang, kind_in}
-use Rattle.js_grammar.specs.Lexed.{Lex as StandsBehind, all_faults}
+use Rattle.js_grammar.specs.Lexed.{NextLexeme, all_faults}
 use Rattle.js_grammar.specs.Productions.{Flags}
 use Rattle.js_base.proofs.KindLemmas.{kind_of_same}
 use Rattle.js_grammar.proofs.Alike.{lex-same}
@@ -33,7 +33,7 @@ goal_here k n = go (same_kind RegExp k) refl (one_of_kinds template_tails k) ref
     go false e false f q = rw (e, f) refl
 
 -- a lexeme of a kind that is read is one of its lexical goal
-pub goal_is : {text : List ℕ} {s : ℕ} {y : Lexeme} (h : StandsBehind all_faults text s y) → is_read_kind y.kind ≡ true → h.goal ≡ goal_for y.kind
+pub goal_is : {text : List ℕ} {s : ℕ} {y : Lexeme} (h : NextLexeme all_faults text s y) → is_read_kind y.kind ≡ true → h.goal ≡ goal_for y.kind
 goal_is {y = y} h kinds = go (same_kind RegExp y.kind) refl (one_of_kinds template_tails y.kind) refl
   where
     is_none : (k : Kind) → is_read_kind k ≡ false → y.kind ≡ k → ⊥
@@ -55,10 +55,10 @@ goal_is {y = y} h kinds = go (same_kind RegExp y.kind) refl (one_of_kinds templa
     go false e false f = plain e f h.goal refl h.lexeme.kind ∙ rw (e, f) refl
 
 -- a lexeme of a kind that is read, and of no other lexical goal, is one of the plain one
-pub plain_kind : {text : List ℕ} {s : ℕ} {y : Lexeme} (h : StandsBehind all_faults text s y) → is_read_kind y.kind ≡ true → one_of_kinds other_goals y.kind ≡ false → h.goal ≡ division
+pub plain_kind : {text : List ℕ} {s : ℕ} {y : Lexeme} (h : NextLexeme all_faults text s y) → is_read_kind y.kind ≡ true → one_of_kinds other_goals y.kind ≡ false → h.goal ≡ division
 plain_kind {y = y} h kinds r = goal_is h kinds ∙ goal_here y.kind r
 
-pub plainly : {text : List ℕ} {s : ℕ} {y : Lexeme} (h : StandsBehind all_faults text s y) → IsTrue (is_read y) → one_of_kinds other_goals y.kind ≡ false → h.goal ≡ division
+pub plainly : {text : List ℕ} {s : ℕ} {y : Lexeme} (h : NextLexeme all_faults text s y) → IsTrue (is_read y) → one_of_kinds other_goals y.kind ≡ false → h.goal ≡ division
 plainly h r = plain_kind h r
 
 -- two lexemes that are read behind one place are one, if they are of one lexical goal
@@ -280,10 +280,10 @@ module _ {text : List ℕ} {f : Flags} {p : Parser} (a : At text f p) where
   kind_here {k} e n y l = let z = settled_kind k n in sym (told (uncut (ap (same_kind RAngle) e ∙ z.0)) (ap (one_of_kinds signs) e ∙ z.1) y l).kind ∙ e
 
   -- a lexeme that may be passed stands there
-  pub found : p.cut ≡ false → is_last p.token.kind ≡ false → (y : Lexeme) × StandsBehind all_faults text p.prev_token_end y × Tells y p.token
+  pub found : p.cut ≡ false → is_last p.token.kind ≡ false → (y : Lexeme) × NextLexeme all_faults text p.prev_token_end y × Tells y p.token
   found c n = go a.plain
     where
-      go : IsPlain text p → (y : Lexeme) × StandsBehind all_faults text p.prev_token_end y × Tells y p.token
+      go : IsPlain text p → (y : Lexeme) × NextLexeme all_faults text p.prev_token_end y × Tells y p.token
       go (whole q m x) = (x.lexeme, x.stands.lex, x.tells)
       go (sign q k x) = absurd (false≢true (sym c ∙ q))
       go (nothing q k m) = absurd (false≢true (sym n ∙ ap is_last k))

@@ -11,7 +11,7 @@ use Rattle.js_grammar.specs.Grammar.{Lexeme}
 use Rattle.js_grammar.specs.Trivia.{is_html_comment, lack_html_comments}
 use Rattle.js_grammar.specs.RegularExpressions.{flags}
 use Rattle.js_grammar.specs.Lexemes.{division}
-use Rattle.js_grammar.specs.Lexed.{Lex as StandsBehind, Passing, in_script, in_module, all_faults, passing_of, comments_pass, flags_right}
+use Rattle.js_grammar.specs.Lexed.{NextLexeme, Passing, in_script, in_module, all_faults, passing_of, comments_pass, flags_right}
 use Rattle.js_grammar.specs.Settings.{Goal}
 use Rattle.js_grammar.proofs.Alike.{stands-same}
 use Rattle.js_grammar.proofs.CoreLexed.{flags-none}
@@ -74,7 +74,7 @@ no_pattern k n = go (same_kind RegExp k) n
     go false h = refl
 
 -- whichever faults pass, where they aren't there
-pub passing_so : {m n : Passing} {text : List ℕ} {s : ℕ} {y : Lexeme} (h : StandsBehind m text s y) → comments_pass n h.trivia ≡ true → flags_right n y.kind h.word ≡ true → StandsBehind n text s y
+pub passing_so : {m n : Passing} {text : List ℕ} {s : ℕ} {y : Lexeme} (h : NextLexeme m text s y) → comments_pass n h.trivia ≡ true → flags_right n y.kind h.word ≡ true → NextLexeme n text s y
 passing_so h c f = record { trivia = h.trivia; goal = h.goal; word = h.word; rest = h.rest; stands = h.stands; lexeme = h.lexeme; comments = c; flags = f; from = h.from; to = h.to; newline = h.newline; escaped = h.escaped; units = h.units }
 
 -- a lexeme without a fault is a lexeme

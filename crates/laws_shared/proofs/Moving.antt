@@ -11,7 +11,7 @@ use Rattle.js_base.specs.Kinds.{same_kind, one_of_kinds}
 use Rattle.js_base.proofs.KindLemmas.{kind_of_same}
 use Rattle.js_grammar.specs.Grammar.{Lexeme}
 use Rattle.js_grammar.specs.Lexemes.{LexicalGoal, division}
-use Rattle.js_grammar.specs.Lexed.{Lex as StandsBehind, all_faults}
+use Rattle.js_grammar.specs.Lexed.{NextLexeme, all_faults}
 use Rattle.js_grammar.specs.Productions.{Flags, Symbol}
 use Rattle.js_grammar.specs.Settings.{Goal}
 use Rattle.js_cursor.specs.js_lex.Reading.{cut, is_kept, is_right_angle, in_a_module, Tells, GivesLexeme, GivesNone, LexemeBehind, Outcome}
@@ -135,14 +135,14 @@ module _ {text : List ℕ} {f : Flags} {p : Parser} where
     nodes = s.stays.nodes;
     kept = s.stays.errors;
     lexeme = s.lexeme;
-    stood = subst (λ (v : List ℕ). StandsBehind all_faults v p.prev_token_end s.lexeme) a.text_is s.stood;
+    stood = subst (λ (v : List ℕ). NextLexeme all_faults v p.prev_token_end s.lexeme) a.text_is s.stood;
     plain = ap (one_of_kinds other_goals) (sym s.tells.kind) ∙ plain_token a.plain;
     tells = s.tells;
     ends = sym s.moved;
     further = further n s;
     news = news;
     is_new = record {
-      stood = subst (λ (v : List ℕ). StandsBehind all_faults v p.prev_token_end s.lexeme) a.text_is s.stood;
+      stood = subst (λ (v : List ℕ). NextLexeme all_faults v p.prev_token_end s.lexeme) a.text_is s.stood;
       tells = s.tells;
       counts = counts_here a.plain n;
       faults = subst (λ (v : Goal). KeptFor v text s.lexeme.to news.faults) a.at.reads_for (there (λ v i. KeptFor p.lexer.goal v i news.faults) (kept_for s.next));

@@ -2,7 +2,7 @@
 use Rattle.std.proofs.Common.{ℕ, ◌<◌, ◌≤◌, List, length, ap, arith}
 use Rattle.js_grammar.specs.Productions.{Flags}
 use Rattle.js_cursor.specs.Parsers.{Parser}
-use Rattle.laws_shared.specs.declared.nested.Goal.{Goal}
+use Rattle.laws_shared.specs.declared.nested.Nonterminal.{Nonterminal}
 use Rattle.laws_shared.specs.Moves.{Moved}
 use Rattle.laws_shared.specs.Nesting.{CanNest, room}
 use Rattle.laws_shared.specs.States.{At, Same}
@@ -12,7 +12,7 @@ pub nested_room : {text : List ℕ} {f : Flags} {p q : Parser} → At text f p �
 nested_room a m = let x = m.further in let y = a.behind in let z = a.at.between.0 in let g = m.same.follows.text in omega (arith, ap length g)
 
 -- what is allowed here is allowed where less is left
-pub nests_later : {can : Parser → Goal → Type 0} {m n : ℕ} → CanNest can n → m ≤ n → CanNest can m
+pub nests_later : {can : Parser → Nonterminal → Type 0} {m n : ℕ} → CanNest can n → m ≤ n → CanNest can m
 nests_later c l = λ q g a i. c q g a (omega arith)
 
 -- behind what was read

@@ -14,7 +14,7 @@ use Rattle.js_grammar.specs.Productions.{Flags}
 use Rattle.js_cursor.specs.Parsers.{Parser}
 use Rattle.js_cursor.specs.Moves.{is_last}
 use Rattle.js_base.proofs.KindLemmas.{kind_of_same}
-use Rattle.js_grammar.specs.Lexed.{Lex as StandsBehind, all_faults}
+use Rattle.js_grammar.specs.Lexed.{NextLexeme, all_faults}
 use Rattle.laws_shared.specs.Lexemes.{Lex, other_goals, is_read_kind}
 use Rattle.laws_shared.specs.States.{At}
 use Rattle.laws_shared.proofs.Here.{found, told_plain, uncut, kind_here, unsettled}
@@ -78,10 +78,10 @@ unfolding words
 ending_plain k h = of_ending (λ k. ((is_word k || same_kind PrivateIdentifier k) ≡ false) × (is_read_kind k ≡ true) × (k ≡ Undetermined → ⊥)) k h (refl, refl, λ e. cc) (refl, refl, λ e. cc) (refl, refl, λ e. cc) (refl, refl, λ e. cc) (refl, refl, λ e. cc) (refl, refl, λ e. cc) (refl, refl, λ e. cc)
 
 -- a lexeme stands there, be it the end
-there : {text : List ℕ} {f : Flags} {p : Parser} → At text f p → p.cut ≡ false → (p.token.kind ≡ Undetermined → ⊥) → (y : Lexeme) × StandsBehind all_faults text p.prev_token_end y × Tells y p.token
+there : {text : List ℕ} {f : Flags} {p : Parser} → At text f p → p.cut ≡ false → (p.token.kind ≡ Undetermined → ⊥) → (y : Lexeme) × NextLexeme all_faults text p.prev_token_end y × Tells y p.token
 there {text} {p = p} a c n = go a.plain
   where
-    go : IsPlain text p → (y : Lexeme) × StandsBehind all_faults text p.prev_token_end y × Tells y p.token
+    go : IsPlain text p → (y : Lexeme) × NextLexeme all_faults text p.prev_token_end y × Tells y p.token
     go (whole q m x) = (x.lexeme, x.stands.lex, x.tells)
     go (sign q k x) = absurd (false≢true (sym c ∙ q))
     go (no_lexeme q k m) = absurd (n k)

@@ -17,7 +17,7 @@ use Rattle.js_grammar.specs.Templates.{closes_template, part_kind, template_tail
 use Rattle.js_grammar.proofs.Lexemes.{first_or}
 use Rattle.js_grammar.proofs.Looks.{same_self}
 use Rattle.js_grammar.specs.Lexemes.{LexicalGoal, division, regular_expression, template_tail, hashbang, kind_in, plain_kind, lexemes_in, is_escaped, units_of}
-use Rattle.js_grammar.specs.Lexed.{Lex as StandsBehind, IsLexeme, all_faults}
+use Rattle.js_grammar.specs.Lexed.{NextLexeme, IsLexeme, all_faults}
 use Rattle.js_grammar.proofs.QuickLexemes.{none_goes_on, none_goes_on-is}
 use Rattle.js_cursor.specs.js_lex.Reading.{LexemeBehind}
 use Rattle.js_cursor.proofs.part_words.KindsOfLexemes.{no_plain, opened, plain_end, pattern_is, tail_is, hashbang_is}
@@ -30,7 +30,7 @@ not_plain j o e [] rest q = false≢true (sym e ∙ ap (same_kind Eof) (plain_en
 not_plain j o e (c ∷ cs) rest q = false≢true (sym (no_plain j c cs rest j o q) ∙ same_self j)
 
 -- a lexeme of this kind is one of its own lexical goal
-pub pattern_goal : {text : List ℕ} {s : ℕ} {y : Lexeme} (h : StandsBehind all_faults text s y) → y.kind ≡ RegExp → h.goal ≡ regular_expression
+pub pattern_goal : {text : List ℕ} {s : ℕ} {y : Lexeme} (h : NextLexeme all_faults text s y) → y.kind ≡ RegExp → h.goal ≡ regular_expression
 pattern_goal {y = y} h k = go h.goal refl
   where
     of_goal : (g : LexicalGoal) → h.goal ≡ g → kind_in g h.word h.rest ≡ Some RegExp
@@ -47,7 +47,7 @@ pattern_goal {y = y} h k = go h.goal refl
     go hashbang e = absurd (let z : RegExp ≡ HashbangComment = hashbang_is h.word RegExp (of_goal hashbang e) in cc)
 
 -- so is a part of a template that begins with `}`
-tail_goal_of : {text : List ℕ} {s : ℕ} {y : Lexeme} (j : Kind) → opened j ≡ None → same_kind Eof j ≡ false → same_kind RegExp j ≡ false → same_kind HashbangComment j ≡ false → (h : StandsBehind all_faults text s y) → y.kind ≡ j → h.goal ≡ template_tail
+tail_goal_of : {text : List ℕ} {s : ℕ} {y : Lexeme} (j : Kind) → opened j ≡ None → same_kind Eof j ≡ false → same_kind RegExp j ≡ false → same_kind HashbangComment j ≡ false → (h : NextLexeme all_faults text s y) → y.kind ≡ j → h.goal ≡ template_tail
 tail_goal_of {y = y} j o n r c h k = go h.goal refl
   where
     of_goal : (g : LexicalGoal) → h.goal ≡ g → kind_in g h.word h.rest ≡ Some j
@@ -59,7 +59,7 @@ tail_goal_of {y = y} j o n r c h k = go h.goal refl
     go regular_expression e = absurd (false≢true (sym r ∙ ap (same_kind RegExp) (pattern_is h.word j (of_goal regular_expression e))))
     go hashbang e = absurd (false≢true (sym c ∙ ap (same_kind HashbangComment) (hashbang_is h.word j (of_goal hashbang e))))
 
-pub tail_goal : {text : List ℕ} {s : ℕ} {y : Lexeme} (h : StandsBehind all_faults text s y) → one_of_kinds template_tails y.kind ≡ true → h.goal ≡ template_tail
+pub tail_goal : {text : List ℕ} {s : ℕ} {y : Lexeme} (h : NextLexeme all_faults text s y) → one_of_kinds template_tails y.kind ≡ true → h.goal ≡ template_tail
 tail_goal {text} {s} {y} h t = go (same_kind TemplateMiddle y.kind) refl (same_kind TemplateTail y.kind) refl t
   where
     go : (b : Bool) → same_kind TemplateMiddle y.kind ≡ b → (c : Bool) → same_kind TemplateTail y.kind ≡ c → (b || (c || false)) ≡ true → h.goal ≡ template_tail
@@ -130,7 +130,7 @@ pub record SignThere (text : List ℕ) (s : ℕ) (y : Lexeme) : Type 0 where
   pub newline : lexeme.newline ≡ y.newline
   pub escaped : lexeme.escaped ≡ y.escaped
 
-of_sign : {text : List ℕ} {s : ℕ} {y : Lexeme} → (h : StandsBehind all_faults text s y) → y.escaped ≡ false → (w rest : List ℕ) (j : Kind) → h.word ++ h.rest ≡ w ++ rest → one_of_kinds (signs_of y.kind) j ≡ true → is_escaped j w ≡ false → IsLexeme division y.from w rest j → SignThere text s y
+of_sign : {text : List ℕ} {s : ℕ} {y : Lexeme} → (h : NextLexeme all_faults text s y) → y.escaped ≡ false → (w rest : List ℕ) (j : Kind) → h.word ++ h.rest ≡ w ++ rest → one_of_kinds (signs_of y.kind) j ≡ true → is_escaped j w ≡ false → IsLexeme division y.from w rest j → SignThere text s y
 of_sign {text} {s} {y} h plain w rest j e i n l = record {
   lexeme = record { kind = j; from = y.from; to = y.from + width w; newline = y.newline; escaped = false; units = units_of j w };
   stands = record {
@@ -158,7 +158,7 @@ of_sign {text} {s} {y} h plain w rest j e i n l = record {
 }
 
 -- a regular expression: one of the two slashes
-slash_there : {text : List ℕ} {s : ℕ} {y : Lexeme} → StandsBehind all_faults text s y → y.kind ≡ RegExp → SignThere text s y
+slash_there : {text : List ℕ} {s : ℕ} {y : Lexeme} → NextLexeme all_faults text s y → y.kind ≡ RegExp → SignThere text s y
 unfolding words
 slash_there {text} {s} {y} h k = go (o.second == 61) refl
   where
@@ -194,14 +194,14 @@ no_escape k w t = first_or (λ (v : Kind). is_escaped v w ≡ false) TemplateMid
 tail_signs : (k : Kind) → one_of_kinds template_tails k ≡ true → one_of_kinds (signs_of k) RCurly ≡ true
 tail_signs k t = first_or (λ (v : Kind). one_of_kinds (signs_of v) RCurly ≡ true) TemplateMiddle k _ _ refl t refl (λ t. first_or (λ (v : Kind). one_of_kinds (signs_of v) RCurly ≡ true) TemplateTail k _ _ refl t refl (λ t. absurd (false≢true t)))
 
-brace_there : {text : List ℕ} {s : ℕ} {y : Lexeme} → StandsBehind all_faults text s y → one_of_kinds template_tails y.kind ≡ true → SignThere text s y
+brace_there : {text : List ℕ} {s : ℕ} {y : Lexeme} → NextLexeme all_faults text s y → one_of_kinds template_tails y.kind ≡ true → SignThere text s y
 unfolding words
 brace_there {y = y} h t =
     let o = opens_brace h.word y.kind (subst (λ (g : LexicalGoal). kind_in g h.word h.rest ≡ Some y.kind) (tail_goal h t) h.lexeme.kind) in
     of_sign h (h.escaped ∙ no_escape y.kind h.word t) (125 ∷ []) (o.0 ++ h.rest) RCurly (ap (λ (w : List ℕ). w ++ h.rest) o.1) (tail_signs y.kind t) refl (brace_longest y.from (o.0 ++ h.rest))
 
 -- whichever of them
-pub sign_there : {text : List ℕ} {s : ℕ} {y : Lexeme} → StandsBehind all_faults text s y → one_of_kinds other_goals y.kind ≡ true → SignThere text s y
+pub sign_there : {text : List ℕ} {s : ℕ} {y : Lexeme} → NextLexeme all_faults text s y → one_of_kinds other_goals y.kind ≡ true → SignThere text s y
 sign_there {text} {s} {y} h o = go (same_kind RegExp y.kind) refl o
   where
     go : (b : Bool) → same_kind RegExp y.kind ≡ b → (b || one_of_kinds template_tails y.kind) ≡ true → SignThere text s y

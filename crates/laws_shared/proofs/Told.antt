@@ -5,11 +5,11 @@ use Rattle.js_base.specs.declared.diagnostic.Diagnostic.{Diagnostic}
 use Rattle.js_base.specs.declared.kind.Kind.{Kind}
 use Rattle.js_base.specs.declared.kind.Kind.TheVariants.{RAngle}
 use Rattle.js_base.specs.Kinds.{same_kind, one_of_kinds}
-use Rattle.js_grammar.specs.Lexed.{Lex as StandsBehind, all_faults}
+use Rattle.js_grammar.specs.Lexed.{NextLexeme, all_faults}
 use Rattle.js_grammar.specs.Marks.{LexemeAt, a_lexeme, of_kinds}
 use Rattle.js_grammar.specs.Productions.{Flags}
 use Rattle.js_grammar.proofs.Looks.{same_self}
-use Rattle.js_cursor.specs.Moves.{Keeps as KeepsOne, is_last}
+use Rattle.js_cursor.specs.Moves.{KeepsDiagnostic, is_last}
 use Rattle.js_cursor.specs.Parsers.{Parser}
 use Rattle.js_cursor.specs.Places.{IsAt, goal}
 use Rattle.js_cursor.proofs.Later.{keeps_follows}
@@ -27,7 +27,7 @@ beside_errors {text} {f} {p} {ds} a i = record { text_is = a.text_is; flags_are 
     plain_of (sign c k x) = sign c k x
     plain_of (none_stands c k n) = none_stands c k n
 
-module _ {d : Diagnostic} {p r : Parser} (k : KeepsOne d p r) where
+module _ {d : Diagnostic} {p r : Parser} (k : KeepsDiagnostic d p r) where
   pub told_at : {text : List ℕ} {f : Flags} → At text f p → At text f r
   told_at {text} {f} a = subst (λ (z : Parser). At text f z) (sym k.is) (beside_errors a (subst IsAt k.is k.at))
 
@@ -40,7 +40,7 @@ lexeme_marked {p = p} {k} a h r l =
     let y = found a (uncut a (ap (same_kind RAngle) h.0 ∙ r)) (ap is_last h.0 ∙ l) in
     record {
       lexeme = y.0;
-      of_text = a_lexeme a.at.reached (subst (λ (t : List ℕ). StandsBehind all_faults t p.prev_token_end y.0) (sym a.text_is) y.1);
+      of_text = a_lexeme a.at.reached (subst (λ (t : List ℕ). NextLexeme all_faults t p.prev_token_end y.0) (sym a.text_is) y.1);
       is = (sym y.2.start, sym y.2.end);
       passes = and_from (one_of_kinds (k ∷ []) y.0.kind) (not y.0.escaped) (subst (λ (v : Kind). one_of_kinds (k ∷ []) v ≡ true) (sym (sym y.2.kind ∙ h.0)) (or_left (same_kind k k) false (same_self k))) (ap not (sym y.2.escaped ∙ h.1));
     }

@@ -6,7 +6,7 @@ use Rattle.js_base.specs.declared.kind.Kind.TheVariants.{Ident, Yield, Await, Re
 use Rattle.js_base.specs.Kinds.{same_kind, one_of_kinds}
 use Rattle.js_base.specs.KindSets.{binding_identifier_kinds}
 use Rattle.js_grammar.specs.Grammar.{Lexeme, Lexemes, next}
-use Rattle.js_grammar.specs.Lexed.{Lex as StandsBehind, Lexes, all_faults}
+use Rattle.js_grammar.specs.Lexed.{NextLexeme, Lexes, all_faults}
 use Rattle.js_grammar.specs.Lexemes.{LexicalGoal, division, regular_expression, template_tail}
 pub use Rattle.js_grammar.specs.ReadLexemes.{unread_kinds, is_read_kind, is_read, Faultless}
 use Rattle.js_grammar.specs.Settings.{Goal}
@@ -60,14 +60,14 @@ keyword_kind t = cond t.escaped Ident t.kind
 
 -- y may be the next lexeme behind the place s, and is one of those
 abbrev pub Lex : List ℕ → ℕ → Lexeme → Type 0
-Lex text s y = StandsBehind all_faults text s y × IsTrue (is_read y)
+Lex text s y = NextLexeme all_faults text s y × IsTrue (is_read y)
 
 -- It is read by the plain lexical goal.
 abbrev pub is_plain : Lexeme → Bool
 is_plain y = is_read y && not (one_of_kinds other_goals y.kind)
 
 abbrev pub Plain : List ℕ → ℕ → Lexeme → Type 0
-Plain text s y = StandsBehind all_faults text s y × IsTrue (is_plain y)
+Plain text s y = NextLexeme all_faults text s y × IsTrue (is_plain y)
 
 -- the lexeme of the plain lexical goal that stands there has no fault
 abbrev pub IsRight : Goal → List ℕ → ℕ → Type 0
@@ -80,7 +80,7 @@ pub record KeptFor (source : Goal) (text : List ℕ) (place : ℕ) (faults : Lis
 
 -- These comments and this white space were kept for the place: those of the trivia before the lexeme that stands there.
 abbrev pub TriviaKept : List ℕ → ℕ → List Comment → List Span → Type 0
-TriviaKept text place comments blanks = (y : Lexeme) (l : StandsBehind all_faults text place y) → (comments ≡ each_at (comment_at y.from) place l.trivia) × (blanks ≡ each_at irregular_at place l.trivia)
+TriviaKept text place comments blanks = (y : Lexeme) (l : NextLexeme all_faults text place y) → (comments ≡ each_at (comment_at y.from) place l.trivia) × (blanks ≡ each_at irregular_at place l.trivia)
 
 -- The tokens that a lexer kept before the current one.
 abbrev pub kept_before : State → Token → List Token
@@ -122,7 +122,7 @@ onward s x n = record {
 
 -- The lexeme stands there, by whichever lexical goal, the token tells it, and the rest is what is kept for what stands behind it.
 pub record IsNew (text : List ℕ) (s : Spot) (x : Lexeme) (n : News) : Type 0 where
-  pub stood : StandsBehind all_faults text s.place x
+  pub stood : NextLexeme all_faults text s.place x
   pub tells : Tells x n.token
   pub counts : is_kept n.token.kind ≡ true
   pub faults : KeptFor s.source text x.to n.faults

@@ -1,7 +1,7 @@
 -- One lexeme on, the operator that stands at a place, and a node made there.
 use Rattle.std.specs.Prelude.{ℕ, ◌≡◌, ◌<◌, ◌⊎◌, Bool, false, cond, List, [], ◌∷◌, Option, chars}
 use Rattle.js_grammar.specs.Grammar.{Lexeme}
-use Rattle.js_grammar.specs.Lexed.{Lex as StandsBehind, all_faults}
+use Rattle.js_grammar.specs.Lexed.{NextLexeme, all_faults}
 use Rattle.js_grammar.specs.Productions.{Flags}
 use Rattle.js_base.specs.declared.kind.Kind.{Kind}
 use Rattle.js_base.specs.declared.kind.Kind.TheVariants.{Amp2, Pipe2, RAngle}
@@ -44,7 +44,7 @@ pub record Moved (text : List ℕ) (f : Flags) (old new : Parser) : Type 0 where
   pub nodes : new.nodes ≡ old.nodes
   pub kept : new.errors ≡ old.errors
   pub lexeme : Lexeme
-  pub stood : StandsBehind all_faults text old.prev_token_end lexeme
+  pub stood : NextLexeme all_faults text old.prev_token_end lexeme
   pub plain : one_of_kinds other_goals lexeme.kind ≡ false
   pub tells : Tells lexeme old.token
   pub ends : lexeme.to ≡ new.prev_token_end

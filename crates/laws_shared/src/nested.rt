@@ -22,7 +22,7 @@ pub enum MethodForm {
 
 /// What is to be read where a production nests.
 #[derive(Clone, Copy)]
-pub enum Goal {
+pub enum Nonterminal {
     /// An Expression.
     Expression,
     /// An AssignmentExpression.
@@ -47,7 +47,7 @@ pub enum Goal {
     MethodParameters(MethodForm),
 }
 
-impl Goal {
+impl Nonterminal {
     /// How many levels of depth it takes: what stands between brackets is read through all levels of operators again, and
     /// takes four times the stack of the others and more. So does a function's body, which stands in an operand. What stands
     /// in other braces takes twice as much as they do.
@@ -55,13 +55,16 @@ impl Goal {
         ensures { result ≡ levels_of self }
     {
         match self {
-            Goal::Expression | Goal::Element | Goal::Binding | Goal::Body => 4,
-            Goal::ListItem | Goal::MethodParameters(_) => 2,
-            Goal::Assignment
-            | Goal::Unary
-            | Goal::Exponentiation
-            | Goal::Statement
-            | Goal::Params => 1,
+            Nonterminal::Expression
+            | Nonterminal::Element
+            | Nonterminal::Binding
+            | Nonterminal::Body => 4,
+            Nonterminal::ListItem | Nonterminal::MethodParameters(_) => 2,
+            Nonterminal::Assignment
+            | Nonterminal::Unary
+            | Nonterminal::Exponentiation
+            | Nonterminal::Statement
+            | Nonterminal::Params => 1,
         }
     }
 }
@@ -70,62 +73,62 @@ impl Goal {
 /// recurses.
 pub trait Nested<C: ParserConfig> {
     ghost use Rattle.js_cursor.specs.Parsers.{Parser};
-    ghost use Rattle.laws_shared.specs.declared.nested.Goal.{Goal};
+    ghost use Rattle.laws_shared.specs.declared.nested.Nonterminal.{Nonterminal};
 
-    ghost can: { Self → Parser → Goal → Type 0 };
+    ghost can: { Self → Parser → Nonterminal → Type 0 };
 
     /// An Expression (ECMA-262, section 13.16).
     fn expression(&self, p: &mut ParserImpl<'_, C>) -> Result<NodeId, Stop>
-        requires { can self.now p.old Goal.Expression }
+        requires { can self.now p.old Nonterminal.Expression }
         ensures { Answers (at Expression) p.old p.new result };
 
     /// An AssignmentExpression (ECMA-262, section 13.15).
     fn assignment(&self, p: &mut ParserImpl<'_, C>) -> Result<NodeId, Stop>
-        requires { can self.now p.old Goal.Assignment }
+        requires { can self.now p.old Nonterminal.Assignment }
         ensures { Answers (at Assignment) p.old p.new result };
 
     /// An AssignmentExpression between brackets: an argument, an element, the consequent of a conditional expression.
     fn element(&self, p: &mut ParserImpl<'_, C>) -> Result<NodeId, Stop>
-        requires { can self.now p.old Goal.Element }
+        requires { can self.now p.old Nonterminal.Element }
         ensures { Answers (at Assignment) p.old p.new result };
 
     /// A UnaryExpression (ECMA-262, section 13.5).
     fn unary(&self, p: &mut ParserImpl<'_, C>) -> Result<NodeId, Stop>
-        requires { can self.now p.old Goal.Unary }
+        requires { can self.now p.old Nonterminal.Unary }
         ensures { Answers (at Unary) p.old p.new result };
 
     /// An ExponentiationExpression (ECMA-262, section 13.6).
     fn exponentiation(&self, p: &mut ParserImpl<'_, C>) -> Result<NodeId, Stop>
-        requires { can self.now p.old Goal.Exponentiation }
+        requires { can self.now p.old Nonterminal.Exponentiation }
         ensures { Answers (at Exponent) p.old p.new result };
 
     /// A BindingIdentifier or a BindingPattern (ECMA-262, section 14.3.3).
     fn binding(&self, p: &mut ParserImpl<'_, C>) -> Result<NodeId, Stop>
-        requires { can self.now p.old Goal.Binding }
+        requires { can self.now p.old Nonterminal.Binding }
         ensures { Answers (at Binding) p.old p.new result };
 
     /// A Statement that is the body of another one (ECMA-262, chapter 14).
     fn statement(&self, p: &mut ParserImpl<'_, C>) -> Result<NodeId, Stop>
-        requires { can self.now p.old Goal.Statement }
+        requires { can self.now p.old Nonterminal.Statement }
         ensures { TakesStatement (at Sub) p.old p.new result };
 
     /// A StatementListItem (ECMA-262, section 14.2).
     fn list_item(&self, p: &mut ParserImpl<'_, C>) -> Result<NodeId, Stop>
-        requires { can self.now p.old Goal.ListItem }
+        requires { can self.now p.old Nonterminal.ListItem }
         ensures { TakesStatement (at ListItem) p.old p.new result };
 
     /// A FunctionBody in its braces (ECMA-262, section 15.2).
     fn body(&self, p: &mut ParserImpl<'_, C>) -> Result<NodeId, Stop>
-        requires { can self.now p.old Goal.Body }
+        requires { can self.now p.old Nonterminal.Body }
         ensures { Answers (at Body) p.old p.new result };
 
     /// FormalParameters in their parentheses (ECMA-262, section 15.1).
     fn parameters(&self, p: &mut ParserImpl<'_, C>) -> Result<NodeId, Stop>
-        requires { can self.now p.old Goal.Params }
+        requires { can self.now p.old Nonterminal.Params }
         ensures { Answers (at Params) p.old p.new result };
 
     /// The parameters of a method in their parentheses (ECMA-262, section 15.4).
     fn method_parameters(&self, p: &mut ParserImpl<'_, C>, form: MethodForm) -> Result<NodeId, Stop>
-        requires { can self.now p.old (Goal.MethodParameters form) }
+        requires { can self.now p.old (Nonterminal.MethodParameters form) }
         ensures { ReadsWhole (parameters_of form) p.old p.new result };
 }

@@ -33,7 +33,7 @@ use Rattle.laws_shared.specs.js_tree.Labels.{declaration_kind}
 use Rattle.laws_shared.specs.js_tree.Nodes.{Node}
 use Rattle.laws_shared.specs.js_tree.Holding.{Holds, HoldsAll, Keeps}
 use Rattle.laws_shared.proofs.js_tree.HoldingLemmas.{HoldsAll-one, Keeps-made, Keeps-trans}
-use Rattle.laws_shared.specs.js_cursor.Moves.{Keeps as KeepsOne}
+use Rattle.laws_shared.specs.js_cursor.Moves.{KeepsDiagnostic}
 use Rattle.laws_shared.specs.js_cursor.Parsers.{Parser}
 use Rattle.laws_shared.specs.js_cursor.Places.{goal}
 use Rattle.laws_shared.specs.js_cursor.declared.stop.Stop.{Stop}
@@ -247,7 +247,7 @@ module _ {text : List ℕ} {f : Flags} (is_await : Bool) {p : Parser} (a : At te
       })
 
   -- that none is derived was told
-  told_read : {q r : Parser} {us : Slots} {l : Label} {pass : Lexemes → Lexemes} {d : Diagnostic} → At text f q → Same p q → p.token.span.start < q.prev_token_end → Walked text (spot p) (spot q) pass → ((ds : List Diagnostic) → Grown q.errors ds → Grown p.errors ds) → ((e : Ending) → NoFirst text is_await e f p.prev_token_end) → IsEarly d → KeepsOne d q r → FirstRead text f is_await p r us l pass
+  told_read : {q r : Parser} {us : Slots} {l : Label} {pass : Lexemes → Lexemes} {d : Diagnostic} → At text f q → Same p q → p.token.span.start < q.prev_token_end → Walked text (spot p) (spot q) pass → ((ds : List Diagnostic) → Grown q.errors ds → Grown p.errors ds) → ((e : Ending) → NoFirst text is_await e f p.prev_token_end) → IsEarly d → KeepsDiagnostic d q r → FirstRead text f is_await p r us l pass
   told_read b s j w g n y u = record {
     at = told_at u b;
     same = same_both s (told_same u y);
@@ -446,7 +446,7 @@ module _ {text : List ℕ} {f : Flags} (is_await : Bool) {p q : Parser} (k : Dec
     list_nones c h n ending.In = n
     list_nones c h n ending.Of = no_of x.not_alone
 
-    list_told : {u : Parser} {d : Diagnostic} (c : Bool) → StandsHere v (through_kind c) true → NoFirst text is_await ending.In f p.prev_token_end → IsEarly d → KeepsOne d v u → FirstRead text f is_await p u y.slots (label_here variable_declaration (of (declaration_kind k)) p v) init_path.pass
+    list_told : {u : Parser} {d : Diagnostic} (c : Bool) → StandsHere v (through_kind c) true → NoFirst text is_await ending.In f p.prev_token_end → IsEarly d → KeepsDiagnostic d v u → FirstRead text f is_await p u y.slots (label_here variable_declaration (of (declaration_kind k)) p v) init_path.pass
     list_told c h n e z = told_read is_await a y.at list_same list_further init_path.walked (λ ds g. list_grown g) (λ d. list_nones c h n d) e z
 
     -- a name with an initialiser isn't derived before `in` where that doesn't stand behind the first one, nor another one
@@ -607,7 +607,7 @@ module _ (k : DeclarationKind) (g : HeadForm) (alone : Bool) (p q : Parser) (b :
       by true e z = absurd (let w : Some d ≡ None = z in cc)
       by false e z = (e, z)
 
-  pub fault_told : (d : DiagnosticKind) (s : Span) → r ≡ Some d → KeepsOne (unrelated_at d s) p q → TellsHead k g alone p q
+  pub fault_told : (d : DiagnosticKind) (s : Span) → r ≡ Some d → KeepsDiagnostic (unrelated_at d s) p q → TellsHead k g alone p q
   fault_told d s e u = let z = fault_is d e in may_not b (through_by p b h i) z.0 (unrelated_at d s) (early_fault d z.1) u
 
   pub no_fault : r ≡ None → q ≡ p → TellsHead k g alone p q

@@ -57,7 +57,7 @@ use Rattle.js_grammar.specs.Grammar.{last, next, is_such}
 use Rattle.js_grammar.specs.Follow.{after}
 use Rattle.js_grammar.specs.Marks.{Mark}
 use Rattle.laws_shared.specs.js_cursor.Moves.{GivesUp, is_last}
-use Rattle.laws_shared.specs.js_cursor.Moves.{Keeps as KeepsOne}
+use Rattle.laws_shared.specs.js_cursor.Moves.{KeepsDiagnostic}
 use Rattle.laws_shared.specs.js_cursor.Places.{IsAt, goal}
 use Rattle.laws_shared.specs.Answers.{unclean}
 use Rattle.laws_shared.specs.Classes.{EndsParse, IsEarly}
@@ -383,7 +383,7 @@ module _ {text : List ℕ} {f : Flags} (is_await : Bool) {p : Parser} (a : At te
           fails ending.Of s = no_of s
 
       -- one before `of` that may not stand there, which was told
-      pub told_first : ThroughHere q true → NoFirst text is_await ending.Of f p.prev_token_end → StandsHere r kind.Of true → {w : Parser} {d : Diagnostic} → KeepsOne d r w → IsEarly d → FirstTaken text f is_await p w (Some target)
+      pub told_first : ThroughHere q true → NoFirst text is_await ending.Of f p.prev_token_end → StandsHere r kind.Of true → {w : Parser} {d : Diagnostic} → KeepsDiagnostic d r w → IsEarly d → FirstTaken text f is_await p w (Some target)
       told_first hq l o {w} {d} u y =
           let nodes : w.nodes ≡ r.nodes = ap (λ (z : Parser). z.nodes) u.is in
           let place : w.prev_token_end ≡ r.prev_token_end = ap (λ (z : Parser). z.prev_token_end) u.is in

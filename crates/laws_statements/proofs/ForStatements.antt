@@ -10,7 +10,7 @@ use Rattle.js_grammar.specs.Conditions.{ends_in_sub, lacks_else}
 use Rattle.js_grammar.specs.Trees.{Span as TreeSpan, Label, Slots, append, end, hole, tree, no_op}
 use Rattle.js_grammar.specs.Grammar.{Lexeme, Lexemes, Look, here, seen, exact, such, nothing, alt, Takes, is_seq, is_lexeme, is_such, is_left, is_right, is_look, is_ahead, is_node, is_nothing, is_empty_slot, ◌▸◌}
 use Rattle.js_grammar.specs.LexicalFaults.{Reached}
-use Rattle.js_grammar.specs.Lexed.{Lex as StandsBehind, all_faults}
+use Rattle.js_grammar.specs.Lexed.{NextLexeme, all_faults}
 use Rattle.js_grammar.specs.Marks.{EdgeOf, Mark, a_lexeme, the_end, the_start}
 use Rattle.js_grammar.specs.Parsing.{Test, plain, full, behind, always, still, Admits, Goes, Fails}
 use Rattle.js_grammar.specs.Productions.{G, Flags, at, await_flag, flag, make, only, parens, slot, tok, Expression, For, ForIn, ForOf, Sub}
@@ -27,7 +27,7 @@ use Rattle.laws_shared.specs.js_tree.Nodes.{Node}
 use Rattle.laws_shared.specs.js_tree.Holding.{HoldsAll, Keeps}
 use Rattle.laws_shared.proofs.js_tree.HoldingLemmas.{HoldsAll-next, Keeps-made, Keeps-trans}
 use Rattle.laws_shared.specs.js_cursor.Moves.{is_last}
-use Rattle.laws_shared.specs.js_cursor.Moves.{Keeps as Tells}
+use Rattle.laws_shared.specs.js_cursor.Moves.{KeepsDiagnostic as Tells}
 use Rattle.laws_shared.specs.js_cursor.Parsers.{Parser}
 use Rattle.laws_shared.specs.js_cursor.Places.{goal}
 use Rattle.laws_shared.specs.js_cursor.declared.stop.Stop.{Stop}
@@ -469,7 +469,7 @@ module _ {text : List ℕ} {f : Flags} {w : Bool} {p q : Parser} (a : At text f 
 pub await_marked : {text : List ℕ} {f : Flags} {p : Parser} → At text f p → StandsHere p kind.Await true → Mark (goal p) p.text (await_at p.token.span)
 await_marked {p = p} a h =
     let y = found a (uncut a (ap (same_kind kind.RAngle) h.0)) (ap is_last h.0) in
-    let o = a_lexeme a.at.reached (subst (λ (t : List ℕ). StandsBehind all_faults t p.prev_token_end y.0) (sym a.text_is) y.1) in
+    let o = a_lexeme a.at.reached (subst (λ (t : List ℕ). NextLexeme all_faults t p.prev_token_end y.0) (sym a.text_is) y.1) in
     record {
       ordered = a.at.lies.ordered;
       within = a.at.lies.ends_whole.0;
@@ -482,7 +482,7 @@ pub ending_marked : {text : List ℕ} {f : Flags} {p r : Parser} {start : ℕ} �
 ending_marked {text} {f} {p} {r} {start} a h s b g e l =
     let y = found a (uncut a (ap (same_kind kind.RAngle) h.0)) (ap is_last h.0) in
     let t : r.text ≡ p.text = s.follows.text in
-    let o = a_lexeme (subst (λ (v : List ℕ). Reached v p.prev_token_end) (sym t) a.at.reached) (subst (λ (v : List ℕ). StandsBehind all_faults v p.prev_token_end y.0) (sym b.text_is) y.1) in
+    let o = a_lexeme (subst (λ (v : List ℕ). Reached v p.prev_token_end) (sym t) a.at.reached) (subst (λ (v : List ℕ). NextLexeme all_faults v p.prev_token_end y.0) (sym b.text_is) y.1) in
     record {
       ordered = omega arith;
       within = b.at.between.0;

@@ -27,7 +27,7 @@ use Rattle.laws_shared.specs.js_tree.Holding.{Holds, Keeps}
 use Rattle.laws_shared.specs.js_tree.Labels.{declaration_kind}
 use Rattle.laws_shared.specs.js_tree.Nodes.{Node}
 use Rattle.laws_shared.specs.js_lex.Reading.{is_right_angle}
-use Rattle.laws_shared.specs.js_cursor.Moves.{Keeps as KeepsOne, Peeks}
+use Rattle.laws_shared.specs.js_cursor.Moves.{KeepsDiagnostic, Peeks}
 use Rattle.laws_shared.specs.js_cursor.Parsers.{Parser}
 use Rattle.laws_shared.specs.js_cursor.declared.stop.Stop.{Stop}
 use Rattle.laws_shared.specs.Answers.{unclean}
@@ -138,12 +138,12 @@ no_lexical_body declared.Let a h = no_let_body a h
 no_lexical_body declared.Var a h = absurd h
 
 -- it is told last, from where it begins to where it ends
-pub lexical_last : {text : List ℕ} {f : Flags} {p w v : Parser} {k : DeclarationKind} {id : NodeId} (s : Span) → Declaration text f k p w id → KeepsOne (unrelated_at LexicalDeclarationSingleStatement s) w v → s.start ≡ p.token.span.start → s.end ≡ w.prev_token_end → TellsLexical p v
+pub lexical_last : {text : List ℕ} {f : Flags} {p w v : Parser} {k : DeclarationKind} {id : NodeId} (s : Span) → Declaration text f k p w id → KeepsDiagnostic (unrelated_at LexicalDeclarationSingleStatement s) w v → s.start ≡ p.token.span.start → s.end ≡ w.prev_token_end → TellsLexical p v
 lexical_last {p = p} {v = v} s x t b e =
     let span : s ≡ record { start = p.token.span.start; end = v.prev_token_end } = span_is s b (e ∙ sym (ap (λ (z : Parser). z.prev_token_end) t.is)) in
     record { before = x.same.follows.later_errors; told = ap (λ (z : Parser). z.errors) t.is ∙ (λ i. x.same.follows.errors i ++ unrelated_at LexicalDeclarationSingleStatement (span i) ∷ []) }
 
-pub lexical_told : {text : List ℕ} {f : Flags} {p w v : Parser} {k : DeclarationKind} {d : Diagnostic} {id : NodeId} → At text f p → BeginsLexical false k p → Declaration text f k p w id → KeepsOne d w v → IsEarly d → Statement text f (at Sub f) p v id
+pub lexical_told : {text : List ℕ} {f : Flags} {p w v : Parser} {k : DeclarationKind} {d : Diagnostic} {id : NodeId} → At text f p → BeginsLexical false k p → Declaration text f k p w id → KeepsDiagnostic d w v → IsEarly d → Statement text f (at Sub f) p v id
 lexical_told {text} {f} {p} {w} {v} {k} {d} {id} a h x t i =
     let nodes : v.nodes ≡ w.nodes = ap (λ (z : Parser). z.nodes) t.is in
     let place : v.prev_token_end ≡ w.prev_token_end = ap (λ (z : Parser). z.prev_token_end) t.is in

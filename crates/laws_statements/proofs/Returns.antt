@@ -12,7 +12,7 @@ use Rattle.js_grammar.specs.Trees.{Slots, end, hole, tree, append, Label, no_op,
 use Rattle.js_grammar.specs.Grammar.{Lexeme, Lexemes, Look, here, seen, ended, semicolon, empty_slot, nothing, such, when, Takes, is_seq, is_lexeme, is_look, is_such, is_left, is_right, is_empty_slot, ◌▸◌}
 use Rattle.js_grammar.specs.Insertion.{after_word, edge, goes_on, by_edge}
 use Rattle.js_grammar.specs.Marks.{Mark, a_lexeme, the_start, the_end}
-use Rattle.js_grammar.specs.Lexed.{Lex as StandsBehind, Lexes, all_faults}
+use Rattle.js_grammar.specs.Lexed.{NextLexeme, Lexes, all_faults}
 use Rattle.js_grammar.specs.Parsing.{Test, plain, full, always, still, Admits, Goes, Fails}
 use Rattle.js_grammar.specs.Productions.{G, Flags, at, tok, slot, no_newline, Expression, Return}
 use Rattle.js_grammar.specs.Productions.{Statement as AStatement}
@@ -292,7 +292,7 @@ module _ {text : List ℕ} {f : Flags} {p q : Parser} (a : At text f p) (h : Sta
 word_marked : {text : List ℕ} {f : Flags} {p : Parser} (s : Span) → At text f p → StandsHere p kind.Return true → s ≡ p.token.span → Mark (goal p) p.text (stray_return s)
 word_marked {text} {f} {p} s a h e =
     let y = found a (uncut a (ap (same_kind kind.RAngle) h.0)) (ap is_last h.0) in
-    let o = a_lexeme a.at.reached (subst (λ (t : List ℕ). StandsBehind all_faults t p.prev_token_end y.0) (sym a.text_is) y.1) in
+    let o = a_lexeme a.at.reached (subst (λ (t : List ℕ). NextLexeme all_faults t p.prev_token_end y.0) (sym a.text_is) y.1) in
     let m : Mark (goal p) p.text (stray_return p.token.span) = record {
       ordered = a.at.lies.ordered;
       within = a.at.lies.ends_whole.0;

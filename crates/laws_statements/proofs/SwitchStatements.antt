@@ -36,7 +36,7 @@ use Rattle.laws_shared.specs.js_tree.declared.op.Op.TheVariants as op
 use Rattle.laws_shared.specs.js_tree.Nodes.{Node}
 use Rattle.laws_shared.specs.js_tree.Holding.{Holds, HoldsAll, Keeps}
 use Rattle.laws_shared.proofs.js_tree.HoldingLemmas.{Holds-kept, HoldsAll-append, HoldsAll-kept, HoldsAll-one, HoldsAll-one_hole, Keeps-made, Keeps-refl, Keeps-trans}
-use Rattle.laws_shared.specs.js_cursor.Moves.{Expects, GivesUp, IsKind, Keeps as KeepsOne, OnlyMemory, is_last}
+use Rattle.laws_shared.specs.js_cursor.Moves.{Expects, GivesUp, IsKind, KeepsDiagnostic, OnlyMemory, is_last}
 use Rattle.laws_shared.specs.js_cursor.Moves.{at_lexeme}
 use Rattle.laws_shared.specs.js_cursor.Parsers.{Parser}
 use Rattle.laws_shared.specs.js_cursor.Places.{IsAt, goal}
@@ -346,7 +346,7 @@ module _ {text : List ℕ} {f : Flags} {p : Parser} (a : At text f p) where
     }
 
     -- a second DefaultClause, which was told
-    second_taken : {g : G} {r : Parser} {s t : Span} → Begins true p → KeepsOne (second_default s t) q r → OneTaken text f list.Block (cases f) g p r id
+    second_taken : {g : G} {r : Parser} {s t : Span} → Begins true p → KeepsDiagnostic (second_default s t) q r → OneTaken text f list.Block (cases f) g p r id
     second_taken {g} {r} h k = record {
       at = told_at k c.at;
       same = same_both c.same (told_same k refl);

@@ -34,7 +34,7 @@ use Rattle.js_grammar.specs.LexicalFaults.{Reached}
 use Rattle.js_grammar.specs.Marks.{EdgeOf, Mark}
 use Rattle.laws_shared.specs.js_lex.Reading.{is_right_angle}
 use Rattle.laws_shared.specs.Told.{unrelated_at}
-use Rattle.laws_shared.specs.js_cursor.Moves.{IsKind, Keeps as KeepsOne, OnlyMemory}
+use Rattle.laws_shared.specs.js_cursor.Moves.{IsKind, KeepsDiagnostic, OnlyMemory}
 use Rattle.laws_shared.specs.js_cursor.Parsers.{Parser}
 use Rattle.laws_shared.specs.js_cursor.declared.stop.Stop.{Stop}
 use Rattle.laws_shared.specs.js_cursor.declared.stop.Stop.TheVariants.{Fatal, NoMemory}
@@ -383,7 +383,7 @@ module _ {text : List ℕ} {f : Flags} {p : Parser} (a : At text f p) where
         }
 
     -- neither stands here, which was told
-    pub missing_told : {q : Parser} {d : Diagnostic} → StandsHere p kind.Finally false → KeepsOne d p q → IsEarly d → ClausesTaken text f p q None None
+    pub missing_told : {q : Parser} {d : Diagnostic} → StandsHere p kind.Finally false → KeepsDiagnostic d p q → IsEarly d → ClausesTaken text f p q None None
     missing_told {q} {d} m t y =
         let o : q.nodes ≡ p.nodes = ap (λ (z : Parser). z.nodes) t.is in
         record {
@@ -424,8 +424,8 @@ missing_state p q r None (Some last) h x y = absurd (false≢true h)
 missing_state p q r (Some id) None h x y = absurd (false≢true h)
 missing_state p q r (Some id) (Some last) h x y = absurd (false≢true h)
 
-pub clauses_missing : {text : List ℕ} {f : Flags} {p : Parser} (q r : Parser) {w : Parser} {d : Diagnostic} → At text f p → (handler finalizer : Option NodeId) → neither handler finalizer ≡ true → TakesPart kind.Catch (symbol ACatch) p q (Ok handler) → TakesPart kind.Finally finally_of q r (Ok finalizer) → KeepsOne d r w → IsEarly d → ClausesTaken text f p w handler finalizer
-clauses_missing q r {w = w} {d = d} a None None h (n, i) (m, j) t y = missing_told a n (subst (λ (v : Parser). StandsHere v kind.Finally false) i m) (subst (λ (v : Parser). KeepsOne d v w) (j ∙ i) t) y
+pub clauses_missing : {text : List ℕ} {f : Flags} {p : Parser} (q r : Parser) {w : Parser} {d : Diagnostic} → At text f p → (handler finalizer : Option NodeId) → neither handler finalizer ≡ true → TakesPart kind.Catch (symbol ACatch) p q (Ok handler) → TakesPart kind.Finally finally_of q r (Ok finalizer) → KeepsDiagnostic d r w → IsEarly d → ClausesTaken text f p w handler finalizer
+clauses_missing q r {w = w} {d = d} a None None h (n, i) (m, j) t y = missing_told a n (subst (λ (v : Parser). StandsHere v kind.Finally false) i m) (subst (λ (v : Parser). KeepsDiagnostic d v w) (j ∙ i) t) y
 clauses_missing q r a None (Some last) h x y t e = absurd (false≢true h)
 clauses_missing q r a (Some id) None h x y t e = absurd (false≢true h)
 clauses_missing q r a (Some id) (Some last) h x y t e = absurd (false≢true h)

@@ -15,7 +15,7 @@ use Rattle.js_grammar.specs.Grammar.{Lexeme, Lexemes, Look, here, seen, may_omit
 use Rattle.js_grammar.specs.Conditions.{ends_in_sub}
 use Rattle.js_grammar.specs.Insertion.{after_word, edge, goes_on, by_edge}
 use Rattle.js_grammar.specs.Marks.{Mark, a_lexeme, the_start, the_end}
-use Rattle.js_grammar.specs.Lexed.{Lex as StandsBehind, all_faults}
+use Rattle.js_grammar.specs.Lexed.{NextLexeme, all_faults}
 use Rattle.js_grammar.specs.Parsing.{Test, plain, full, always, still, Admits, Goes, Fails}
 use Rattle.js_grammar.specs.Productions.{G, Flags, Name, at, tok, mk, slot, no_newline, Break, Continue, Debugger, Expression, LabelIdentifier, Throw}
 use Rattle.js_grammar.specs.Productions.{Statement as AStatement}
@@ -432,7 +432,7 @@ module _ {text : List ℕ} {f : Flags} {p q r : Parser} {word : Span} (a : At te
 word_marked : {text : List ℕ} {f : Flags} {p : Parser} (s : Span) → At text f p → StandsHere p kind.Throw true → s ≡ p.token.span → Mark (goal p) p.text (late_operand s)
 word_marked {text} {f} {p} s a h e =
     let y = found a (uncut a (ap (same_kind kind.RAngle) h.0)) (ap is_last h.0) in
-    let o = a_lexeme a.at.reached (subst (λ (t : List ℕ). StandsBehind all_faults t p.prev_token_end y.0) (sym a.text_is) y.1) in
+    let o = a_lexeme a.at.reached (subst (λ (t : List ℕ). NextLexeme all_faults t p.prev_token_end y.0) (sym a.text_is) y.1) in
     let m : Mark (goal p) p.text (late_operand p.token.span) = record {
       ordered = a.at.lies.ordered;
       within = a.at.lies.ends_whole.0;

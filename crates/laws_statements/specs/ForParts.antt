@@ -16,7 +16,7 @@ use Rattle.laws_shared.specs.js_tree.declared.id.NodeId.{NodeId}
 use Rattle.laws_shared.specs.js_tree.declared.op.DeclarationKind.{DeclarationKind}
 use Rattle.laws_shared.specs.js_tree.declared.op.DeclarationKind.TheVariants as declared
 use Rattle.laws_shared.specs.js_tree.Holding.{Holds, Keeps}
-use Rattle.laws_shared.specs.js_cursor.Moves.{Keeps as KeepsOne}
+use Rattle.laws_shared.specs.js_cursor.Moves.{KeepsDiagnostic}
 use Rattle.laws_shared.specs.js_cursor.Parsers.{Parser}
 use Rattle.laws_shared.specs.js_cursor.declared.stop.Stop.{Stop}
 use Rattle.laws_shared.specs.Answers.{Numbered, Stops}
@@ -84,13 +84,13 @@ through_kind false = kind.Of
 pub data TellsHead (k : DeclarationKind) (g : HeadForm) (alone : Bool) (p q : Parser) : Type 0 where
   none_stands : ThroughHere p false → q ≡ p → TellsHead k g alone p q
   may_be : (b : Bool) → StandsHere p (through_kind b) true → may_stand k g alone b ≡ true → q ≡ p → TellsHead k g alone p q
-  may_not : (b : Bool) → StandsHere p (through_kind b) true → may_stand k g alone b ≡ false → (d : Diagnostic) → IsEarly d → KeepsOne d p q → TellsHead k g alone p q
+  may_not : (b : Bool) → StandsHere p (through_kind b) true → may_stand k g alone b ≡ false → (d : Diagnostic) → IsEarly d → KeepsDiagnostic d p q → TellsHead k g alone p q
 
 -- ---- the target that an expression stands for
 
 -- `let` before `of` was told; or it doesn't stand so
 abbrev pub ChecksLet : Bool → Span → Parser → Parser → Type 0
-ChecksLet is_let s p q = ((is_let ≡ true) × StandsHere p kind.Of true × KeepsOne (unrelated_at fault.ForLoopLetReservedWord s) p q) ⊎ ((is_let ≡ true → StandsHere p kind.Of true → ⊥) × (q ≡ p))
+ChecksLet is_let s p q = ((is_let ≡ true) × StandsHere p kind.Of true × KeepsDiagnostic (unrelated_at fault.ForLoopLetReservedWord s) p q) ⊎ ((is_let ≡ true → StandsHere p kind.Of true → ⊥) × (q ≡ p))
 
 -- The token that was passed last is this one, `async` without an escape.
 abbrev pub IsAsyncAlone : Token → Parser → Type 0
@@ -98,7 +98,7 @@ IsAsyncAlone first p = (first.kind ≡ kind.Async) × (first.escaped ≡ false) 
 
 -- `async` alone before `of` was told, where no `await` stands before the head; or it doesn't stand so
 abbrev pub ChecksAsync : Bool → Token → Parser → Parser → Type 0
-ChecksAsync w first p q = ((w ≡ false) × IsAsyncAlone first p × StandsHere p kind.Of true × KeepsOne (unrelated_at fault.ForLoopAsyncOf first.span) p q) ⊎ ((w ≡ false → IsAsyncAlone first p → StandsHere p kind.Of true → ⊥) × (q ≡ p))
+ChecksAsync w first p q = ((w ≡ false) × IsAsyncAlone first p × StandsHere p kind.Of true × KeepsDiagnostic (unrelated_at fault.ForLoopAsyncOf first.span) p q) ⊎ ((w ≡ false → IsAsyncAlone first p → StandsHere p kind.Of true → ⊥) × (q ≡ p))
 
 -- An expression was read up to this state, by a call before which so many diagnostics were kept; it begins with `async`, or it needn't. `in` or `of` stands behind it.
 pub record HeadExpressionRead (begins_async : Bool) (start : ℕ) (id : NodeId) (kept : ℕ) (q : Parser) : Type 0 where

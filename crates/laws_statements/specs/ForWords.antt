@@ -9,7 +9,7 @@ use Rattle.js_grammar.specs.Trees.{Label}
 use Rattle.js_grammar.specs.Productions.{await_flag, flag}
 use Rattle.laws_shared.specs.js_tree.declared.kind.NodeKind.{NodeKind}
 use Rattle.laws_shared.specs.js_tree.declared.op.Op.TheVariants as op
-use Rattle.laws_shared.specs.js_cursor.Moves.{Keeps}
+use Rattle.laws_shared.specs.js_cursor.Moves.{KeepsDiagnostic}
 use Rattle.laws_shared.specs.js_cursor.Parsers.{Parser}
 use Rattle.laws_shared.specs.Moves.{Moves, plain_label}
 use Rattle.laws_shared.specs.Stands.{StandsHere}
@@ -26,7 +26,7 @@ no_of_from from to = unrelated_at fault.ForAwait (record { start = from; end = t
 
 -- That was told of `await`; or it is an operator.
 abbrev pub ChecksAwait : Span → Parser → Parser → Type 0
-ChecksAwait word old new = ((reads_await old.ctx ≡ false) × Keeps (await_at word) old new) ⊎ ((reads_await old.ctx ≡ true) × (new ≡ old))
+ChecksAwait word old new = ((reads_await old.ctx ≡ false) × KeepsDiagnostic (await_at word) old new) ⊎ ((reads_await old.ctx ≡ true) × (new ≡ old))
 
 -- `await` was passed, and told where it is no operator; or none stands here.
 abbrev pub PassesAwait : Parser → Parser → Bool → Type 0
@@ -44,7 +44,7 @@ may_end_by w e = not w || is_of e
 
 -- That was told of the head, from where the statement begins on; or it may end so.
 abbrev pub ChecksEnding : Bool → Ending → ℕ → Parser → Parser → Type 0
-ChecksEnding w e start old new = ((may_end_by w e ≡ false) × Keeps (no_of_from start old.prev_token_end) old new) ⊎ ((may_end_by w e ≡ true) × (new ≡ old))
+ChecksEnding w e start old new = ((may_end_by w e ≡ false) × KeepsDiagnostic (no_of_from start old.prev_token_end) old new) ⊎ ((may_end_by w e ≡ true) × (new ≡ old))
 
 -- the label of a `for` statement, with `await` or without
 abbrev pub for_label : NodeKind → Bool → Span → Label

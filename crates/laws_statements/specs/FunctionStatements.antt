@@ -4,7 +4,7 @@ use Rattle.js_base.specs.declared.diagnostic.Diagnostic.{Diagnostic}
 use Rattle.js_base.specs.declared.diagnostic.DiagnosticKind.{DiagnosticKind}
 use Rattle.js_base.specs.declared.diagnostic.DiagnosticKind.TheVariants.{AsyncFunctionDeclaration, GeneratorFunctionDeclaration}
 use Rattle.js_base.specs.declared.span.Span.{Span}
-use Rattle.laws_shared.specs.js_cursor.Moves.{Keeps}
+use Rattle.laws_shared.specs.js_cursor.Moves.{KeepsDiagnostic}
 use Rattle.laws_shared.specs.js_cursor.Parsers.{Parser}
 use Rattle.laws_shared.specs.Told.{unrelated_at}
 
@@ -18,4 +18,4 @@ told_of_body asynchronous head = unrelated_at (fault_of_body asynchronous) head
 
 -- That was told of such a function; or it is none.
 abbrev pub ChecksPlain : Bool → Bool → Span → Parser → Parser → Type 0
-ChecksPlain asynchronous generator head old new = (((asynchronous || generator) ≡ true) × Keeps (told_of_body asynchronous head) old new) ⊎ (((asynchronous || generator) ≡ false) × (new ≡ old))
+ChecksPlain asynchronous generator head old new = (((asynchronous || generator) ≡ true) × KeepsDiagnostic (told_of_body asynchronous head) old new) ⊎ (((asynchronous || generator) ≡ false) × (new ≡ old))

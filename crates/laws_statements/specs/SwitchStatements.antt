@@ -14,7 +14,7 @@ use Rattle.js_grammar.specs.Productions.{Case as ACase}
 use Rattle.js_grammar.specs.Table.{rule}
 use Rattle.laws_shared.specs.js_tree.declared.id.NodeId.{NodeId}
 use Rattle.laws_shared.specs.js_tree.Holding.{Holds, HoldsAll, Keeps}
-use Rattle.laws_shared.specs.js_cursor.Moves.{Keeps as KeepsOne}
+use Rattle.laws_shared.specs.js_cursor.Moves.{KeepsDiagnostic}
 use Rattle.laws_shared.specs.js_cursor.Parsers.{Parser}
 use Rattle.laws_shared.specs.js_cursor.Places.{goal}
 use Rattle.laws_shared.specs.js_cursor.declared.stop.Stop.{Stop}
@@ -119,7 +119,7 @@ Stood _ p = Unit {0}
 abbrev pub Notes : Defaults → Bool → Span → Parser → Parser → Defaults → Type 0
 Notes d false s old new d' = (new ≡ old) × (d' ≡ d)
 Notes Missing true s old new d' = (new ≡ old) × (d' ≡ One s)
-Notes (One r) true s old new d' = KeepsOne (second_default r s) old new × (d' ≡ Several)
+Notes (One r) true s old new d' = KeepsDiagnostic (second_default r s) old new × (d' ≡ Several)
 Notes Several true s old new d' = (new ≡ old) × (d' ≡ Several)
 
 -- that may be told here of a clause at a span

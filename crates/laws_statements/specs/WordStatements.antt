@@ -10,7 +10,7 @@ use Rattle.laws_shared.specs.js_tree.declared.id.NodeId.{NodeId}
 use Rattle.laws_shared.specs.js_tree.declared.kind.NodeKind.{NodeKind}
 use Rattle.laws_shared.specs.js_tree.declared.kind.NodeKind.TheVariants.{BreakStatement, ContinueStatement, LabelIdentifier}
 use Rattle.laws_shared.specs.js_tree.declared.op.Op.TheVariants as op
-use Rattle.laws_shared.specs.js_cursor.Moves.{GivesUp, IsUnexpected, Keeps, MayEnd}
+use Rattle.laws_shared.specs.js_cursor.Moves.{GivesUp, IsUnexpected, KeepsDiagnostic, MayEnd}
 use Rattle.laws_shared.specs.js_cursor.Parsers.{Parser}
 use Rattle.laws_shared.specs.js_cursor.declared.stop.Stop.{Stop}
 use Rattle.laws_shared.specs.js_cursor.declared.stop.Stop.TheVariants.{Fatal, NoMemory}
@@ -37,7 +37,7 @@ late_operand word = unrelated_at IllegalNewline word
 
 -- That was told; or what stands here is on the same line.
 abbrev pub ChecksOperand : Span → Parser → Parser → Type 0
-ChecksOperand word old new = ((old.token.is_on_new_line ≡ true) × Keeps (late_operand word) old new) ⊎ ((old.token.is_on_new_line ≡ false) × (new ≡ old))
+ChecksOperand word old new = ((old.token.is_on_new_line ≡ true) × KeepsDiagnostic (late_operand word) old new) ⊎ ((old.token.is_on_new_line ≡ false) × (new ≡ old))
 
 -- The Expression behind `return`; none, where the statement may end.
 abbrev pub TakesArgument : Parser → Parser → Result (Option NodeId) Stop → Type 0
@@ -51,4 +51,4 @@ stray_return word = unrelated_at ReturnStatementOnlyInFunctionBody word
 
 -- That was told, without the parameter Return; or it may stand here.
 abbrev pub ChecksReturn : Span → Parser → Parser → Type 0
-ChecksReturn word old new = ((has_flag return_flag old.ctx ≡ false) × Keeps (stray_return word) old new) ⊎ ((has_flag return_flag old.ctx ≡ true) × (new ≡ old))
+ChecksReturn word old new = ((has_flag return_flag old.ctx ≡ false) × KeepsDiagnostic (stray_return word) old new) ⊎ ((has_flag return_flag old.ctx ≡ true) × (new ≡ old))

@@ -35,7 +35,7 @@ use Rattle.parse_shared.specs.js_cursor.declared.stop.Stop.{Stop}
 use Rattle.js_base.specs.declared.diagnostic.DiagnosticKind.{DiagnosticKind}
 use Rattle.js_base.specs.declared.diagnostic.DiagnosticClass.TheVariants.{Early}
 use Rattle.js_base.specs.Diagnostics.{class_of}
-use Rattle.parse_shared.specs.js_cursor.Moves.{Keeps as KeepsOne}
+use Rattle.parse_shared.specs.js_cursor.Moves.{KeepsDiagnostic}
 use Rattle.parse_shared.proofs.laws_shared.Escapes.{plain_or_word}
 use Rattle.parse_shared.specs.laws_shared.Answers.{Grown, Verdict, Stretch, Underived, Answer, Numbered, Stops, beside, unclean}
 use Rattle.parse_shared.specs.laws_shared.Lexemes.{Lex, Walked, spot, Plain}
@@ -381,7 +381,7 @@ module _ {text : List ℕ} {f : Flags} {p q : Parser} {binding : NodeId} (a : At
             early true = refl
             early false = refl
 
-            grown_behind_told : {d : Diagnostic} → KeepsOne d q o → Grown p.errors o.errors
+            grown_behind_told : {d : Diagnostic} → KeepsDiagnostic d q o → Grown p.errors o.errors
             grown_behind_told k = grown_behind x.answer.verdict (kept_one k)
 
 -- ---- what is told of an initialiser that is missing
@@ -391,6 +391,6 @@ lacks false c h = inl refl
 lacks true true h = inr refl
 lacks true false h = absurd (false≢true (sym h))
 
-pub told_missing : {E : Type 0} (p q : Parser) (c is_name : Bool) {b : Bool} {s : Span} {k : DiagnosticKind} {d : Diagnostic} (r : Result (Unit {0}) E) → d ≡ unrelated_at k s → k ≡ missing is_name → b ≡ (is_name && not c) → b ≡ false → MatchResult r (λ x. KeepsOne d p q) (λ e. q ≡ p) → IfOk r (λ x. ChecksInitialiser c is_name s p q)
-told_missing p q c is_name {s = s} (Ok x) g h i j t = inr (lacks is_name c (sym i ∙ j), subst (λ (v : Diagnostic). KeepsOne v p q) (g ∙ ap (λ (v : DiagnosticKind). unrelated_at v s) h) t)
+pub told_missing : {E : Type 0} (p q : Parser) (c is_name : Bool) {b : Bool} {s : Span} {k : DiagnosticKind} {d : Diagnostic} (r : Result (Unit {0}) E) → d ≡ unrelated_at k s → k ≡ missing is_name → b ≡ (is_name && not c) → b ≡ false → MatchResult r (λ x. KeepsDiagnostic d p q) (λ e. q ≡ p) → IfOk r (λ x. ChecksInitialiser c is_name s p q)
+told_missing p q c is_name {s = s} (Ok x) g h i j t = inr (lacks is_name c (sym i ∙ j), subst (λ (v : Diagnostic). KeepsDiagnostic v p q) (g ∙ ap (λ (v : DiagnosticKind). unrelated_at v s) h) t)
 told_missing p q c is_name (Err e) g h i j t = tt

@@ -20,7 +20,7 @@ use Rattle.parse_shared.specs.js_tree.declared.kind.NodeKind.TheVariants.{Variab
 use Rattle.parse_shared.specs.js_tree.declared.op.Op.TheVariants as op
 use Rattle.parse_shared.specs.js_tree.Holding.{Holds, HoldsAll, Keeps}
 use Rattle.parse_shared.specs.js_tree.Labels.{declaration_kind}
-use Rattle.parse_shared.specs.js_cursor.Moves.{Keeps as KeepsOne}
+use Rattle.parse_shared.specs.js_cursor.Moves.{KeepsDiagnostic}
 use Rattle.parse_shared.specs.js_cursor.Parsers.{Parser}
 use Rattle.parse_shared.specs.js_cursor.declared.stop.Stop.{Stop}
 use Rattle.parse_shared.specs.laws_shared.Answers.{Verdict, Stops}
@@ -95,7 +95,7 @@ no_initialiser is_name s = unrelated_at (missing is_name) s
 
 -- it may be missing, or that was told
 abbrev pub ChecksInitialiser : Bool → Bool → Span → Parser → Parser → Type 0
-ChecksInitialiser c is_name s p q = ((is_name ≡ true) × (c ≡ false) × (q ≡ p)) ⊎ ((is_name ≡ false) ⊎ (c ≡ true)) × KeepsOne (no_initialiser is_name s) p q
+ChecksInitialiser c is_name s p q = ((is_name ≡ true) × (c ≡ false) × (q ≡ p)) ⊎ ((is_name ≡ false) ⊎ (c ≡ true)) × KeepsDiagnostic (no_initialiser is_name s) p q
 
 -- and a node without an initialiser was made
 pub record EndsDeclarator (c is_name : Bool) (s : Span) (binding : NodeId) (p q : Parser) (id : NodeId) : Type 0 where

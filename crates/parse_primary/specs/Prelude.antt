@@ -11,7 +11,7 @@ pub use Rattle.laws_primary.specs.Objects.{NoProperties, Properties, ReadsAccess
 pub use Rattle.laws_primary.specs.PropertyNames.{NamesComputed, NamesPlainly, NamesProperty}
 pub use Rattle.laws_primary.specs.Spreads.{ReadsSpread}
 pub use Rattle.laws_primary.specs.Templates.{BeginsPart, ReadsTagged, StandingPart, TagsTemplate, TakesPart, TakesTemplate, TellsTemplate, element_label, heads, inside_end, inside_fits, last_parts}
-pub use Rattle.laws_primary.specs.js_cursor.Moves.{Keeps, OnlyMemory, Opened}
+pub use Rattle.laws_primary.specs.js_cursor.Moves.{KeepsDiagnostic, OnlyMemory, Opened}
 pub use Rattle.laws_primary.specs.js_tree.Labels.{number_of}
 pub use Rattle.laws_primary.specs.js_tree.declared.op.PropertyKind.TheVariants.{Init}
 pub use Rattle.laws_primary.specs.laws_shared.Answers.{Answers}

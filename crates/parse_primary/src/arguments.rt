@@ -1,7 +1,7 @@
 //! Arguments (ECMA-262, section 13.3.8).
 
 ghost use Rattle.std.specs.Prelude.{◌≡◌, ◌+◌, true, false, MatchResult, IfOk};
-ghost use Rattle.parse_primary.specs.Prelude.{Arguments, CanNest, Dot3, FindsDue, Keeps, LParen, NoArguments, Opened, ReadsSpread, room, spread_at, Standing, StandsHere, TakesItem};
+ghost use Rattle.parse_primary.specs.Prelude.{Arguments, CanNest, Dot3, FindsDue, KeepsDiagnostic, LParen, NoArguments, Opened, ReadsSpread, room, spread_at, Standing, StandsHere, TakesItem};
 
 use js_base::{Diagnostic, DiagnosticKind, Kind, NoMemory, Span};
 use parse_shared::context::assignment_with_in;
@@ -111,7 +111,7 @@ fn parse_refused_spread<C: ParserConfig, N: Nested<C>>(
 fn tell_spread<C: ParserConfig>(p: &mut ParserImpl<'_, C>) -> Result<(), NoMemory>
     requires at { Standing p.old }
     requires sign { StandsHere p.old Dot3 true }
-    ensures { IfOk result (λ _. Keeps (spread_at p.old.token.span) p.old p.new) }
+    ensures { IfOk result (λ _. KeepsDiagnostic (spread_at p.old.token.span) p.old p.new) }
 {
     p.error(Diagnostic {
         kind: DiagnosticKind::V8IntrinsicSpreadElem,

@@ -21,7 +21,7 @@ use Rattle.parse_shared.proofs.laws_shared.Giving.{gives_up_here}
 use Rattle.parse_shared.proofs.laws_shared.Moving.{beside_nodes, same_both, same_itself, same_with, standing, stops_behind}
 use Rattle.parse_targets.specs.declared.widening.Widening.{Widening}
 use Rattle.parse_targets.specs.Taken.{EachTold, PlacesTold}
-use Rattle.parse_targets.specs.Targets.{Each, Fits, Narrow, Spotted, Noted, unnoted, Converted, converts, refuses, Converts, Refuses, OfNode, OfTarget, Reused, Slotted, Stood, one_node, is_assignment, relabelled}
+use Rattle.parse_targets.specs.Targets.{Each, Fits, Narrow, Spotted, Noted, unnoted, Converted, converts, refuses, Converts, RefusesTarget, OfNode, OfTarget, Reused, Slotted, Stood, one_node, is_assignment, relabelled}
 use Rattle.parse_targets.proofs.ReusedNodes.{below_in, children_of}
 use Rattle.parse_targets.specs.Covered.{Answered, IsAssignment, KeepsInitialiser, an_expression, in_an_element, element_answer, target_answer, Covers, CoversAs, Finishes, Refused, Read, ReadBefore}
 use Rattle.parse_targets.proofs.Laws.{Law}
@@ -82,7 +82,7 @@ nothing_told p = record { at = λ text f a. a; same = same_itself; is = refl; ve
 made_of : {os ns : List Node} {rs : List ℕ} {notes : Noted} {ws : List Widening} {ids : List (Option NodeId)} {r : Option Slots} → Converted os ns rs unnoted notes ws (Some ids) r → Converts os ns rs unnoted notes ws ids r
 made_of (converts x) = x
 
-none_of : {os ns : List Node} {rs : List ℕ} {notes : Noted} {ws : List Widening} {r : Option Slots} → Converted os ns rs unnoted notes ws None r → Refuses os ns unnoted notes ws r
+none_of : {os ns : List Node} {rs : List ℕ} {notes : Noted} {ws : List Widening} {r : Option Slots} → Converted os ns rs unnoted notes ws None r → RefusesTarget os ns unnoted notes ws r
 none_of (refuses x) = x
 
 -- the node was read before

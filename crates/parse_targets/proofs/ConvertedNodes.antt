@@ -18,7 +18,7 @@ use Rattle.parse_shared.specs.js_tree.Nodes.{Node, label, node_at, empty_program
 use Rattle.parse_shared.specs.js_tree.Holding.{Stands, StandsAll, no_slots, next_child, next_hole, AreDistinct, AreWithin, Holds, Keeps}
 use Rattle.parse_shared.proofs.js_tree.HoldingLemmas.{Stands-kept, Stands-within, Keeps-refl, Keeps-trans, Keeps-made, Keeps-longer, AreWithin-wider, StandsAll-wider}
 use Rattle.parse_shared.specs.laws_shared.Moves.{plain_label}
-use Rattle.parse_targets.specs.Targets.{MakesTargets, OfTarget, is_made, Within, in_literal, in_property, within, is_elision, is_spread, is_assignment, operator_places, literal_places, argument_places, property_places, is_object, is_literal, is_target, is_pattern, pattern_kind, target_of, target_in, Stood, Only, relabelled, literal_tree, target_by, slot_of, rest_slot, reference_slot, behind_first, shorthand_slot, named_slot, property_slot, element_slot, followed, before_all, elements_in, places_of, places_in, made_span, Noted, unnoted, Blames, IsIn, Slotted, Converts, Refuses, Converted, converts, refuses, one_slot, one_node, OfNode, Noded}
+use Rattle.parse_targets.specs.Targets.{MakesTargets, OfTarget, is_made, Within, in_literal, in_property, within, is_elision, is_spread, is_assignment, operator_places, literal_places, argument_places, property_places, is_object, is_literal, is_target, is_pattern, pattern_kind, target_of, target_in, Stood, Only, relabelled, literal_tree, target_by, slot_of, rest_slot, reference_slot, behind_first, shorthand_slot, named_slot, property_slot, element_slot, followed, before_all, elements_in, places_of, places_in, made_span, Noted, unnoted, Blames, IsIn, Slotted, Converts, RefusesTarget, Converted, converts, refuses, one_slot, one_node, OfNode, Noded}
 use Rattle.parse_targets.specs.declared.widening.Widening.{Widening}
 use Rattle.parse_targets.specs.declared.widening.Widening.TheVariants.{Rest}
 use Rattle.parse_shared.specs.js_tree.declared.kind.NodeKind.TheVariants as node
@@ -206,13 +206,13 @@ module _ {o : Bool} {os ns : List Node} {id c : NodeId} {noted notes : Noted} {i
     slotted = slotted_on h.keeps v.keeps (distinct_apart h.before child.numbers both_distinct) (within_left 0 (length os) h.before child.numbers both_within) (within_right 0 (length os) h.before child.numbers both_within) h.slotted v.slotted;
   }
 
-  halfway_refused : {ms : List Node} {notes' : Noted} {last : Bool} → last ≡ is_nil more → Refuses ns ms notes notes' (spots_at o child.label child.slots) (element_slot last child.label child.slots (own_of child.label child.slots)) → Refuses os ms noted notes' (places_in (in_literal o) cs) (elements_in (in_literal o) cs)
+  halfway_refused : {ms : List Node} {notes' : Noted} {last : Bool} → last ≡ is_nil more → RefusesTarget ns ms notes notes' (spots_at o child.label child.slots) (element_slot last child.label child.slots (own_of child.label child.slots)) → RefusesTarget os ms noted notes' (places_in (in_literal o) cs) (elements_in (in_literal o) cs)
   halfway_refused {notes' = notes'} n v = record { keeps = Keeps-trans h.keeps v.keeps; lies = λ text w. v.lies text (h.lies text w); made = λ j w. v.made j (h.made j w); is = elements_left ∙ refused_by (elements_in (in_literal o) child.others) refl n v.is; blames = blames_wider noted notes notes' (spots_at o child.label child.slots) (places_in (in_literal o) cs) h.unblamed (λ w i. among_left w (in_left (spots_at o child.label child.slots) (places_in (in_literal o) child.others) w i)) v.blames }
 
 pub made_of : {os ns : List Node} {rs : List ℕ} {noted notes : Noted} {ws : List Widening} {ids : List (Option NodeId)} {r : Option Slots} → Converted os ns rs noted notes ws (Some ids) r → Converts os ns rs noted notes ws ids r
 made_of (converts x) = x
 
-pub refused_of : {os ns : List Node} {rs : List ℕ} {noted notes : Noted} {ws : List Widening} {r : Option Slots} → Converted os ns rs noted notes ws None r → Refuses os ns noted notes ws r
+pub refused_of : {os ns : List Node} {rs : List ℕ} {noted notes : Noted} {ws : List Widening} {r : Option Slots} → Converted os ns rs noted notes ws None r → RefusesTarget os ns noted notes ws r
 refused_of (refuses x) = x
 
 abbrev pub ElementAnswer : Bool → List Node → List Node → NodeId → Bool → Noted → Noted → Option (Option NodeId) → Type 0
@@ -222,7 +222,7 @@ module _ {o : Bool} {os ns : List Node} {id c : NodeId} {noted notes : Noted} {i
   pub loop_next : {ms : List Node} {notes' : Noted} (last : Bool) {slot : Option NodeId} → last ≡ is_nil (drop (at + 1) ids) → ElementAnswer o ns ms c last notes notes' (Some slot) → ElementLoop o os ms id noted notes' ids (js ++ slot ∷ []) (at + 1)
   loop_next last n v = λ l cs rs s d. let h = z l cs rs s d in let x = child s d h q in halfway_next s d h q n refl (made_of (v x.label x.slots x.numbers (child_stands s d h q) (child_distinct s d h q)))
 
-  pub loop_refuses : {ms : List Node} {notes' : Noted} (last : Bool) → last ≡ is_nil (drop (at + 1) ids) → ElementAnswer o ns ms c last notes notes' None → OfNode os id (λ l cs rs. Refuses os ms noted notes' (places_in (in_literal o) cs) (elements_in (in_literal o) cs))
+  pub loop_refuses : {ms : List Node} {notes' : Noted} (last : Bool) → last ≡ is_nil (drop (at + 1) ids) → ElementAnswer o ns ms c last notes notes' None → OfNode os id (λ l cs rs. RefusesTarget os ms noted notes' (places_in (in_literal o) cs) (elements_in (in_literal o) cs))
   loop_refuses last n v = λ l cs rs s d. let h = z l cs rs s d in let x = child s d h q in halfway_refused s d h q n (refused_of (v x.label x.slots x.numbers (child_stands s d h q) (child_distinct s d h q)))
 
   pub child_stood : Stood os id → Stood ns c
@@ -232,7 +232,7 @@ module _ {o : Bool} {os ns : List Node} {id c : NodeId} {noted notes : Noted} {i
   pub child_less : Stood os id → c.0 < id.0
   child_less w = let h = z w.label w.slots (w.holds).numbers (w.holds).stands (w.holds).distinct in (child (w.holds).stands (w.holds).distinct h q).less
 
-pub loop_hole : {o : Bool} {os ns : List Node} {id : NodeId} {noted notes : Noted} {ids js more : List (Option NodeId)} {at : ℕ} → ElementLoop o os ns id noted notes ids js at → drop at ids ≡ None ∷ more → OfNode os id (λ l cs rs. Refuses os ns noted notes (places_in (in_literal o) cs) (elements_in (in_literal o) cs))
+pub loop_hole : {o : Bool} {os ns : List Node} {id : NodeId} {noted notes : Noted} {ids js more : List (Option NodeId)} {at : ℕ} → ElementLoop o os ns id noted notes ids js at → drop at ids ≡ None ∷ more → OfNode os id (λ l cs rs. RefusesTarget os ns noted notes (places_in (in_literal o) cs) (elements_in (in_literal o) cs))
 loop_hole {o} {os} {ns} {id} {ids = ids} {at = at} z q = λ l cs rs s d.
     let h = z l cs rs s d in
     record { keeps = h.keeps; lies = h.lies; made = h.made; is = h.is ∙ ap (λ (r : Option Slots). joined h.done r) (no_child o (subst (λ (xs : List (Option NodeId)). StandsAll os id.0 xs h.left h.behind) q h.stands)); blames = inl h.unblamed }
@@ -752,7 +752,7 @@ elements_keep {id = id} w v =
     let k = Keeps-longer x.keeps in
     (omega arith, node_kept {id = id} x.keeps b)
 
-pub elements_none : {o : Bool} {os ns : List Node} {id : NodeId} {noted notes : Noted} → OfNode os id (λ l cs rs. Refuses os ns noted notes (places_in (in_literal o) cs) (elements_in (in_literal o) cs)) → ElementsAnswer o os ns id noted notes None
+pub elements_none : {o : Bool} {os ns : List Node} {id : NodeId} {noted notes : Noted} → OfNode os id (λ l cs rs. RefusesTarget os ns noted notes (places_in (in_literal o) cs) (elements_in (in_literal o) cs)) → ElementsAnswer o os ns id noted notes None
 elements_none v = λ l cs rs s d. refuses (v l cs rs s d)
 
 pub elements_some : {o : Bool} {os ns : List Node} {id : NodeId} {noted notes : Noted} {ids : List (Option NodeId)} → OfNode os id (λ l cs rs. Converts os ns rs noted notes (places_in (in_literal o) cs) ids (elements_in (in_literal o) cs)) → ElementsAnswer o os ns id noted notes (Some ids)

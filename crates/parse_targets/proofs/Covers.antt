@@ -5,7 +5,7 @@ use Rattle.js_grammar.specs.Trees.{Label, Slots, end, tree, Tree, NodeKind, Op, 
 use Rattle.js_grammar.specs.Grammar.{Lexeme, Lexemes, last, next, here, seen, such, nothing, Takes, is_such, Derives}
 use Rattle.js_grammar.specs.Insertion.{after_expression}
 use Rattle.js_grammar.specs.LexicalFaults.{Reached}
-use Rattle.js_grammar.specs.Lexed.{Lexes, Lex as StandsBehind, all_faults}
+use Rattle.js_grammar.specs.Lexed.{Lexes, NextLexeme, all_faults}
 use Rattle.js_grammar.specs.Marks.{Front, Part, one, more, UnderivedAt}
 use Rattle.js_grammar.specs.Parsing.{Test, Admits, always, Way, Reads, Fails}
 use Rattle.js_grammar.specs.Productions.{Flags, Name, Symbol, at, LeftHandSide, SimpleTarget}
@@ -121,7 +121,7 @@ front (one_more w i r) h ms = front_of w (one refl)
 front (read_again w ds k i) h ms = front_of w (one refl)
 front (more_faults w ds n) h ms = front w h ms
 
-pub all_stand : (text : List ℕ) (s : ℕ) (ls : Lexemes) → Lexes (Lex text) s ls → Lexes (StandsBehind all_faults text) s ls
+pub all_stand : (text : List ℕ) (s : ℕ) (ls : Lexemes) → Lexes (Lex text) s ls → Lexes (NextLexeme all_faults text) s ls
 all_stand text s (last x) l = l.0
 all_stand text s (next x ls) l = (l.0.0, all_stand text x.to ls l.1)
 

@@ -9,7 +9,7 @@ use Rattle.js_grammar.specs.Table.{rule}
 use Rattle.js_grammar.specs.Trees.{Label, Slots, Tree, tree, end, assignment_target_with_default}
 use Rattle.js_grammar.specs.CoverInitialisers.{is_property}
 use Rattle.parse_shared.specs.js_tree.declared.id.NodeId.{NodeId}
-use Rattle.parse_shared.specs.js_tree.Holding.{Holds, Keeps as KeepsNodes}
+use Rattle.parse_shared.specs.js_tree.Holding.{Holds, Keeps}
 use Rattle.parse_shared.specs.js_tree.Nodes.{Node}
 use Rattle.parse_shared.specs.js_cursor.Moves.{GivesUp, IsUnexpected}
 use Rattle.parse_shared.specs.js_cursor.Parsers.{Parser}
@@ -62,7 +62,7 @@ pub record Covers (m : Symbol) {text : List ℕ} {n : Symbol} {from : NodeId} (p
   pub derived : Derives rule m target x.place x.lexemes x.behind x.rest
   pub holds : Holds new.nodes x.lo (length new.nodes) id.0 target.label target.slots
   pub reused : Each (Reused (x.holds).numbers (length old.nodes) (length new.nodes)) holds.numbers
-  pub keeps : KeepsNodes old.nodes new.nodes
+  pub keeps : Keeps old.nodes new.nodes
   pub made : All OfTarget (drop (length old.nodes) new.nodes)
   pub is : new ≡ record old { nodes = new.nodes; errors = new.errors }
   pub at : (text : List ℕ) (f : Flags) → At text f old → At text f new
@@ -78,7 +78,7 @@ NoneCovered m x = (t : Tree) → Derives rule m t x.place x.lexemes x.behind x.r
 pub record Refused (m : Symbol) {text : List ℕ} {n : Symbol} {from : NodeId} (old new : Parser) (x : Read text n old.nodes from) : Type 0 where
   pub none : NoneCovered m x
   pub nodes : List Node
-  pub keeps : KeepsNodes old.nodes nodes
+  pub keeps : Keeps old.nodes nodes
   pub told : GivesUp (IsUnexpected (record old { nodes = nodes })) (record old { nodes = nodes }) new Fatal
   pub stops : Stops old new Fatal (NoneCovered m x)
 

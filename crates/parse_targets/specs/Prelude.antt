@@ -2,7 +2,7 @@
 pub use Rattle.js_grammar.specs.Marks.{Mark}
 pub use Rattle.js_grammar.specs.Productions.{ArrayTarget, ObjectTarget, Primary, Property, SimpleTarget, Target, TargetElement, TargetProperty, at}
 pub use Rattle.js_grammar.specs.Trees.{Label, Slots, assignment_target_with_default, end, tree}
-pub use Rattle.parse_shared.specs.js_cursor.Moves.{GivesUp, Keeps}
+pub use Rattle.parse_shared.specs.js_cursor.Moves.{GivesUp, KeepsDiagnostic}
 pub use Rattle.parse_shared.specs.js_cursor.Places.{IsAt, goal}
 pub use Rattle.parse_shared.specs.js_tree.Holding.{Holds}
 pub use Rattle.parse_shared.specs.js_tree.Labels.{kind_of, label_of, op_of}

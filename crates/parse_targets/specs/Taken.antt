@@ -14,8 +14,8 @@ use Rattle.js_grammar.specs.Table.{rule}
 use Rattle.js_grammar.specs.Marks.{loose}
 use Rattle.js_grammar.specs.Productions.{Flags, Name, at, ArrayTarget, ObjectTarget, Short, Target}
 use Rattle.parse_shared.specs.js_tree.declared.id.NodeId.{NodeId}
-use Rattle.parse_shared.specs.js_tree.Holding.{Holds, Keeps as KeepsNodes}
-use Rattle.parse_shared.specs.js_cursor.Moves.{Keeps}
+use Rattle.parse_shared.specs.js_tree.Holding.{Holds, Keeps}
+use Rattle.parse_shared.specs.js_cursor.Moves.{KeepsDiagnostic}
 use Rattle.parse_shared.specs.laws_shared.Told.{unrelated_at}
 use Rattle.parse_targets.specs.declared.widening.Widening.{Widening}
 use Rattle.parse_targets.specs.declared.widening.Widening.TheVariants.{Rest, RestTarget, Operator}
@@ -42,7 +42,7 @@ not_simple_at from to = record { kind = fault.AssignmentIsNotSimple; span = reco
 
 -- That was told; or there are not so many diagnostics as said, and all stays.
 abbrev pub TellsOnce : Diagnostic → ℕ → Parser → Parser → Type 0
-TellsOnce d kept old new = Keeps d old new ⊎ ((length old.errors ≡ kept → ⊥) × (new ≡ old))
+TellsOnce d kept old new = KeepsDiagnostic d old new ⊎ ((length old.errors ≡ kept → ⊥) × (new ≡ old))
 
 -- What may stand behind a target: an assignment operator, and where `in` is no operator, as in the head of a `for`, `in` or `of` too. By the parameter In.
 abbrev pub behind_target : Bool → Look
@@ -69,7 +69,7 @@ TellsOf (Operator s) d = d ≡ unrelated_at fault.InvalidAssignmentTargetDefault
 
 -- A place was looked at: the literal is narrow there; or it isn't, and that was told.
 abbrev pub PlaceTold : Widening → Parser → Parser → Type 0
-PlaceTold w old new = (Narrow old.text w × (new ≡ old)) ⊎ ((Narrow old.text w → ⊥) × ((d : Diagnostic) × TellsOf w d × Keeps d old new))
+PlaceTold w old new = (Narrow old.text w × (new ≡ old)) ⊎ ((Narrow old.text w → ⊥) × ((d : Diagnostic) × TellsOf w d × KeepsDiagnostic d old new))
 
 -- Of diagnostics: none is told of a place where the literal is narrow, one is where it isn't.
 abbrev pub OneTold : List ℕ → Widening → List Diagnostic → List Diagnostic → Type 0
@@ -117,7 +117,7 @@ pub record TargetTaken (in_object : Bool) (text : List ℕ) (f : Flags) (first o
   pub verdict : Verdict (f.wide ≡ true) first.errors new.errors (Stretch text (plain (behind_target f.in_)) (such (at (target_name in_object) f) always) first.prev_token_end nothing new.prev_token_end (tree label slots) pass) (Fails rule (Lex text) (plain (behind_target f.in_)) no_slots (such (at (target_name in_object) f) always) first.prev_token_end)
   pub loosely : length old.errors ≡ length first.errors → (y : Lexeme) → Lex text new.prev_token_end y → Derives rule (at (target_name in_object) (loose f)) (record { label = label; slots = slots }) first.prev_token_end (pass (last y)) new.prev_token_end (last y)
   pub holds : Holds new.nodes (length first.nodes) (length new.nodes) id.0 label slots
-  pub keeps : KeepsNodes first.nodes new.nodes
+  pub keeps : Keeps first.nodes new.nodes
 
 abbrev pub TargetOutcome : Bool → List ℕ → Flags → Parser → Parser → Parser → Result NodeId Stop → Type 0
 TargetOutcome in_object text f first old new (Ok id) = TargetTaken in_object text f first old new id

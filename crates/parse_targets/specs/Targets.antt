@@ -362,7 +362,7 @@ pub record Converts (os ns : List Node) (rs : List ℕ) (noted notes : Noted) (w
   pub made : MakesTargets os ns
 
 -- It is converted to nothing.
-pub record Refuses (os ns : List Node) (noted notes : Noted) (ws : List Widening) (r : Option Slots) : Type 0 where
+pub record RefusesTarget (os ns : List Node) (noted notes : Noted) (ws : List Widening) (r : Option Slots) : Type 0 where
   pub keeps : Keeps os ns
   pub lies : (text : List ℕ) → NodesLie text os → NodesLie text ns
   pub made : MakesTargets os ns
@@ -371,7 +371,7 @@ pub record Refuses (os ns : List Node) (noted notes : Noted) (ws : List Widening
 
 pub data Converted (os ns : List Node) (rs : List ℕ) (noted notes : Noted) (ws : List Widening) : Option (List (Option NodeId)) → Option Slots → Type 0 where
   converts : {ids : List (Option NodeId)} {r : Option Slots} → Converts os ns rs noted notes ws ids r → Converted os ns rs noted notes ws (Some ids) r
-  refuses : {r : Option Slots} → Refuses os ns noted notes ws r → Converted os ns rs noted notes ws None r
+  refuses : {r : Option Slots} → RefusesTarget os ns noted notes ws r → Converted os ns rs noted notes ws None r
 
 abbrev pub one_slot : Option (Option NodeId) → Option (List (Option NodeId))
 one_slot (Some id) = Some (id ∷ [])

@@ -2,7 +2,7 @@
 
 ghost use Rattle.std.specs.Prelude.{IfOk};
 ghost use Rattle.js_base.specs.declared.diagnostic.DiagnosticKind.TheVariants as fault;
-ghost use Rattle.parse_targets.specs.Prelude.{goal, Keeps, Mark, Standing, unrelated_at};
+ghost use Rattle.parse_targets.specs.Prelude.{goal, KeepsDiagnostic, Mark, Standing, unrelated_at};
 ghost use Rattle.parse_targets.specs.Taken.{PlaceTold, PlacesTold};
 ghost use Rattle.parse_targets.specs.Targets.{Each, Ended, Fits, Spotted};
 ghost use Rattle.parse_targets.specs.declared.widening.Widening.TheVariants as widening;
@@ -48,7 +48,7 @@ fn tell_comma<C: ParserConfig>(p: &mut ParserImpl<'_, C>, rest: Span) -> Result<
 fn tell_operator<C: ParserConfig>(p: &mut ParserImpl<'_, C>, element: Span) -> Result<(), NoMemory>
     requires at { Standing p.old }
     requires mark { Mark (goal p.old) p.old.text (unrelated_at fault.InvalidAssignmentTargetDefaultValueOperator element) }
-    ensures { IfOk result (λ _. Keeps (unrelated_at fault.InvalidAssignmentTargetDefaultValueOperator element) p.old p.new) }
+    ensures { IfOk result (λ _. KeepsDiagnostic (unrelated_at fault.InvalidAssignmentTargetDefaultValueOperator element) p.old p.new) }
 {
     let kind = DiagnosticKind::InvalidAssignmentTargetDefaultValueOperator;
     p.error(diagnostic_at(kind, element))
@@ -61,7 +61,7 @@ fn tell_rest_target<C: ParserConfig>(
 ) -> Result<(), NoMemory>
     requires at { Standing p.old }
     requires mark { Mark (goal p.old) p.old.text (unrelated_at fault.InvalidRestAssignmentTarget argument) }
-    ensures { IfOk result (λ _. Keeps (unrelated_at fault.InvalidRestAssignmentTarget argument) p.old p.new) }
+    ensures { IfOk result (λ _. KeepsDiagnostic (unrelated_at fault.InvalidRestAssignmentTarget argument) p.old p.new) }
 {
     let kind = DiagnosticKind::InvalidRestAssignmentTarget;
     p.error(diagnostic_at(kind, argument))

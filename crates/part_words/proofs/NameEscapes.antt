@@ -14,7 +14,7 @@ use Rattle.js_grammar.specs.LexicalFaults.{behind}
 use Rattle.js_grammar.proofs.CorePlain.{before-nil}
 use Rattle.part_words.specs.declared.name.Escape.{Escape}
 use Rattle.part_words.specs.Places.{Word, Peeks, Finds}
-use Rattle.part_words.specs.Names.{Spells, Refuses, is_refused, Unfinished, IsEscape}
+use Rattle.part_words.specs.Names.{Spells, NoFrontPasses, is_refused, Unfinished, IsEscape}
 use Rattle.part_words.proofs.Places.{then, found}
 use Rattle.part_words.proofs.Names.{backslash-append}
 
@@ -91,7 +91,7 @@ fronts (c ∷ w) rest (d ∷ x) more e =
 
 -- no code points stand where the characters behind w fail
 pub refuses-inside : (test : ℕ → Bool) (w rest : List ℕ) (s : Stage) → Inside w s
-    → ((y more : List ℕ) → rest ≡ y ++ more → read_from in_name s y ≡ None) → Refuses test (w ++ rest)
+    → ((y more : List ℕ) → rest ≡ y ++ more → read_from in_name s y ≡ None) → NoFrontPasses test (w ++ rest)
 refuses-inside test w rest s a f c x more e = ap (is_refused test) (by (fronts w rest (c ∷ x) more e))
   where
     by : ((d : ℕ) × (y : List ℕ) × (w ≡ c ∷ x ++ d ∷ y)) ⊎ ((y : List ℕ) × (c ∷ x ≡ w ++ y) × (rest ≡ y ++ more)) → code_points in_name (c ∷ x) ≡ None
@@ -109,7 +109,7 @@ fails-at s d rest (c ∷ y) more f n e =
     read-step s c y None (subst (λ (a : ℕ). step in_name s a ≡ None) same n)
 
 -- an escape sequence of which the code point is refused
-pub refuses-escape : (test : ℕ → Bool) (w rest : List ℕ) (p : ℕ) → Spells w (p ∷ []) → Unfinished w → test p ≡ false → Refuses test (w ++ rest)
+pub refuses-escape : (test : ℕ → Bool) (w rest : List ℕ) (p : ℕ) → Spells w (p ∷ []) → Unfinished w → test p ≡ false → NoFrontPasses test (w ++ rest)
 refuses-escape test w rest p a u n c x more e = by (fronts w rest (c ∷ x) more e)
   where
     some : (o : Option (List ℕ)) → is_refused test (before_all (p ∷ []) o) ≡ true
@@ -184,13 +184,13 @@ escape-ends {b = b} {p = p} {s = s} a k h = record {
 
 -- whatever a name asks of a code point, no escape sequence stands there
 abbrev NoEscape : List ℕ → ℕ → Type 0
-NoEscape text i = (test : ℕ → Bool) → Refuses test (behind text i)
+NoEscape text i = (test : ℕ → Bool) → NoFrontPasses test (behind text i)
 
 pub escape-cut : {text : List ℕ} {i j : ℕ} {s : Stage} → Begun text i j s → behind text j ≡ [] → NoEscape text i
-escape-cut {text = text} {j = j} {s = s} a e test = subst (λ (v : List ℕ). Refuses test v) (sym a.stands.splits) (refuses-inside test a.word (behind text j) s a.inside (λ y more q. fails-none s (behind text j) y more a.inside.cut e q))
+escape-cut {text = text} {j = j} {s = s} a e test = subst (λ (v : List ℕ). NoFrontPasses test v) (sym a.stands.splits) (refuses-inside test a.word (behind text j) s a.inside (λ y more q. fails-none s (behind text j) y more a.inside.cut e q))
 
 fails-with : {text : List ℕ} {i j c : ℕ} {s : Stage} (rest : List ℕ) → Begun text i j s → behind text j ≡ c ∷ rest → step in_name s c ≡ None → NoEscape text i
-fails-with {text = text} {j = j} {c = c} {s = s} rest a b h test = subst (λ (v : List ℕ). Refuses test v) (sym a.stands.splits) (refuses-inside test a.word (behind text j) s a.inside (λ y more q. fails-at s c rest y more a.inside.cut h (sym b ∙ q)))
+fails-with {text = text} {j = j} {c = c} {s = s} rest a b h test = subst (λ (v : List ℕ). NoFrontPasses test v) (sym a.stands.splits) (refuses-inside test a.word (behind text j) s a.inside (λ y more q. fails-at s c rest y more a.inside.cut h (sym b ∙ q)))
 
 pub escape-fails : {text : List ℕ} {i j b : ℕ} {s : Stage} → Begun text i j s → Peeks text j b → step in_name s b ≡ None → NoEscape text i
 escape-fails {text = text} {j = j} {b = b} {s = s} a p h = elim (cases_lt b 128) [
@@ -206,5 +206,5 @@ escape-unbegun {text = text} {i = i} s f = by (behind text (i + 1)) refl
     by [] e = escape-cut (begun-first text i s) e
     by (c ∷ rest) e = let n : (c == 117) ≡ false = sym (ap (begins (λ d. d == 117)) e) ∙ f in fails-with rest (begun-first text i s) e (grind (arith, nat_tests))
 
-pub escape-refused : {text : List ℕ} {i : ℕ} {e : Escape} (test : ℕ → Bool) → IsEscape text i e → test e.code_point ≡ false → Refuses test (behind text i)
-escape-refused {text = text} {e = e} test a n = subst (λ (v : List ℕ). Refuses test v) (sym a.stands.splits) (refuses-escape test a.word (behind text e.end) e.code_point a.spells a.unfinished n)
+pub escape-refused : {text : List ℕ} {i : ℕ} {e : Escape} (test : ℕ → Bool) → IsEscape text i e → test e.code_point ≡ false → NoFrontPasses test (behind text i)
+escape-refused {text = text} {e = e} test a n = subst (λ (v : List ℕ). NoFrontPasses test v) (sym a.stands.splits) (refuses-escape test a.word (behind text e.end) e.code_point a.spells a.unfinished n)

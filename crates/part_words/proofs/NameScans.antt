@@ -25,7 +25,7 @@ use Rattle.part_words.specs.Places.{Word}
 use Rattle.part_words.specs.Scans.{IsScanned, IsStopped, NoLexeme}
 use Rattle.part_words.specs.Faults.{PartsEnd, Reaches, fault_kind, kind_of_fault}
 use Rattle.part_words.specs.declared.scan.Fault.{Fault}
-use Rattle.part_words.specs.Names.{AsciiName, Spells, Refuses, is_refused, IsName}
+use Rattle.part_words.specs.Names.{AsciiName, Spells, NoFrontPasses, is_refused, IsName}
 use Rattle.part_words.proofs.Places.{then, one_character}
 use Rattle.part_words.proofs.Plain.{Opens, plain_is, is_lexeme, no_lexeme}
 use Rattle.part_words.proofs.Names.{spells-some, name-longest, name-kind, private-longest, private-kind, no-name, never-name, no-private}
@@ -63,14 +63,14 @@ name-scanned {text = text} {i = i} {n = n} b h = by h.word h.points h.stands h.s
         }
 
 -- No name stands where the first code point is refused.
-no_name_lexeme : (text : List ℕ) (i c : ℕ) (rest : List ℕ) → opens_name c ≡ true → behind text i ≡ c ∷ rest → Refuses is_identifier_start (c ∷ rest) → NoLexeme division text i
+no_name_lexeme : (text : List ℕ) (i c : ℕ) (rest : List ℕ) → opens_name c ≡ true → behind text i ≡ c ∷ rest → NoFrontPasses is_identifier_start (c ∷ rest) → NoLexeme division text i
 no_name_lexeme text i c rest o e r = no_lexeme a_name text i c rest (name-opens c o) e (λ w more k f l g a.
     let none : name_of (c ∷ w) ≡ None = no-name (c ∷ rest) r c w more (ap (λ (v : List ℕ). c ∷ v) f) in
     let kind : word_of (name_of (c ∷ w)) ≡ Some k = g in
     let both : word_of None ≡ Some k = sym (ap word_of none) ∙ kind in
     cc)
 
-is-backslash : (c : ℕ) (rest : List ℕ) → opens_name c ≡ true → Refuses is_identifier_start (c ∷ rest) → (c == 92) ≡ true
+is-backslash : (c : ℕ) (rest : List ℕ) → opens_name c ≡ true → NoFrontPasses is_identifier_start (c ∷ rest) → (c == 92) ≡ true
 is-backslash c rest o r = go (c == 92) refl
   where
     go : (b : Bool) → (c == 92) ≡ b → (c == 92) ≡ true
@@ -99,17 +99,17 @@ backslash-there text i u b h = by (behind text i) refl h
         one_character text i 92 (encode_utf8_all cs) u b (sym (encodes-chars (drop i text) (IsUtf8-drop text i u b)) ∙ ap encode_utf8_all q)
 
 -- where a name may begin and none does, a backslash stands
-pub backslash-opens : (text : List ℕ) (i : ℕ) → IsUtf8 text → IsCharBoundary text i → begins opens_name (behind text i) ≡ true → Refuses is_identifier_start (behind text i) → Word text i (i + 1) (92 ∷ [])
+pub backslash-opens : (text : List ℕ) (i : ℕ) → IsUtf8 text → IsCharBoundary text i → begins opens_name (behind text i) ≡ true → NoFrontPasses is_identifier_start (behind text i) → Word text i (i + 1) (92 ∷ [])
 backslash-opens text i u b h n = backslash-there text i u b (by (behind text i) h n)
   where
-    by : (cs : List ℕ) → begins opens_name cs ≡ true → Refuses is_identifier_start cs → begins (λ c. c == 92) cs ≡ true
+    by : (cs : List ℕ) → begins opens_name cs ≡ true → NoFrontPasses is_identifier_start cs → begins (λ c. c == 92) cs ≡ true
     by [] f r = absurd (cc)
     by (c ∷ rest) f r = is-backslash c rest f r
 
 escape-told : (c : ℕ) (cs : List ℕ) → opens_name c ≡ true → fault_kind (c ∷ cs) ≡ InvalidEscape
 escape-told c cs o = ap (λ (p : Opening). kind_of_fault p c cs) (name-opens c o (begins is_decimal cs))
 
-pub name-stopped : {text : List ℕ} {i : ℕ} {f : Fault} → IsCharBoundary text i → begins opens_name (behind text i) ≡ true → Refuses is_identifier_start (behind text i) → f.kind ≡ InvalidEscape → f.start ≡ i → PartsEnd false text (i + 1) f.end
+pub name-stopped : {text : List ℕ} {i : ℕ} {f : Fault} → IsCharBoundary text i → begins opens_name (behind text i) ≡ true → NoFrontPasses is_identifier_start (behind text i) → f.kind ≡ InvalidEscape → f.start ≡ i → PartsEnd false text (i + 1) f.end
     → IsStopped division text i f
 name-stopped {text = text} {i = i} {f = f} u b n kd st p = by (behind text i) refl
   where
@@ -117,7 +117,7 @@ name-stopped {text = text} {i = i} {f = f} u b n kd st p = by (behind text i) re
     by [] e = absurd (let a : false ≡ true = subst (λ (v : List ℕ). begins opens_name v ≡ true) e b in cc)
     by (c ∷ rest) e =
         let o : opens_name c ≡ true = subst (λ (v : List ℕ). begins opens_name v ≡ true) e b in
-        let r : Refuses is_identifier_start (c ∷ rest) = subst (λ (v : List ℕ). Refuses is_identifier_start v) e n in
+        let r : NoFrontPasses is_identifier_start (c ∷ rest) = subst (λ (v : List ℕ). NoFrontPasses is_identifier_start v) e n in
         let k : (c == 92) ≡ true = is-backslash c rest o r in
         let same : c ≡ 92 = eqb-true c 92 k in
         let l = p.stands.end in
@@ -130,7 +130,7 @@ name-stopped {text = text} {i = i} {f = f} u b n kd st p = by (behind text i) re
             here = e ∙ ap (λ (x : ℕ). x ∷ rest) same;
             marked = refl;
             named = refl;
-            never = never-name (92 ∷ rest) (subst (λ (x : ℕ). Refuses is_identifier_start (x ∷ rest)) same r);
+            never = never-name (92 ∷ rest) (subst (λ (x : ℕ). NoFrontPasses is_identifier_start (x ∷ rest)) same r);
             begin = omega arith;
           }));
           follows = omega arith;
@@ -160,13 +160,13 @@ private-scanned {text = text} {i = i} {n = n} m h = record {
   separated = refl;
 }
 
-no_private_lexeme : (text : List ℕ) (i : ℕ) (rest : List ℕ) → behind text i ≡ 35 ∷ rest → Refuses is_identifier_start rest → NoLexeme division text i
+no_private_lexeme : (text : List ℕ) (i : ℕ) (rest : List ℕ) → behind text i ≡ 35 ∷ rest → NoFrontPasses is_identifier_start rest → NoLexeme division text i
 no_private_lexeme text i rest e r = no_lexeme a_private_name text i 35 rest private-opens e (λ w more k f l g a.
     let none : private_kind (35 ∷ w) ≡ None = no-private rest w more r f in
     let kind : private_kind (35 ∷ w) ≡ Some k = g in
     cc)
 
-nothing_begins : (rest : List ℕ) → Refuses is_identifier_start rest → begins_nothing 35 rest ≡ true
+nothing_begins : (rest : List ℕ) → NoFrontPasses is_identifier_start rest → begins_nothing 35 rest ≡ true
 nothing_begins rest r = both (none_begins (lexemes_in division) (35 ∷ rest)) true (none_longer-from (lexemes_in division) [] (35 ∷ rest) (λ c x more e. at c x more e)) refl
   where
     at : (c : ℕ) (x more : List ℕ) → 35 ∷ rest ≡ c ∷ x ++ more → lexemes_in division (c ∷ x) more ≡ false
@@ -186,7 +186,7 @@ mark-here text i u b h = by (behind text i) refl h
         let q : behind text i ≡ 35 ∷ cs = e ∙ ap (λ (x : ℕ). x ∷ cs) same in
         one_character text i 35 (encode_utf8_all cs) u b (sym (encodes-chars (drop i text) (IsUtf8-drop text i u b)) ∙ ap encode_utf8_all q)
 
-pub private-escape : {text : List ℕ} {i j : ℕ} {fault : Fault} → Word text i j (35 ∷ []) → Word text j (j + 1) (92 ∷ []) → Refuses is_identifier_start (behind text j) → fault.kind ≡ InvalidEscape → fault.start ≡ j → PartsEnd false text (j + 1) fault.end
+pub private-escape : {text : List ℕ} {i j : ℕ} {fault : Fault} → Word text i j (35 ∷ []) → Word text j (j + 1) (92 ∷ []) → NoFrontPasses is_identifier_start (behind text j) → fault.kind ≡ InvalidEscape → fault.start ≡ j → PartsEnd false text (j + 1) fault.end
     → IsStopped division text i fault
 private-escape {text = text} {i = i} {j = j} {fault = fault} m w n kd st p =
     let l = p.stands.end in
@@ -201,7 +201,7 @@ private-escape {text = text} {i = i} {j = j} {fault = fault} m w n kd st p =
         here = m.splits ∙ ap (λ (v : List ℕ). 35 ∷ v) e;
         marked = refl;
         named = refl;
-        never = never-name (92 ∷ behind text (j + 1)) (subst (λ (v : List ℕ). Refuses is_identifier_start v) e n);
+        never = never-name (92 ∷ behind text (j + 1)) (subst (λ (v : List ℕ). NoFrontPasses is_identifier_start v) e n);
         begin = omega arith;
       }));
       follows = omega arith;
@@ -212,7 +212,7 @@ private-escape {text = text} {i = i} {j = j} {fault = fault} m w n kd st p =
       reaches = escape-reaches kd st p;
     }
 
-pub private-nothing : {text : List ℕ} {i j : ℕ} → IsCharBoundary text i → Word text i j (35 ∷ []) → begins (λ c. c == 92) (behind text j) ≡ false → Refuses is_identifier_start (behind text j)
+pub private-nothing : {text : List ℕ} {i j : ℕ} → IsCharBoundary text i → Word text i j (35 ∷ []) → begins (λ c. c == 92) (behind text j) ≡ false → NoFrontPasses is_identifier_start (behind text j)
     → IsStopped division text i (record { kind = InvalidCharacter; start = i; end = j })
 private-nothing {text = text} {i = i} {j = j} u m g n =
     let z = m.end in

@@ -21,7 +21,7 @@ use Rattle.js_grammar.proofs.CoreNames.{no_backslash_has}
 use Rattle.part_words.specs.declared.name.Letters.{Letters}
 use Rattle.part_words.specs.declared.name.Piece.{Piece}
 use Rattle.part_words.specs.Places.{Word, Peeks}
-use Rattle.part_words.specs.Names.{Spells, Refuses, Holds, AsciiParts, AsciiName, IsPiece, IsName, is_ascii_part}
+use Rattle.part_words.specs.Names.{Spells, NoFrontPasses, Holds, AsciiParts, AsciiName, IsPiece, IsName, is_ascii_part}
 use Rattle.part_words.proofs.Places.{then}
 use Rattle.part_words.proofs.Names.{spells-then, spells-plain, spells-whole, backslash-append, plain-more}
 use Rattle.part_words.proofs.NameKinds.{long-front}
@@ -80,7 +80,7 @@ all-plain (c ∷ w) h =
     let b = all-plain w (neither-right (c == 92) (has_backslash w) h) in
     rw a b
 
-pub ascii-name : {text : List ℕ} {i j : ℕ} (k : Kind) → (a : AsciiName text i j) → Refuses is_identifier_part (behind text j) → k ≡ keyword_of a.word → IsName text i (record { kind = k; end = j; escaped = false })
+pub ascii-name : {text : List ℕ} {i j : ℕ} (k : Kind) → (a : AsciiName text i j) → NoFrontPasses is_identifier_part (behind text j) → k ≡ keyword_of a.word → IsName text i (record { kind = k; end = j; escaped = false })
 ascii-name k a r e = record {
   word = a.word;
   points = a.word;

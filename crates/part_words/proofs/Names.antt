@@ -18,7 +18,7 @@ use Rattle.js_grammar.proofs.CoreLemmas.{none_longer-from}
 use Rattle.js_grammar.proofs.CorePlain.{no_backslash, points-append, before-all-append}
 use Rattle.js_grammar.proofs.Finding.{all-append}
 use Rattle.js_grammar.proofs.CoreNames.{named-plain, named-not, parts_stop}
-use Rattle.part_words.specs.Names.{Spells, Refuses, is_refused}
+use Rattle.part_words.specs.Names.{Spells, NoFrontPasses, is_refused}
 use Rattle.part_words.proofs.Plain.{opened_by}
 
 -- characters that stand for code points
@@ -59,16 +59,16 @@ refused-first (Some []) r = cc
 refused-first (Some (d ∷ ds)) r = named-not (d ∷ ds) (ap (λ (b : Bool). b && list_all is_identifier_part ds) (not-true (is_identifier_start d) r))
 
 -- no name goes on where the next code point is refused
-pub no-longer-name : (w ps rest : List ℕ) → Spells w ps → is_plain_name ps ≡ true → Refuses is_identifier_part rest
+pub no-longer-name : (w ps rest : List ℕ) → Spells w ps → is_plain_name ps ≡ true → NoFrontPasses is_identifier_part rest
     → (c : ℕ) (x more : List ℕ) → rest ≡ c ∷ x ++ more → name_of (w ++ c ∷ x) ≡ None
 no-longer-name w ps rest a h r c x more e = ap named (a (c ∷ x)) ∙ refused-after ps (code_points in_name (c ∷ x)) h (r c x more e)
 
 -- no name begins where the first code point is refused
-pub no-name : (rest : List ℕ) → Refuses is_identifier_start rest → (c : ℕ) (x more : List ℕ) → rest ≡ c ∷ x ++ more → name_of (c ∷ x) ≡ None
+pub no-name : (rest : List ℕ) → NoFrontPasses is_identifier_start rest → (c : ℕ) (x more : List ℕ) → rest ≡ c ∷ x ++ more → name_of (c ∷ x) ≡ None
 no-name rest r c x more e = refused-first (code_points in_name (c ∷ x)) (r c x more e)
 
 -- the longest name
-pub name-longest : (w ps rest : List ℕ) → Spells w ps → is_plain_name ps ≡ true → Refuses is_identifier_part rest → longest (opened_by a_name) w rest ≡ true
+pub name-longest : (w ps rest : List ℕ) → Spells w ps → is_plain_name ps ≡ true → NoFrontPasses is_identifier_part rest → longest (opened_by a_name) w rest ≡ true
 name-longest w ps rest a h r =
     both (opened_by a_name w rest) (none_longer (opened_by a_name) w rest)
     (ap (λ (o : Option (List ℕ)). is_some (word_of o)) (name-of-spelt w ps a h))
@@ -77,7 +77,7 @@ name-longest w ps rest a h r =
 pub name-kind : (w ps rest : List ℕ) → Spells w ps → is_plain_name ps ≡ true → kind_of a_name w rest ≡ Some (keyword_of ps)
 name-kind w ps rest a h = ap word_of (name-of-spelt w ps a h)
 
-pub private-longest : (w ps rest : List ℕ) → Spells w ps → is_plain_name ps ≡ true → Refuses is_identifier_part rest → longest (opened_by a_private_name) (35 ∷ w) rest ≡ true
+pub private-longest : (w ps rest : List ℕ) → Spells w ps → is_plain_name ps ≡ true → NoFrontPasses is_identifier_part rest → longest (opened_by a_private_name) (35 ∷ w) rest ≡ true
 private-longest w ps rest a h r =
     both (opened_by a_private_name (35 ∷ w) rest) (none_longer (opened_by a_private_name) (35 ∷ w) rest)
     (ap (λ (o : Option (List ℕ)). is_some (private_of o)) (name-of-spelt w ps a h))
@@ -87,10 +87,10 @@ pub private-kind : (w ps rest : List ℕ) → Spells w ps → is_plain_name ps �
 private-kind w ps rest a h = ap private_of (name-of-spelt w ps a h)
 
 -- Fronts of characters at which no name begins.
-pub never-name : (rest : List ℕ) → Refuses is_identifier_start rest → none_longer is_name_word [] rest ≡ true
+pub never-name : (rest : List ℕ) → NoFrontPasses is_identifier_start rest → none_longer is_name_word [] rest ≡ true
 never-name rest r = none_longer-from is_name_word [] rest (λ c x more e. ap (λ (o : Option (List ℕ)). is_some o) (no-name rest r c x more e))
 
-pub no-private : (rest w more : List ℕ) → Refuses is_identifier_start rest → rest ≡ w ++ more → private_kind (35 ∷ w) ≡ None
+pub no-private : (rest w more : List ℕ) → NoFrontPasses is_identifier_start rest → rest ≡ w ++ more → private_kind (35 ∷ w) ≡ None
 no-private rest [] more r e = refl
 no-private rest (c ∷ x) more r e = ap private_of (no-name rest r c x more e)
 

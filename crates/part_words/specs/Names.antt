@@ -31,8 +31,8 @@ is_refused test (Some []) = false
 is_refused test (Some (p ∷ ps)) = not (test p)
 
 -- No front of the characters stands for code points of which the first passes.
-abbrev pub Refuses : (ℕ → Bool) → List ℕ → Type 0
-Refuses test cs = (c : ℕ) (x more : List ℕ) → cs ≡ c ∷ x ++ more → is_refused test (code_points in_name (c ∷ x)) ≡ true
+abbrev pub NoFrontPasses : (ℕ → Bool) → List ℕ → Type 0
+NoFrontPasses test cs = (c : ℕ) (x more : List ℕ) → cs ≡ c ∷ x ++ more → is_refused test (code_points in_name (c ∷ x)) ≡ true
 
 -- No front of the characters but the empty one and the whole stands for code points.
 abbrev pub Unfinished : List ℕ → Type 0
@@ -77,7 +77,7 @@ pub record AsciiName (text : List ℕ) (i j : ℕ) : Type 0 where
 -- such a name, behind which no name goes on
 pub record IsAsciiName (text : List ℕ) (i j : ℕ) : Type 0 where
   pub name : AsciiName text i j
-  pub ends : Refuses is_identifier_part (behind text j)
+  pub ends : NoFrontPasses is_identifier_part (behind text j)
 
 -- The letters hold the code points; else no word of the keyword table begins with these.
 pub record Holds (s : Letters) (ps : List ℕ) : Type 0 where
@@ -93,6 +93,6 @@ pub record IsName (text : List ℕ) (i : ℕ) (n : Name) : Type 0 where
   pub stands : Word text i n.end word
   pub spells : Spells word points
   pub is : is_plain_name points ≡ true
-  pub ends : Refuses is_identifier_part (behind text n.end)
+  pub ends : NoFrontPasses is_identifier_part (behind text n.end)
   pub kind : n.kind ≡ keyword_of points
   pub escaped : n.escaped ≡ has_backslash word

@@ -130,7 +130,7 @@ fn ascii_name_end(text: &str, at: usize) -> Option<usize>
 fn ends_ascii(text: &str, at: usize) -> bool
     requires boundary { IsCharBoundary text.now at }
     requires stops { begins names.is_ascii_part (behind text.now at) ≡ false }
-    ensures { IsTrue result → names.Refuses is_identifier_part (behind text.now at) }
+    ensures { IsTrue result → names.NoFrontPasses is_identifier_part (behind text.now at) }
 {
     match byte_at(text, at) {
         Some(byte) => byte < 128 && byte != b'\\',
@@ -174,7 +174,7 @@ fn invalid_escape(text: &str, at: usize) -> Fault
 fn fault_behind_mark(text: &str, at: usize, place: usize) -> Fault
     requires boundary { IsCharBoundary text.now at }
     requires mark { Word text.now at place (35 ∷ []) }
-    requires none { names.Refuses is_identifier_start (behind text.now place) }
+    requires none { names.NoFrontPasses is_identifier_start (behind text.now place) }
     ensures { IsStopped division text.now at result }
 {
     if is_at(text, place, b'\\') {
@@ -191,7 +191,7 @@ fn fault_behind_mark(text: &str, at: usize, place: usize) -> Fault
 /// The longest name at a place.
 fn longest_name(text: &str, at: usize) -> Option<Name>
     requires { IsCharBoundary text.now at }
-    ensures { MatchOption result (names.Refuses is_identifier_start (behind text.now at)) (λ n. names.IsName text.now at n) }
+    ensures { MatchOption result (names.NoFrontPasses is_identifier_start (behind text.now at)) (λ n. names.IsName text.now at n) }
 {
     match piece_at(text, at, Position::Start) {
         Some(first) => Some(name_from(text, at, first)),
@@ -218,7 +218,7 @@ fn name_from(text: &str, at: usize, first: Piece) -> Name
 fn ascii_name(text: &str, at: usize, end: usize) -> Name
     requires boundary { IsCharBoundary text.now at }
     requires name { names.AsciiName text.now at end }
-    requires ends { names.Refuses is_identifier_part (behind text.now end) }
+    requires ends { names.NoFrontPasses is_identifier_part (behind text.now end) }
     ensures { names.IsName text.now at result }
 {
     Name {
@@ -232,7 +232,7 @@ fn ascii_name(text: &str, at: usize, end: usize) -> Name
 fn is_at_end(text: &str, at: usize) -> bool
     requires boundary { IsCharBoundary text.now at }
     requires stops { begins names.is_ascii_part (behind text.now at) ≡ false }
-    ensures { IsTrue result → names.Refuses is_identifier_part (behind text.now at) }
+    ensures { IsTrue result → names.NoFrontPasses is_identifier_part (behind text.now at) }
 {
     if ends_ascii(text, at) {
         return true;
@@ -298,7 +298,7 @@ fn kind_of_letters(letters: Letters) -> Kind
 /// The character or the escape sequence at a place, if its code point may stand there in a name.
 fn piece_at(text: &str, at: usize, position: Position) -> Option<Piece>
     requires { IsCharBoundary text.now at }
-    ensures { MatchOption result (names.Refuses (names.may_stand position) (behind text.now at)) (λ p. names.IsPiece (names.may_stand position) text.now at p) }
+    ensures { MatchOption result (names.NoFrontPasses (names.may_stand position) (behind text.now at)) (λ p. names.IsPiece (names.may_stand position) text.now at p) }
 {
     if is_at(text, at, b'\\') {
         return escaped_piece(text, at, position);
@@ -316,7 +316,7 @@ fn piece_at(text: &str, at: usize, position: Position) -> Option<Piece>
 /// An escape sequence, if the code point that it names may stand in a name.
 fn escaped_piece(text: &str, at: usize, position: Position) -> Option<Piece>
     requires { Word text.now at (at + 1) (92 ∷ []) }
-    ensures { MatchOption result (names.Refuses (names.may_stand position) (behind text.now at)) (λ p. names.IsPiece (names.may_stand position) text.now at p) }
+    ensures { MatchOption result (names.NoFrontPasses (names.may_stand position) (behind text.now at)) (λ p. names.IsPiece (names.may_stand position) text.now at p) }
 {
     match escape_at(text, at) {
         Some(escape) if may_code_point_stand(escape.code_point, position) => Some(Piece {
@@ -351,7 +351,7 @@ fn may_code_point_stand(code_point: u32, position: Position) -> bool
 /// The escape sequence that begins with the backslash at a place (UnicodeEscapeSequence, ECMA-262, section 12.9.4).
 fn escape_at(text: &str, at: usize) -> Option<Escape>
     requires { Word text.now at (at + 1) (92 ∷ []) }
-    ensures { MatchOption result ((test : ℕ → Bool) → names.Refuses test (behind text.now at)) (λ e. names.IsEscape text.now at e) }
+    ensures { MatchOption result ((test : ℕ → Bool) → names.NoFrontPasses test (behind text.now at)) (λ e. names.IsEscape text.now at e) }
 {
     if !is_at(text, at + 1, b'u') {
         return None;

@@ -6,7 +6,7 @@ ghost use Rattle.js_base.specs.declared.kind.Kind.TheVariants.{Str};
 ghost use Rattle.js_grammar.specs.NodeNames.{without_sign, IsReadFrom};
 ghost use Rattle.js_grammar.specs.Strings.{string_kind};
 ghost use Rattle.js_record.specs.Checked.{AreUnder, AreHeld, IsSound, AreSound};
-ghost use Rattle.js_record.specs.NodeKinds.{is_string, is_word};
+ghost use Rattle.js_record.specs.NodeKinds.{is_string, is_name_kind};
 ghost use Rattle.js_record.specs.Shown.{IsRead, label_at};
 
 use crate::rows::{is_so, lies_in, slots_of};
@@ -325,7 +325,7 @@ fn is_quoted(text: &str) -> bool
 
 /// Whether a node of this kind is a name.
 fn is_word(kind: NodeKind) -> bool
-    ensures { result ≡ is_word kind }
+    ensures { result ≡ is_name_kind kind }
 {
     matches!(
         kind,

@@ -1,6 +1,6 @@
-use Rattle.js_grammar.specs.Lexed.{Lex}
+use Rattle.js_grammar.specs.Lexed.{NextLexeme}
 use Rattle.js_grammar.proofs.Parts.{joins}
 use Rattle.js_grammar.proofs.lexical_laws.law_of_joining.Goals as goal
 
 pub returns : goal.returns
-returns c = λ p text s ls ms h k. joins (Lex p text) s ls ms h k
+returns c = λ p text s ls ms h k. joins (NextLexeme p text) s ls ms h k

@@ -3,7 +3,7 @@ use Rattle.std.proofs.lemmas.Result.{err_from_is_err_and}
 use Rattle.js_base.specs.declared.diagnostic.Diagnostic.{Diagnostic}
 use Rattle.js_base.specs.declared.diagnostic.DiagnosticKind.TheVariants.{LexicalDeclarationSingleStatement}
 use Rattle.js_base.specs.Diagnostics.{class_of}
-use Rattle.parse_shared.specs.js_cursor.Moves.{Keeps}
+use Rattle.parse_shared.specs.js_cursor.Moves.{KeepsDiagnostic}
 use Rattle.parse_shared.proofs.laws_shared.Moving.{stops_so}
 use Rattle.parse_declarations.proofs.SpansMarked.{span_marked}
 use Rattle.laws_statements.proofs.LetStatements.{a_word_stands, lexical_last, lexical_told, lexical_word, no_lexical_body}
@@ -30,4 +30,4 @@ pub returns-clause-taken : goal.returns-clause-taken
 returns-clause-taken g c = λ text f a. lexical_told a c.requires.begins (c.in_ok-declaration.ensures text f a) c.in_ok-error.ensures (ap (λ (d : Diagnostic). class_of d.kind) c.diagnostic_at.ensures)
 
 pub returns-clause-told : goal.returns-clause-told
-returns-clause-told g c = lexical_last c.end_span-span.result (c.in_ok-declaration.ensures _ _ c.requires.at) (subst (λ (d : Diagnostic). Keeps d c.parse_declaration.new.p c.error.new.self) c.diagnostic_at.ensures c.in_ok-error.ensures) (c.end_span-span.ensures.start ∙ c.cur_start-start.ensures) c.end_span-span.ensures.end
+returns-clause-told g c = lexical_last c.end_span-span.result (c.in_ok-declaration.ensures _ _ c.requires.at) (subst (λ (d : Diagnostic). KeepsDiagnostic d c.parse_declaration.new.p c.error.new.self) c.diagnostic_at.ensures c.in_ok-error.ensures) (c.end_span-span.ensures.start ∙ c.cur_start-start.ensures) c.end_span-span.ensures.end

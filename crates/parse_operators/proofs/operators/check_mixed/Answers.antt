@@ -3,7 +3,7 @@ use Rattle.std.specs.Prelude.{None}
 use Rattle.js_base.specs.declared.diagnostic.DiagnosticKind.TheVariants.{MixedCoalesce}
 use Rattle.js_base.specs.declared.span.Span.{Span}
 use Rattle.js_grammar.specs.Marks.{Mark}
-use Rattle.parse_shared.specs.js_cursor.Moves.{Keeps}
+use Rattle.parse_shared.specs.js_cursor.Moves.{KeepsDiagnostic}
 use Rattle.parse_shared.specs.js_cursor.Places.{goal as goal_of}
 use Rattle.parse_shared.specs.laws_shared.Stands.{ReadsHere}
 use Rattle.laws_operators.proofs.Exponents.{same_span}
@@ -26,4 +26,4 @@ returns-then-not-reads_here g c =
 pub returns : goal.returns
 returns g c =
     let u : c.args.mixed ≡ true = search in
-    inl (u, subst (λ (s : Span). Keeps (record { kind = MixedCoalesce; span = s; first = None; second = None }) c.args.p.now c.error.new.self) (same_span c.end_span.ensures.start c.end_span.ensures.end) c.in_ok-error.ensures)
+    inl (u, subst (λ (s : Span). KeepsDiagnostic (record { kind = MixedCoalesce; span = s; first = None; second = None }) c.args.p.now c.error.new.self) (same_span c.end_span.ensures.start c.end_span.ensures.end) c.in_ok-error.ensures)

@@ -1,6 +1,6 @@
 use Rattle.std.proofs.Common.{arith}
 use Rattle.js_base.specs.declared.kind.Kind.TheVariants.{LBrack, LCurly}
-use Rattle.parse_shared.specs.laws_shared.declared.nested.Goal.TheVariants.{Binding}
+use Rattle.parse_shared.specs.laws_shared.declared.nested.Nonterminal.TheVariants.{Binding}
 use Rattle.laws_patterns.proofs.laws_primary.Members.{stands_so}
 use Rattle.parse_patterns.proofs.binding.parse_nested_binding.Goals as goal
 

@@ -2,7 +2,7 @@ use Rattle.std.proofs.Common.{ap, arith, subst, sym, ◌∙◌}
 use Rattle.std.proofs.lemmas.Result.{err_from_is_err_and}
 use Rattle.js_base.specs.declared.diagnostic.Diagnostic.{Diagnostic}
 use Rattle.js_grammar.specs.Marks.{Mark}
-use Rattle.laws_primary.specs.js_cursor.Moves.{Keeps}
+use Rattle.laws_primary.specs.js_cursor.Moves.{KeepsDiagnostic}
 use Rattle.laws_primary.specs.js_cursor.Parsers.{Parser}
 use Rattle.laws_primary.specs.js_cursor.Places.{goal as goal_of}
 use Rattle.laws_primary.proofs.Templates.{template_marked, template_stops, template_tagged, template_told}
@@ -35,11 +35,11 @@ end_span-span-requires g c =
 pub returns-clause-read : goal.returns-clause-read
 returns-clause-read g c = λ text f a.
     template_tagged a c.requires.template (c.in_ok-template.ensures text f a)
-    (subst (λ (d : Diagnostic). Keeps d c.parse_template_literal.new.p c.error.new.self) c.diagnostic_at.ensures c.in_ok-error.ensures)
+    (subst (λ (d : Diagnostic). KeepsDiagnostic d c.parse_template_literal.new.p c.error.new.self) c.diagnostic_at.ensures c.in_ok-error.ensures)
     c.end_span-span.ensures.start c.end_span-span.ensures.end c.in_ok-node.ensures
 
 pub returns-clause-told : goal.returns-clause-told
 returns-clause-told g c =
     template_told c.end_span-quoted.result (c.in_ok-template.ensures _ _ c.requires.at)
-    (subst (λ (d : Diagnostic). Keeps d c.parse_template_literal.new.p c.error.new.self) c.diagnostic_at.ensures c.in_ok-error.ensures)
+    (subst (λ (d : Diagnostic). KeepsDiagnostic d c.parse_template_literal.new.p c.error.new.self) c.diagnostic_at.ensures c.in_ok-error.ensures)
     c.in_ok-node.ensures (c.end_span-quoted.ensures.start ∙ c.cur_start-opening.ensures) c.end_span-quoted.ensures.end

@@ -1,8 +1,8 @@
 use Rattle.std.proofs.Common.{subst, inl, inr}
-use Rattle.parse_shared.specs.laws_shared.declared.nested.Goal.{Goal}
+use Rattle.parse_shared.specs.laws_shared.declared.nested.Nonterminal.{Nonterminal}
 use Rattle.parse_shared.specs.laws_shared.Nesting.{Ready}
 use Rattle.parse_shared.proofs.laws_shared.Deeper.{ready_at}
-use Rattle.js_core.proofs.parse.parse_goal.Goals as goal
+use Rattle.js_core.proofs.parse.parse_nonterminal.Goals as goal
 
 pub returns-in-Assignment : goal.returns-in-Assignment
 returns-in-Assignment t c = elim c.in-Assignment.is [
@@ -35,43 +35,43 @@ pub returns-in-Params : goal.returns-in-Params
 returns-in-Params t c = rw (c.in-Params.is) c.parse_parameters.ensures
 
 pub parse_parameters-requires-clause-at : goal.parse_parameters-requires-clause-at
-parse_parameters-requires-clause-at t c = ready_at c.args.goal c.requires.at
+parse_parameters-requires-clause-at t c = ready_at c.args.what c.requires.at
 
 pub returns-in-MethodParameters : goal.returns-in-MethodParameters
 returns-in-MethodParameters t c = rw (c.in-MethodParameters.is) c.parse_parameters_of_method.ensures
 
 pub parse_parameters_of_method-requires-clause-at : goal.parse_parameters_of_method-requires-clause-at
-parse_parameters_of_method-requires-clause-at t c = ready_at c.args.goal c.requires.at
+parse_parameters_of_method-requires-clause-at t c = ready_at c.args.what c.requires.at
 
 pub parse_sequence_expression-requires-clause-at : goal.parse_sequence_expression-requires-clause-at
-parse_sequence_expression-requires-clause-at t c = ready_at c.args.goal c.requires.at
+parse_sequence_expression-requires-clause-at t c = ready_at c.args.what c.requires.at
 
 pub parse_assignment_expression-requires-clause-at : goal.parse_assignment_expression-requires-clause-at
-parse_assignment_expression-requires-clause-at t c = ready_at c.args.goal c.requires.at
+parse_assignment_expression-requires-clause-at t c = ready_at c.args.what c.requires.at
 
 pub parse_unary_expression_or_higher-requires-clause-at : goal.parse_unary_expression_or_higher-requires-clause-at
-parse_unary_expression_or_higher-requires-clause-at t c = ready_at c.args.goal c.requires.at
+parse_unary_expression_or_higher-requires-clause-at t c = ready_at c.args.what c.requires.at
 
 pub parse_exponentiation-requires-clause-at : goal.parse_exponentiation-requires-clause-at
-parse_exponentiation-requires-clause-at t c = ready_at c.args.goal c.requires.at
+parse_exponentiation-requires-clause-at t c = ready_at c.args.what c.requires.at
 
 pub parse_binding_pattern-requires-clause-at : goal.parse_binding_pattern-requires-clause-at
-parse_binding_pattern-requires-clause-at t c = ready_at c.args.goal c.requires.at
+parse_binding_pattern-requires-clause-at t c = ready_at c.args.what c.requires.at
 
 pub parse_statement-requires-clause-at : goal.parse_statement-requires-clause-at
-parse_statement-requires-clause-at t c = ready_at c.args.goal c.requires.at
+parse_statement-requires-clause-at t c = ready_at c.args.what c.requires.at
 
 pub parse_statement-requires-clause-allows_in : goal.parse_statement-requires-clause-allows_in
-parse_statement-requires-clause-allows_in t c = (subst (λ (g : Goal). Ready g c.args.p.now) c.in-Statement.is c.requires.at).1
+parse_statement-requires-clause-allows_in t c = (subst (λ (g : Nonterminal). Ready g c.args.p.now) c.in-Statement.is c.requires.at).1
 
 pub parse_statement_list_item-requires-clause-at : goal.parse_statement_list_item-requires-clause-at
-parse_statement_list_item-requires-clause-at t c = ready_at c.args.goal c.requires.at
+parse_statement_list_item-requires-clause-at t c = ready_at c.args.what c.requires.at
 
 pub parse_statement_list_item-requires-clause-allows_in : goal.parse_statement_list_item-requires-clause-allows_in
-parse_statement_list_item-requires-clause-allows_in t c = (subst (λ (g : Goal). Ready g c.args.p.now) c.in-ListItem.is c.requires.at).1
+parse_statement_list_item-requires-clause-allows_in t c = (subst (λ (g : Nonterminal). Ready g c.args.p.now) c.in-ListItem.is c.requires.at).1
 
 pub parse_body-requires-clause-at : goal.parse_body-requires-clause-at
-parse_body-requires-clause-at t c = ready_at c.args.goal c.requires.at
+parse_body-requires-clause-at t c = ready_at c.args.what c.requires.at
 
 pub parse_body-requires-clause-allows_in : goal.parse_body-requires-clause-allows_in
-parse_body-requires-clause-allows_in t c = (subst (λ (g : Goal). Ready g c.args.p.now) c.in-Body.is c.requires.at).1
+parse_body-requires-clause-allows_in t c = (subst (λ (g : Nonterminal). Ready g c.args.p.now) c.in-Body.is c.requires.at).1
