@@ -1,6 +1,8 @@
 -- What is put out for a text: the lines of its only reading, or of diagnostics, where it has none.
 use Rattle.std.specs.Prelude.{ℕ, ◌≡◌, Bool, true, false, List, []}
+use Rattle.std.specs.List.{All}
 use Rattle.js_base.specs.declared.diagnostic.Diagnostic.{Diagnostic}
+use Rattle.js_base.specs.Spans.{LiesIn}
 use Rattle.js_grammar.specs.Trees.{Tree}
 use Rattle.js_grammar.specs.BuiltTexts.{AreBuilt}
 use Rattle.js_grammar.specs.Found.{AreOf}
@@ -24,16 +26,21 @@ pub record AcceptsText (s : Settings) (text out : List ℕ) : Type 0 where
   pub valid : Valid s text tree
   pub only_valid : (t : Tree) (v : Valid s text t) → AreBuilt text v.derived.lexemes → without_pure t ≡ tree
 
--- The text has no reading, and no valid tree over lexemes that are read and begin no production that isn't built; the output is the lines of diagnostics, one at least. Each has its mark, and a span in the text.
+-- The text has no reading, and no valid tree over lexemes that are read and begin no production that isn't built; the output is the lines of diagnostics, one at least, each at a span inside the text.
 pub record RefusesText (s : Settings) (text out : List ℕ) : Type 0 where
   pub found : List Diagnostic
   pub some : found ≡ [] → ⊥
-  pub told : AreOf (read_at s.goal) text found
+  pub inside : All (λ d. LiesIn d.span text) found
   pub lines : out ≡ diagnostic_text found
   pub none : HasNoReading text (read_at s.goal) (options_of s)
   pub none_valid : (t : Tree) (v : Valid s text t) → AreBuilt text v.derived.lexemes → ⊥
 
+-- The same, and each diagnostic has what its kind says at its span.
+pub record RefusesByMarks (s : Settings) (text out : List ℕ) : Type 0 where
+  pub refused : RefusesText s text out
+  pub told : AreOf (read_at s.goal) text refused.found
+
 -- true, where the text is refused
 abbrev pub Gives : Settings → List ℕ → Bool → List ℕ → Type 0
 Gives s text false out = AcceptsText s text out
-Gives s text true out = RefusesText s text out
+Gives s text true out = RefusesByMarks s text out

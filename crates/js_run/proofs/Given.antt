@@ -14,7 +14,7 @@ use Rattle.js_grammar.specs.TreeForms.{without_pure}
 use Rattle.js_parser.specs.Parsed.{IsReturn}
 use Rattle.js_parser.proofs.Validity.{readings_are_valid}
 use Rattle.js_run.specs.declared.words.Settings.{Settings}
-use Rattle.js_run.specs.Outputs.{AcceptsText, RefusesText}
+use Rattle.js_run.specs.Outputs.{AcceptsText, RefusesByMarks}
 use Rattle.js_run.specs.Words.{settings_of}
 
 module _ (s : Settings) {text : List ℕ} {taken : SourceType} {nodes : List Node} {out : LexerOutput} {fatal : Bool} (a : IsReturn text s.goal taken s.options nodes out fatal) (short : length text ≤ MAX_LEN) where
@@ -30,8 +30,8 @@ module _ (s : Settings) {text : List ℕ} {taken : SourceType} {nodes : List Nod
         only_valid = λ t v b. (c.only (without_pure t) (readings_are_valid.reading text _ _ t v b)).0;
       }
 
-  pub refuses : {lines : List ℕ} → (out.errors ≡ [] → ⊥) → lines ≡ diagnostic_text out.errors → RefusesText (settings_of s) text lines
-  refuses n e = let r = a.short short in record { found = out.errors; some = n; told = r.told; lines = e; none = r.unclean n; none_valid = λ t v b. r.unclean n (without_pure t) (readings_are_valid.reading text _ _ t v b) }
+  pub refuses : {lines : List ℕ} → (out.errors ≡ [] → ⊥) → lines ≡ diagnostic_text out.errors → RefusesByMarks (settings_of s) text lines
+  refuses n e = let r = a.short short in record { refused = record { found = out.errors; some = n; inside = r.told.lie; lines = e; none = r.unclean n; none_valid = λ t v b. r.unclean n (without_pure t) (readings_are_valid.reading text _ _ t v b) }; told = r.told }
 
 -- the parser's own text, goal and options are those that were given
 pub answered : {text source : List ℕ} {given goal taken : SourceType} {asked o : ParseOptions} {nodes : List Node} {out : LexerOutput} {fatal : Bool} → source ≡ text → goal ≡ given → o ≡ asked → IsReturn source goal taken o nodes out fatal → IsReturn text given taken asked nodes out fatal

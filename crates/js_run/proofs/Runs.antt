@@ -9,7 +9,7 @@ use Rattle.js_run.specs.declared.status.Status.{Status}
 use Rattle.js_run.specs.declared.status.Status.TheVariants.{Ok, Refused, Usage, ReadFault, WriteFault, NoMemory, NotUtf8, TooLong}
 use Rattle.js_run.specs.Ends.{CountsFault}
 use Rattle.std.specs.Str.{IsUtf8}
-use Rattle.js_run.specs.Outputs.{AcceptsText, RefusesText, Gives, WritesReading, WritesDiagnostics, AsksForTree}
+use Rattle.js_run.specs.Outputs.{AcceptsText, RefusesText, RefusesByMarks, Gives, WritesReading, WritesDiagnostics, AsksForTree}
 use Rattle.js_grammar.specs.Settings.{Settings}
 use Rattle.js_grammar.specs.CommandLine.{Admitted}
 use Rattle.js_grammar.specs.CoreTexts.{CoreSource}
@@ -17,7 +17,7 @@ use Rattle.js_grammar.specs.Options.{options_of}
 use Rattle.js_parser.specs.js_core.Readings.{read_at}
 use Rattle.js_parser.proofs.CoreTexts.{only_core, none_core}
 use Rattle.js_run.specs.Words.{Sets}
-use Rattle.js_run.specs.Runs.{limit, Gave, IsText, IsLong, ReadsUpTo, Told, PutsOut, HasCause, FitsWords, LeavesSink, LeavesSource, ComesBefore, IsAnswerBy, IsAnswerTo, IsCoreAnswerTo}
+use Rattle.js_run.specs.Runs.{limit, Gave, IsText, IsLong, ReadsUpTo, Told, PutsOut, HasCause, FitsWords, LeavesSink, LeavesSource, ComesBefore, IsAnswerBy, IsAnswerTo, IsMarkedAnswerTo, IsCoreAnswerTo}
 use Rattle.js_run.specs.Steps.{Made, ReadPiece, ReadCause, StopCause, TookFront, PutCause}
 
 -- A fault of a part of a time is one of the whole.
@@ -67,7 +67,7 @@ put_has_cause Refused words s refused out t a m h = (s, a, record { text = m.tex
 put_has_cause Usage words s refused out t a m h = absurd h
 put_has_cause ReadFault words s refused out t a m h = absurd h
 put_has_cause WriteFault words s refused out t a m h =
-    let gives : (r : Bool) → Gives s m.text r out → PutsOut s m.text (h.0.front ++ h.0.rest) = λ r. elim r as (λ r. Gives s m.text r out → PutsOut s m.text (h.0.front ++ h.0.rest)) [ true ↦ λ g. inr (subst (RefusesText s m.text) h.0.parts g) | false ↦ λ g. inl (subst (AcceptsText s m.text) h.0.parts g) ] in
+    let gives : (r : Bool) → Gives s m.text r out → PutsOut s m.text (h.0.front ++ h.0.rest) = λ r. elim r as (λ r. Gives s m.text r out → PutsOut s m.text (h.0.front ++ h.0.rest)) [ true ↦ λ g. inr (subst (RefusesByMarks s m.text) h.0.parts g) | false ↦ λ g. inl (subst (AcceptsText s m.text) h.0.parts g) ] in
     (s, a, record { text = m.text; front = h.0.front; rest = h.0.rest; gave = m.gave; is_text = m.is_text; puts = gives refused m.gives; written = h.0.took; fault = h.1 })
 put_has_cause NoMemory words s refused out t a m h = absurd h
 put_has_cause NotUtf8 words s refused out t a m h = absurd h
@@ -96,9 +96,9 @@ not_long t bytes e h short =
 same_settings : {words : List (List ℕ)} {s t : Settings} → Sets words s → Admitted words t → s ≡ t
 same_settings a b = sym (a.only _ b)
 
-answer_to_text : (status : Status) (words : List (List ℕ)) (t : Told) (text : List ℕ) (s : Settings) → t.given ≡ Some text → IsText text → Admitted words s → FitsWords status words → HasCause status words t → IsAnswerTo s text t status
+answer_to_text : (status : Status) (words : List (List ℕ)) (t : Told) (text : List ℕ) (s : Settings) → t.given ≡ Some text → IsText text → Admitted words s → FitsWords status words → HasCause status words t → IsMarkedAnswerTo s text t status
 answer_to_text Ok words t text s e is a f (r, b, h) = let g = gave_all _ _ text h.text e h.gave in (h.out, subst (λ (v : Settings). AcceptsText v text h.out) (same_settings b a) (subst (λ (x : List ℕ). AcceptsText r x h.out) g.0 h.puts), h.written, g.1)
-answer_to_text Refused words t text s e is a f (r, b, h) = let g = gave_all _ _ text h.text e h.gave in (h.out, subst (λ (v : Settings). RefusesText v text h.out) (same_settings b a) (subst (λ (x : List ℕ). RefusesText r x h.out) g.0 h.puts), h.written, g.1)
+answer_to_text Refused words t text s e is a f (r, b, h) = let g = gave_all _ _ text h.text e h.gave in (h.out, subst (λ (v : Settings). RefusesByMarks v text h.out) (same_settings b a) (subst (λ (x : List ℕ). RefusesByMarks r x h.out) g.0 h.puts), h.written, g.1)
 answer_to_text Usage words t text s e is a f h = f s a
 answer_to_text ReadFault words t text s e is a f h = h.fault
 answer_to_text WriteFault words t text s e is a f (r, b, h) = let g = gave_all _ _ text h.text e h.gave in (h.front, h.rest, subst (λ (v : Settings). PutsOut v text (h.front ++ h.rest)) (same_settings b a) (subst (λ (x : List ℕ). PutsOut r x (h.front ++ h.rest)) g.0 h.puts), h.written, g.1, h.fault)
@@ -106,10 +106,25 @@ answer_to_text NoMemory words t text s e is a f h = tt
 answer_to_text NotUtf8 words t text s e is a f h = let g = gave_all _ _ text h.bytes e h.gave in h.not_utf8 (subst IsUtf8 (sym g.0) is.utf8)
 answer_to_text TooLong words t text s e is a f h = not_long t text e h is.short
 
+answer_by : {A B C D : List ℕ → Type 0} → ((out : List ℕ) → A out → C out) → ((out : List ℕ) → B out → D out) → (t : Told) (status : Status) → IsAnswerBy A B t status → IsAnswerBy C D t status
+answer_by f g t Ok (out, a, w, l) = (out, f out a, w, l)
+answer_by f g t Refused (out, b, w, l) = (out, g out b, w, l)
+answer_by f g t Usage h = h
+answer_by f g t ReadFault h = h
+answer_by f g t WriteFault (front, rest, inl a, w, l, h) = (front, rest, inl (f (front ++ rest) a), w, l, h)
+answer_by f g t WriteFault (front, rest, inr b, w, l, h) = (front, rest, inr (g (front ++ rest) b), w, l, h)
+answer_by f g t NoMemory h = h
+answer_by f g t NotUtf8 h = h
+answer_by f g t TooLong h = h
+
 -- what a run answers to a text that the source tells, or may not tell
+pub marked_if_told : (status : Status) (words : List (List ℕ)) (t : Told) (given : Option (List ℕ)) → t.given ≡ given → FitsWords status words → HasCause status words t → IfSome given (λ text. IsText text → (s : Settings) → Admitted words s → IsMarkedAnswerTo s text t status)
+marked_if_told status words t None e f h = tt
+marked_if_told status words t (Some text) e f h = λ is s a. answer_to_text status words t text s e is a f h
+
 pub answer_if_told : (status : Status) (words : List (List ℕ)) (t : Told) (given : Option (List ℕ)) → t.given ≡ given → FitsWords status words → HasCause status words t → IfSome given (λ text. IsText text → (s : Settings) → Admitted words s → IsAnswerTo s text t status)
 answer_if_told status words t None e f h = tt
-answer_if_told status words t (Some text) e f h = λ is s a. answer_to_text status words t text s e is a f h
+answer_if_told status words t (Some text) e f h = λ is s a. answer_by (λ out x. x) (λ out x. x.refused) t status (answer_to_text status words t text s e is a f h)
 
 -- ---- what else the steps of a run tell
 
@@ -222,19 +237,8 @@ writes_reading : (s : Settings) (text out : List ℕ) → IsUtf8 text → CoreSo
 writes_reading s text out u c a = record { tree = a.tree; only = only_core u c (read_at s.goal) (options_of s) a.tree a.only; lines = a.lines }
 
 writes_diagnostics : (s : Settings) (text out : List ℕ) → IsUtf8 text → CoreSource text → RefusesText s text out → WritesDiagnostics s.allow_v8 text out
-writes_diagnostics s text out u c r = record { none = none_core u c (read_at s.goal) (options_of s) r.none; found = r.found; some = r.some; inside = r.told.lie; lines = r.lines }
-
-answer_by : {A B C D : List ℕ → Type 0} → ((out : List ℕ) → A out → C out) → ((out : List ℕ) → B out → D out) → (t : Told) (status : Status) → IsAnswerBy A B t status → IsAnswerBy C D t status
-answer_by f g t Ok (out, a, w, l) = (out, f out a, w, l)
-answer_by f g t Refused (out, b, w, l) = (out, g out b, w, l)
-answer_by f g t Usage h = h
-answer_by f g t ReadFault h = h
-answer_by f g t WriteFault (front, rest, inl a, w, l, h) = (front, rest, inl (f (front ++ rest) a), w, l, h)
-answer_by f g t WriteFault (front, rest, inr b, w, l, h) = (front, rest, inr (g (front ++ rest) b), w, l, h)
-answer_by f g t NoMemory h = h
-answer_by f g t NotUtf8 h = h
-answer_by f g t TooLong h = h
+writes_diagnostics s text out u c r = record { none = none_core u c (read_at s.goal) (options_of s) r.none; found = r.found; some = r.some; inside = r.inside; lines = r.lines }
 
 pub core_answer_if_told : (status : Status) (words : List (List ℕ)) (t : Told) (given : Option (List ℕ)) → t.given ≡ given → FitsWords status words → HasCause status words t → IfSome given (λ text. IsText text → CoreSource text → (s : Settings) → Admitted words s → AsksForTree s → IsCoreAnswerTo s text t status)
 core_answer_if_told status words t None e f h = tt
-core_answer_if_told status words t (Some text) e f h = λ is c s a asks. answer_by (λ out x. writes_reading s text out is.utf8 c x) (λ out x. writes_diagnostics s text out is.utf8 c x) t status (answer_to_text status words t text s e is a f h)
+core_answer_if_told status words t (Some text) e f h = λ is c s a asks. answer_by (λ out x. writes_reading s text out is.utf8 c x) (λ out x. writes_diagnostics s text out is.utf8 c x.refused) t status (answer_to_text status words t text s e is a f h)

@@ -8,7 +8,7 @@ use Rattle.js_run.specs.Ends.{CountsFault}
 use Rattle.js_run.specs.Words.{NoneAdmitted, Sets}
 use Rattle.js_grammar.specs.Settings.{Settings}
 use Rattle.js_grammar.specs.CommandLine.{Admitted}
-use Rattle.js_run.specs.Outputs.{AcceptsText, RefusesText, WritesReading, WritesDiagnostics}
+use Rattle.js_run.specs.Outputs.{AcceptsText, RefusesText, RefusesByMarks, WritesReading, WritesDiagnostics}
 pub use Rattle.js_grammar.specs.Ends.{limit, IsText, Told}
 
 -- The source gave these bytes, and has no more.
@@ -66,7 +66,7 @@ told remaining read_faults taken write_faults source source_after sink sink_afte
 
 -- what is put out for a text, accepted or refused
 abbrev pub PutsOut : Settings → List ℕ → List ℕ → Type 0
-PutsOut s text out = AcceptsText s text out ⊎ RefusesText s text out
+PutsOut s text out = AcceptsText s text out ⊎ RefusesByMarks s text out
 
 -- the words set one thing, of which this holds
 abbrev pub SetBy : List (List ℕ) → (Settings → Type 0) → Type 0
@@ -75,7 +75,7 @@ SetBy words P = (s : Settings) × Sets words s × P s
 -- Each status has its cause.
 abbrev pub HasCause : Status → List (List ℕ) → Told → Type 0
 HasCause Ok words t = SetBy words (λ s. Answered (AcceptsText s) t.given t.left t.before t.after)
-HasCause Refused words t = SetBy words (λ s. Answered (RefusesText s) t.given t.left t.before t.after)
+HasCause Refused words t = SetBy words (λ s. Answered (RefusesByMarks s) t.given t.left t.before t.after)
 HasCause Usage words t = Unit {0}
 HasCause ReadFault words t = ReadFailed t.given t.left t.read_faults t.read_faults_after
 HasCause WriteFault words t = SetBy words (λ s. BrokeOff (PutsOut s) t.given t.left t.before t.after t.write_faults t.write_faults_after)
@@ -121,6 +121,10 @@ IsAnswerBy Accepted Rejected t TooLong = ⊥
 -- The same where the words set this, of the text's only reading and of diagnostics where it has none.
 abbrev pub IsAnswerTo : Settings → List ℕ → Told → Status → Type 0
 IsAnswerTo s text t status = IsAnswerBy (AcceptsText s text) (RefusesText s text) t status
+
+-- The same, where each diagnostic has its mark.
+abbrev pub IsMarkedAnswerTo : Settings → List ℕ → Told → Status → Type 0
+IsMarkedAnswerTo s text t status = IsAnswerBy (AcceptsText s text) (RefusesByMarks s text) t status
 
 -- The same of a core text.
 abbrev pub IsCoreAnswerTo : Settings → List ℕ → Told → Status → Type 0

@@ -8,7 +8,7 @@ ghost use Rattle.js_grammar.specs.CoreTexts.{CoreSource};
 ghost use Rattle.js_grammar.specs.Settings.{Settings as Set};
 ghost use Rattle.js_run.specs.Ends.{CountsFault};
 ghost use Rattle.js_run.specs.Outputs.{AsksForTree};
-ghost use Rattle.js_run.specs.Runs.{limit, ReadsUpTo, Gave, told, HasCause, FitsWords, LeavesSink, LeavesSource, ComesBefore, IsAnswerTo, IsCoreAnswerTo, IsText};
+ghost use Rattle.js_run.specs.Runs.{limit, ReadsUpTo, Gave, told, HasCause, FitsWords, LeavesSink, LeavesSource, ComesBefore, IsAnswerTo, IsMarkedAnswerTo, IsCoreAnswerTo, IsText};
 ghost use Rattle.js_run.specs.Steps.{ReadPiece, ReadCause, StopCause, Made, TookFront, PutCause};
 ghost use Rattle.js_run.specs.Words.{settings_of};
 
@@ -164,11 +164,15 @@ pub fn run<S: Source, K: Sink>(
         IsCoreAnswerTo s text (told S.remaining S.faults K.taken K.faults source.old source.new sink.old sink.new) result) }
 
     // Where the words are admitted and the source tells its bytes, and these are a text: its only reading is written
-    // and 0 answered, or it has none, diagnostics with their marks are written and 1 answered; faults and want of
-    // memory aside. Readings are by the productions that are built, over lexemes of the kinds that are read so far. They
+    // and 0 answered, or it has none, one diagnostic or more are written, each at a span inside the text, and 1
+    // answered; faults and want of memory aside. Readings are by the productions that are built, over lexemes of the kinds that are read so far. They
     // are valid by the whole language, and where no lexeme is of another kind or begins another production no other tree is.
     ensures headline { IfSome (S.remaining source.old) (λ text. IsText text → (s : Set) → Admitted (map string_bytes words.now.items) s →
         IsAnswerTo s text (told S.remaining S.faults K.taken K.faults source.old source.new sink.old sink.new) result) }
+
+    // The same, and each diagnostic has its mark: what its kind says stands at its span.
+    ensures marks { IfSome (S.remaining source.old) (λ text. IsText text → (s : Set) → Admitted (map string_bytes words.now.items) s →
+        IsMarkedAnswerTo s text (told S.remaining S.faults K.taken K.faults source.old source.new sink.old sink.new) result) }
 
     // Each status has its cause.
     ensures cause { HasCause result (map string_bytes words.now.items) (told S.remaining S.faults K.taken K.faults source.old source.new sink.old sink.new) }
