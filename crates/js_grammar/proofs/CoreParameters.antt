@@ -21,7 +21,7 @@ is_member Property = true
 is_member Element = true
 is_member _ = false
 
--- tests that beq on core lexemes
+-- tests that agree on core lexemes
 abbrev agree_at : Look → Look → Kind → Bool
 agree_at p q k = beq (p k true false) (q k true false) && beq (p k false false) (q k false false)
 

@@ -155,25 +155,39 @@ unfoldable pub rule_of : Name → Flags → G
 -- Program and statements.
 -- Script (16.1) and Module (16.2), with a Hashbang Comment (12.5); CommonJS reads the parts of a script
 rule_of Program f = node (record { kind = program; op = no_op; flags = 0; extent = whole_text }) (opt (mk hashbang (tok HashbangComment)) ▸ directives_then Item f)
-rule_of Directive f = mk directive (ended by_edge string)  -- a Directive Prologue (11.2.1)
-rule_of Item f = sym ListItem f  -- ScriptBody (16.1), ModuleItem (16.2)
-rule_of ListItem f = sym Statement f ◇ not_then (is 'let') (word_or (LCurly ∷ [])) ▸ sym ExprStmt f ◇ sym Function f ◇ sym Lexical f  -- StatementListItem (14.2); an expression statement here does not begin with `let` and a name or `{`
-rule_of Sub f = sym Statement f ◇ sym ExprStmt f ◇ function_of function_declaration (sym BindingIdentifier f) false false f  -- a Statement as the body of another; function declarations there (B.3.1, B.3.3)
+-- a Directive Prologue (11.2.1)
+rule_of Directive f = mk directive (ended by_edge string)
+-- ScriptBody (16.1), ModuleItem (16.2)
+rule_of Item f = sym ListItem f
+-- StatementListItem (14.2); an expression statement here does not begin with `let` and a name or `{`
+rule_of ListItem f = sym Statement f ◇ not_then (is 'let') (word_or (LCurly ∷ [])) ▸ sym ExprStmt f ◇ sym Function f ◇ sym Lexical f
+-- a Statement as the body of another; function declarations there (B.3.1, B.3.3)
+rule_of Sub f = sym Statement f ◇ sym ExprStmt f ◇ function_of function_declaration (sym BindingIdentifier f) false false f
 -- Statement (14), expression statements aside
 rule_of Statement f = sym Block f ◇ sym Empty f ◇ sym Var f ◇ sym If f ◇ sym Do f ◇ sym While f ◇ sym With f ◇ sym For f ◇ sym ForIn f ◇ sym ForOf f ◇ sym Continue f ◇ sym Break f ◇ when f.return_ (sym Return f)
     ◇ sym Throw f ◇ sym Switch f ◇ sym Try f ◇ sym Debugger f ◇ sym Labeled f
-rule_of Block f = mk block_statement (braces (many (sym ListItem f)))  -- Block (14.2)
-rule_of Empty f = mk empty_statement (tok Semicolon)  -- EmptyStatement (14.4)
+-- Block (14.2)
+rule_of Block f = mk block_statement (braces (many (sym ListItem f)))
+-- EmptyStatement (14.4)
+rule_of Empty f = mk empty_statement (tok Semicolon)
 -- ExpressionStatement (14.5), and its lookahead
 rule_of ExprStmt f = mk expression_statement (if_next (other (is_one_of (LCurly ∷ 'function' ∷ 'class' ∷ At ∷ []))) ▸ not_then (is 'async') function_on_line ▸ not_then (is 'let') (is LBrack) ▸ ended by_edge (sym Expression f))
-rule_of Var f = op variable_declaration 'var' (ended by_edge (declarators 'var' f))  -- VariableStatement (14.3.2)
-rule_of Lexical f = branches ('let' ∷ 'const' ∷ []) (λ w. op variable_declaration w (ended by_edge (declarators w f)))  -- LexicalDeclaration (14.3.1)
-rule_of Init f = tok Eq ▸ sym Assignment f  -- Initializer (13.2.5)
-rule_of If f = mk if_statement (tok 'if' ▸ parens (sym Expression f) ▸ (sym Sub f ▸ empty_slot ◇ such (at Sub f) has_else ▸ tok 'else' ▸ sym Sub f))  -- IfStatement (14.6)
-rule_of Do f = mk do_while_statement (tok 'do' ▸ sym Sub f ▸ tok 'while' ▸ parens (sym Expression f) ▸ (tok Semicolon ◇ if_next (other (is Semicolon))))  -- DoWhileStatement (14.7.2); its semicolon may always be left out (12.10)
-rule_of While f = mk while_statement (tok 'while' ▸ parens (sym Expression f) ▸ sym Sub f)  -- WhileStatement (14.7.3)
-rule_of With f = mk with_statement (tok 'with' ▸ parens (sym Expression f) ▸ sym Sub f)  -- WithStatement (14.11)
-rule_of For f = mk for_statement (tok 'for' ▸ parens (slot (sym ForInit f) ▸ tok Semicolon ▸ slot (sym Expression f) ▸ tok Semicolon ▸ slot (sym Expression f)) ▸ sym Sub f)  -- ForStatement (14.7.4)
+-- VariableStatement (14.3.2)
+rule_of Var f = op variable_declaration 'var' (ended by_edge (declarators 'var' f))
+-- LexicalDeclaration (14.3.1)
+rule_of Lexical f = branches ('let' ∷ 'const' ∷ []) (λ w. op variable_declaration w (ended by_edge (declarators w f)))
+-- Initializer (13.2.5)
+rule_of Init f = tok Eq ▸ sym Assignment f
+-- IfStatement (14.6)
+rule_of If f = mk if_statement (tok 'if' ▸ parens (sym Expression f) ▸ (sym Sub f ▸ empty_slot ◇ such (at Sub f) has_else ▸ tok 'else' ▸ sym Sub f))
+-- DoWhileStatement (14.7.2); its semicolon may always be left out (12.10)
+rule_of Do f = mk do_while_statement (tok 'do' ▸ sym Sub f ▸ tok 'while' ▸ parens (sym Expression f) ▸ (tok Semicolon ◇ if_next (other (is Semicolon))))
+-- WhileStatement (14.7.3)
+rule_of While f = mk while_statement (tok 'while' ▸ parens (sym Expression f) ▸ sym Sub f)
+-- WithStatement (14.11)
+rule_of With f = mk with_statement (tok 'with' ▸ parens (sym Expression f) ▸ sym Sub f)
+-- ForStatement (14.7.4)
+rule_of For f = mk for_statement (tok 'for' ▸ parens (slot (sym ForInit f) ▸ tok Semicolon ▸ slot (sym Expression f) ▸ tok Semicolon ▸ slot (sym Expression f)) ▸ sym Sub f)
 -- the first part of a ForStatement (14.7.4)
 rule_of ForInit f = not_then (is 'let') (word_or (LBrack ∷ LCurly ∷ [])) ▸ sym Expression (minus_in f) ◇ branches words_of_declarations (λ w. op variable_declaration w (declarators w (minus_in f)))
 -- ForInOfStatement with `in` (14.7.5, B.3.5)
@@ -182,32 +196,50 @@ rule_of ForIn f = mk for_in_statement (tok 'for' ▸ parens ((not_then (is 'let'
 -- ForInOfStatement with `of` (14.7.5)
 rule_of ForOf f = each (λ a. when (not a || f.awaits) (make for_of_statement no_op (flag a await_flag) (tok 'for' ▸ only a (tok 'await')
     ▸ parens ((if_next (other (is 'let')) ▸ cond a nothing (not_then (is 'async') (is 'of')) ▸ sym Target f ◇ for_binding f) ▸ tok 'of' ▸ sym Assignment f) ▸ sym Sub f)))
-rule_of Continue f = mk continue_statement (ended by_edge (tok 'continue' ▸ slot (no_newline ▸ sym LabelIdentifier f)))  -- ContinueStatement (14.8)
-rule_of Break f = mk break_statement (ended by_edge (tok 'break' ▸ slot (no_newline ▸ sym LabelIdentifier f)))  -- BreakStatement (14.9)
-rule_of Return f = mk return_statement (ended by_edge (tok 'return' ▸ slot (no_newline ▸ sym Expression f)))  -- ReturnStatement (14.10)
-rule_of Throw f = mk throw_statement (ended by_edge (tok 'throw' ▸ no_newline ▸ sym Expression f))  -- ThrowStatement (14.14)
+-- ContinueStatement (14.8)
+rule_of Continue f = mk continue_statement (ended by_edge (tok 'continue' ▸ slot (no_newline ▸ sym LabelIdentifier f)))
+-- BreakStatement (14.9)
+rule_of Break f = mk break_statement (ended by_edge (tok 'break' ▸ slot (no_newline ▸ sym LabelIdentifier f)))
+-- ReturnStatement (14.10)
+rule_of Return f = mk return_statement (ended by_edge (tok 'return' ▸ slot (no_newline ▸ sym Expression f)))
+-- ThrowStatement (14.14)
+rule_of Throw f = mk throw_statement (ended by_edge (tok 'throw' ▸ no_newline ▸ sym Expression f))
 -- SwitchStatement, and its CaseBlock with one DefaultClause at the most (14.12)
 rule_of Switch f = mk switch_statement (tok 'switch' ▸ parens (sym Expression f) ▸ braces (many (sym Case f) ▸ opt (mk switch_case (tok 'default' ▸ empty_slot ▸ tok Colon ▸ many (sym ListItem f)) ▸ many (sym Case f))))
-rule_of Case f = mk switch_case (tok 'case' ▸ sym Expression f ▸ tok Colon ▸ many (sym ListItem f))  -- CaseClause (14.12)
-rule_of Try f = mk try_statement (tok 'try' ▸ sym Block f ▸ (sym Catch f ▸ slot (tok 'finally' ▸ sym Block f) ◇ empty_slot ▸ tok 'finally' ▸ sym Block f))  -- TryStatement, with a Catch or a Finally (14.15)
-rule_of Catch f = mk catch_clause (tok 'catch' ▸ slot (parens (mk catch_parameter (sym Binding f))) ▸ sym Block f)  -- Catch (14.15)
-rule_of Debugger f = mk debugger_statement (ended by_edge (tok 'debugger'))  -- DebuggerStatement (14.16)
-rule_of Labeled f = mk labeled_statement (sym LabelIdentifier f ▸ tok Colon ▸ sym Sub f)  -- LabelledStatement (14.13)
+-- CaseClause (14.12)
+rule_of Case f = mk switch_case (tok 'case' ▸ sym Expression f ▸ tok Colon ▸ many (sym ListItem f))
+-- TryStatement, with a Catch or a Finally (14.15)
+rule_of Try f = mk try_statement (tok 'try' ▸ sym Block f ▸ (sym Catch f ▸ slot (tok 'finally' ▸ sym Block f) ◇ empty_slot ▸ tok 'finally' ▸ sym Block f))
+-- Catch (14.15)
+rule_of Catch f = mk catch_clause (tok 'catch' ▸ slot (parens (mk catch_parameter (sym Binding f))) ▸ sym Block f)
+-- DebuggerStatement (14.16)
+rule_of Debugger f = mk debugger_statement (ended by_edge (tok 'debugger'))
+-- LabelledStatement (14.13)
+rule_of Labeled f = mk labeled_statement (sym LabelIdentifier f ▸ tok Colon ▸ sym Sub f)
 -- Functions, classes, objects.
-rule_of Function f = any_function function_declaration (λ g. sym BindingIdentifier f) f  -- FunctionDeclaration (15.2), GeneratorDeclaration (15.5), AsyncGeneratorDeclaration (15.6), AsyncFunctionDeclaration (15.8)
-rule_of FuncExpr f = any_function function_expression (λ g. slot (sym BindingIdentifier g)) f  -- FunctionExpression and its kin (15.2, 15.5, 15.6, 15.8): the name has the Yield and Await of the function
-rule_of Params f = mk formal_parameters (parens (items never (sym Param f) (rest_of f (sym Rest f))))  -- FormalParameters (15.1)
-rule_of Param f = mk formal_parameter (sym Binding f ▸ slot (sym Init (plus_in f)))  -- FormalParameter (15.1)
-rule_of Rest f = mk formal_parameter_rest (sym BindingRest f)  -- FunctionRestParameter (15.1)
-rule_of Body f = mk function_body (braces (directives_then ListItem f))  -- FunctionBody (15.2)
+-- FunctionDeclaration (15.2), GeneratorDeclaration (15.5), AsyncGeneratorDeclaration (15.6), AsyncFunctionDeclaration (15.8)
+rule_of Function f = any_function function_declaration (λ g. sym BindingIdentifier f) f
+-- FunctionExpression and its kin (15.2, 15.5, 15.6, 15.8): the name has the Yield and Await of the function
+rule_of FuncExpr f = any_function function_expression (λ g. slot (sym BindingIdentifier g)) f
+-- FormalParameters (15.1)
+rule_of Params f = mk formal_parameters (parens (items never (sym Param f) (rest_of f (sym Rest f))))
+-- FormalParameter (15.1)
+rule_of Param f = mk formal_parameter (sym Binding f ▸ slot (sym Init (plus_in f)))
+-- FunctionRestParameter (15.1)
+rule_of Rest f = mk formal_parameter_rest (sym BindingRest f)
+-- FunctionBody (15.2)
+rule_of Body f = mk function_body (braces (directives_then ListItem f))
 -- ArrowFunction (15.3), AsyncArrowFunction (15.9); in the parameters of an asynchronous one `await` is no name, and an operator only where it is one around
 rule_of Arrow' f = each (λ a. let p = record f { await_ = f.await_ || a } in let b = record f { yield_ = false; await_ = a; awaits = a } in
     make arrow_function_expression no_op (flag a async_flag) (only a (tok 'async' ▸ no_newline)
     ▸ (mk formal_parameters (mk formal_parameter (sym BindingIdentifier p ▸ empty_slot)) ◇ sym Params p) ▸ no_newline ▸ tok Arrow
     ▸ (sym Body (record b { in_ = true; return_ = true }) ◇ if_next (other (is LCurly)) ▸ sym Assignment b)))
-rule_of Class f = class_of class_declaration (sym BindingIdentifier f) f  -- ClassDeclaration (15.7), with decorators (of their proposal)
-rule_of ClassExpr f = class_of class_expression (slot (sym BindingIdentifier f)) f  -- ClassExpression (15.7)
-rule_of ClassBody f = mk class_body (braces (many (sym Element f ◇ tok Semicolon)))  -- ClassBody (15.7)
+-- ClassDeclaration (15.7), with decorators (of their proposal)
+rule_of Class f = class_of class_declaration (sym BindingIdentifier f) f
+-- ClassExpression (15.7)
+rule_of ClassExpr f = class_of class_expression (slot (sym BindingIdentifier f)) f
+-- ClassBody (15.7)
+rule_of ClassBody f = mk class_body (braces (many (sym Element f ◇ tok Semicolon)))
 -- ClassElement (15.7), and `accessor` (of the proposal of decorators)
 rule_of Element f = each (λ st. each (λ c. element method_definition method_op st c f (plain_method (cond (st || c) nothing not_constructor) c true f)
     ◇ element method_definition (of 'get') st c f (getter c true f) ◇ element method_definition (of 'set') st c f (setter c true f)
@@ -215,10 +247,12 @@ rule_of Element f = each (λ st. each (λ c. element method_definition method_op
     ◇ element accessor_property no_op st c f (tok 'accessor' ▸ no_newline ▸ field c false false f)))
     ◇ element method_definition constructor_op false false f (plain_method named_constructor false true f)
     ◇ mk static_block (tok 'static' ▸ braces (many (sym ListItem (static_of f))))
-rule_of Decorator f = mk decorator (tok At ▸ (sym DecoratorMember f ◇ mk call_expression (sym DecoratorMember f ▸ args f) ◇ paren_expression f))  -- Decorator (of the proposal Decorators; no section of ECMA-262)
+-- Decorator (of the proposal Decorators; no section of ECMA-262)
+rule_of Decorator f = mk decorator (tok At ▸ (sym DecoratorMember f ◇ mk call_expression (sym DecoratorMember f ▸ args f) ◇ paren_expression f))
 -- DecoratorMemberExpression (of the proposal)
 rule_of DecoratorMember f = sym IdentifierReference f ◇ mk static_member_expression (sym DecoratorMember f ▸ tok Dot ▸ sym IdentifierName f) ◇ mk private_field_expression (sym DecoratorMember f ▸ tok Dot ▸ sym PrivateName f)
-rule_of Object f = mk object_expression (braces (opt (commas true (sym Property f))))  -- ObjectLiteral (13.2.5)
+-- ObjectLiteral (13.2.5)
+rule_of Object f = mk object_expression (braces (opt (commas true (sym Property f))))
 -- PropertyDefinition (13.2.5); the initialiser of a shorthand makes a CoverInitializedName: a third child, which no valid tree has
 rule_of Property f = make object_property init shorthand_flag (ahead (sym IdentifierName f) ▸ sym IdentifierReference f ▸ opt (when f.cover (sym Init (plus_in f))))
     ◇ each (λ c. make object_property init (flag c computed_flag) (name c false f ▸ tok Colon ▸ sym Assignment (plus_in f))
@@ -226,44 +260,65 @@ rule_of Property f = make object_property init shorthand_flag (ahead (sym Identi
     ◇ make object_property (of 'get') (flag c computed_flag) (getter c false f) ◇ make object_property (of 'set') (flag c computed_flag) (setter c false f))
     ◇ mk spread_element (tok Dot3 ▸ sym Assignment (plus_in f))
 -- Expressions.
-rule_of Expression f = sym Assignment f ◇ mk sequence_expression (sym Assignment f ▸ tok Comma ▸ commas false (sym Assignment f))  -- Expression (13.16)
+-- Expression (13.16)
+rule_of Expression f = sym Assignment f ◇ mk sequence_expression (sym Assignment f ▸ tok Comma ▸ commas false (sym Assignment f))
 -- AssignmentExpression (13.15)
 rule_of Assignment f = sym Conditional f ◇ sym Arrow' f ◇ when f.yield_ (sym Yield f)
     ◇ branches assign_operators (λ o. op assignment_expression o (sym SimpleTarget f ▸ tok o ▸ sym Assignment f))
     ◇ op assignment_expression Eq ((sym ArrayTarget f ◇ sym ObjectTarget f) ▸ tok Eq ▸ sym Assignment f)
-rule_of Yield f = mk yield_expression (tok 'yield' ▸ slot (no_newline ▸ sym Assignment f)) ◇ make yield_expression no_op delegate_flag (tok 'yield' ▸ no_newline ▸ tok Star ▸ sym Assignment f)  -- YieldExpression (15.5)
-rule_of Conditional f = sym Short f ◇ mk conditional_expression (sym Short f ▸ tok Question ▸ sym Assignment (plus_in f) ▸ tok Colon ▸ sym Assignment f)  -- ConditionalExpression (13.14)
-rule_of Short f = sym Or f ◇ sym Coalesce f  -- ShortCircuitExpression (13.13)
-rule_of Coalesce f = op logical_expression Question2 ((sym Coalesce f ◇ sym BitOr f) ▸ tok Question2 ▸ sym BitOr f)  -- CoalesceExpression (13.13)
-rule_of Or f = level Or And (Pipe2 ∷ []) logical_expression f  -- LogicalORExpression (13.13)
-rule_of And f = level And BitOr (Amp2 ∷ []) logical_expression f  -- LogicalANDExpression (13.13)
-rule_of BitOr f = level BitOr BitXor (Pipe ∷ []) binary_expression f  -- BitwiseORExpression (13.12)
-rule_of BitXor f = level BitXor BitAnd (Caret ∷ []) binary_expression f  -- BitwiseXORExpression (13.12)
-rule_of BitAnd f = level BitAnd Equality (Amp ∷ []) binary_expression f  -- BitwiseANDExpression (13.12)
-rule_of Equality f = level Equality Relational (Eq2 ∷ Neq ∷ Eq3 ∷ Neq2 ∷ []) binary_expression f  -- EqualityExpression (13.11)
+-- YieldExpression (15.5)
+rule_of Yield f = mk yield_expression (tok 'yield' ▸ slot (no_newline ▸ sym Assignment f)) ◇ make yield_expression no_op delegate_flag (tok 'yield' ▸ no_newline ▸ tok Star ▸ sym Assignment f)
+-- ConditionalExpression (13.14)
+rule_of Conditional f = sym Short f ◇ mk conditional_expression (sym Short f ▸ tok Question ▸ sym Assignment (plus_in f) ▸ tok Colon ▸ sym Assignment f)
+-- ShortCircuitExpression (13.13)
+rule_of Short f = sym Or f ◇ sym Coalesce f
+-- CoalesceExpression (13.13)
+rule_of Coalesce f = op logical_expression Question2 ((sym Coalesce f ◇ sym BitOr f) ▸ tok Question2 ▸ sym BitOr f)
+-- LogicalORExpression (13.13)
+rule_of Or f = level Or And (Pipe2 ∷ []) logical_expression f
+-- LogicalANDExpression (13.13)
+rule_of And f = level And BitOr (Amp2 ∷ []) logical_expression f
+-- BitwiseORExpression (13.12)
+rule_of BitOr f = level BitOr BitXor (Pipe ∷ []) binary_expression f
+-- BitwiseXORExpression (13.12)
+rule_of BitXor f = level BitXor BitAnd (Caret ∷ []) binary_expression f
+-- BitwiseANDExpression (13.12)
+rule_of BitAnd f = level BitAnd Equality (Amp ∷ []) binary_expression f
+-- EqualityExpression (13.11)
+rule_of Equality f = level Equality Relational (Eq2 ∷ Neq ∷ Eq3 ∷ Neq2 ∷ []) binary_expression f
 -- RelationalExpression (13.10)
 rule_of Relational f = level Relational Shift (LAngle ∷ RAngle ∷ LtEq ∷ GtEq ∷ 'instanceof' ∷ []) binary_expression f
     ◇ when f.in_ (op binary_expression 'in' (sym Relational f ▸ tok 'in' ▸ sym Shift f) ◇ op private_in_expression 'in' (sym PrivateName f ▸ tok 'in' ▸ sym Shift f))
-rule_of Shift f = level Shift Additive (ShiftLeft ∷ ShiftRight ∷ ShiftRight3 ∷ []) binary_expression f  -- ShiftExpression (13.9)
-rule_of Additive f = level Additive Multiply (Plus ∷ Minus ∷ []) binary_expression f  -- AdditiveExpression (13.8)
-rule_of Multiply f = level Multiply Exponent (Star ∷ Slash ∷ Percent ∷ []) binary_expression f  -- MultiplicativeExpression (13.7)
-rule_of Exponent f = sym Unary f ◇ op binary_expression Star2 (sym Update f ▸ tok Star2 ▸ sym Exponent f)  -- ExponentiationExpression (13.6)
+-- ShiftExpression (13.9)
+rule_of Shift f = level Shift Additive (ShiftLeft ∷ ShiftRight ∷ ShiftRight3 ∷ []) binary_expression f
+-- AdditiveExpression (13.8)
+rule_of Additive f = level Additive Multiply (Plus ∷ Minus ∷ []) binary_expression f
+-- MultiplicativeExpression (13.7)
+rule_of Multiply f = level Multiply Exponent (Star ∷ Slash ∷ Percent ∷ []) binary_expression f
+-- ExponentiationExpression (13.6)
+rule_of Exponent f = sym Unary f ◇ op binary_expression Star2 (sym Update f ▸ tok Star2 ▸ sym Exponent f)
 -- UnaryExpression (13.5), AwaitExpression (15.8)
 rule_of Unary f = sym Update f ◇ branches (Minus ∷ Plus ∷ Bang ∷ Tilde ∷ 'typeof' ∷ 'void' ∷ 'delete' ∷ []) (λ o. op unary_expression o (tok o ▸ sym Unary f)) ◇ when f.awaits (mk await_expression (tok 'await' ▸ sym Unary f))
 -- UpdateExpression (13.4)
 rule_of Update f = sym LeftHandSide f ◇ branches (Plus2 ∷ Minus2 ∷ []) (λ o. op update_expression o (sym SimpleTarget f ▸ no_newline ▸ tok o) ◇ make update_expression (of o) prefix_flag (tok o ▸ sym SimpleTarget f))
-rule_of LeftHandSide f = sym New f ◇ sym Call f ◇ sym Chain f  -- LeftHandSideExpression (13.3)
-rule_of New f = sym Member f ◇ mk new_expression (tok 'new' ▸ sym New f)  -- NewExpression (13.3)
+-- LeftHandSideExpression (13.3)
+rule_of LeftHandSide f = sym New f ◇ sym Call f ◇ sym Chain f
+-- NewExpression (13.3)
+rule_of New f = sym Member f ◇ mk new_expression (tok 'new' ▸ sym New f)
 -- MemberExpression (13.3), with SuperProperty and NewTarget
 rule_of Member f = sym Primary f ◇ mk new_expression (tok 'new' ▸ sym Member f ▸ args f) ◇ member_access f ◇ mk tagged_template_expression (sym Member f ▸ sym Template f)
     ◇ when f.new_target (mk new_target_expression (tok 'new' ▸ tok Dot ▸ tok 'target'))
 -- CallExpression (13.3), with SuperCall
 rule_of Call f = mk call_expression ((sym Member f ◇ sym Super f ◇ sym Call f) ▸ args f)
     ◇ call_access f ◇ mk tagged_template_expression (sym Call f ▸ sym Template f)
-rule_of Chain f = mk chain_expression (sym Links f)  -- OptionalExpression (13.3)
-rule_of Links f = optional_link (sym Member f ◇ sym Call f ◇ sym Links f) f ◇ access (sym Links f) (sym Links f) f ◇ mk call_expression (sym Links f ▸ args f)  -- OptionalChain (13.3), with what it hangs on
-rule_of Super f = mk super_expression (tok 'super')  -- the word `super` of SuperProperty and SuperCall (13.3)
-rule_of Argument f = sym Assignment (plus_in f) ◇ mk spread_element (tok Dot3 ▸ sym Assignment (plus_in f))  -- ArgumentList (13.3)
+-- OptionalExpression (13.3)
+rule_of Chain f = mk chain_expression (sym Links f)
+-- OptionalChain (13.3), with what it hangs on
+rule_of Links f = optional_link (sym Member f ◇ sym Call f ◇ sym Links f) f ◇ access (sym Links f) (sym Links f) f ◇ mk call_expression (sym Links f ▸ args f)
+-- the word `super` of SuperProperty and SuperCall (13.3)
+rule_of Super f = mk super_expression (tok 'super')
+-- ArgumentList (13.3)
+rule_of Argument f = sym Assignment (plus_in f) ◇ mk spread_element (tok Dot3 ▸ sym Assignment (plus_in f))
 -- PrimaryExpression (13.2), with ArrayLiteral (13.2.4) and a call of V8
 rule_of Primary f = mk this_expression (tok 'this') ◇ sym IdentifierReference f ◇ mk null_literal (tok 'null') ◇ mk boolean_literal (any_of ('true' ∷ 'false' ∷ [])) ◇ number ◇ string
     ◇ sym Object f ◇ sym FuncExpr f ◇ mk reg_exp_literal (tok RegExp) ◇ sym Template f
@@ -280,9 +335,12 @@ rule_of LabelIdentifier f = identifier label_identifier f
 rule_of IdentifierName f = mk identifier_name (lexeme (λ k w e. is_word k))
 rule_of PrivateName f = mk private_identifier (lexeme (λ k w e. same_kind PrivateIdentifier k))
 -- Targets and bindings.
-rule_of Target f = sym SimpleTarget f ◇ sym ArrayTarget f ◇ sym ObjectTarget f  -- DestructuringAssignmentTarget (13.15.5)
-rule_of SimpleTarget f = sym IdentifierReference f ◇ member_access f ◇ call_access f ◇ parens (sym SimpleTarget f)  -- an expression whose AssignmentTargetType is simple (8.6.4); parentheses have no node
-rule_of ArrayTarget f = mk array_assignment_target (tok LBrack ▸ items (empty_slot ▸ tok Comma) (sym TargetElement f) (rest_of f (mk assignment_target_rest (tok Dot3 ▸ sym Target f))) ▸ tok RBrack)  -- ArrayAssignmentPattern (13.15.5)
+-- DestructuringAssignmentTarget (13.15.5)
+rule_of Target f = sym SimpleTarget f ◇ sym ArrayTarget f ◇ sym ObjectTarget f
+-- an expression whose AssignmentTargetType is simple (8.6.4); parentheses have no node
+rule_of SimpleTarget f = sym IdentifierReference f ◇ member_access f ◇ call_access f ◇ parens (sym SimpleTarget f)
+-- ArrayAssignmentPattern (13.15.5)
+rule_of ArrayTarget f = mk array_assignment_target (tok LBrack ▸ items (empty_slot ▸ tok Comma) (sym TargetElement f) (rest_of f (mk assignment_target_rest (tok Dot3 ▸ sym Target f))) ▸ tok RBrack)
 -- AssignmentElement (13.15.5)
 rule_of TargetElement f = sym Target f ◇ mk assignment_target_with_default (sym Target f ▸ tok Eq ▸ sym Assignment (plus_in f))
     ◇ when f.wide (branches other_operators (λ o. mk assignment_target_with_default (sym SimpleTarget f ▸ tok o ▸ sym Assignment (plus_in f))))
@@ -291,25 +349,32 @@ rule_of ObjectTarget f = mk object_assignment_target (braces (items never (sym T
 -- AssignmentProperty (13.15.5)
 rule_of TargetProperty f = mk assignment_target_property_identifier (sym IdentifierReference f ▸ slot (sym Init (plus_in f)))
     ◇ each (λ c. make assignment_target_property_property no_op (flag c computed_flag) (name c false f ▸ tok Colon ▸ sym TargetElement f))
-rule_of Binding f = sym BindingIdentifier f ◇ sym Pattern f  -- BindingIdentifier and BindingPattern (14.3.3)
-rule_of BElement f = sym Binding f ◇ mk assignment_pattern (sym Binding f ▸ tok Eq ▸ sym Assignment (plus_in f))  -- BindingElement (14.3.3)
+-- BindingIdentifier and BindingPattern (14.3.3)
+rule_of Binding f = sym BindingIdentifier f ◇ sym Pattern f
+-- BindingElement (14.3.3)
+rule_of BElement f = sym Binding f ◇ mk assignment_pattern (sym Binding f ▸ tok Eq ▸ sym Assignment (plus_in f))
 -- ArrayBindingPattern, ObjectBindingPattern (14.3.3)
 rule_of Pattern f = mk array_pattern (tok LBrack ▸ items (empty_slot ▸ tok Comma) (sym BElement f) (rest_of f (sym BindingRest f)) ▸ tok RBrack)
     ◇ mk object_pattern (braces (items never (sym PatternProperty f) (rest_of f (bound_rest f (sym BindingIdentifier f)))))
 -- BindingProperty (14.3.3)
 rule_of PatternProperty f = make binding_property no_op shorthand_flag (ahead (sym IdentifierName f) ▸ (sym BindingIdentifier f ◇ mk assignment_pattern (sym BindingIdentifier f ▸ sym Init (plus_in f))))
     ◇ each (λ c. make binding_property no_op (flag c computed_flag) (name c false f ▸ tok Colon ▸ sym BElement f))
-rule_of BindingRest f = bound_rest f (sym Binding f)  -- BindingRestElement (14.3.3)
+-- BindingRestElement (14.3.3)
+rule_of BindingRest f = bound_rest f (sym Binding f)
 -- Modules.
-rule_of ImportDecl f = make import_declaration no_op bare_flag (tok 'import' ▸ source f) ◇ mk import_declaration (tok 'import' ▸ keep (import_clause f) (tok 'from' ▸ source f ▸ kept))  -- ImportDeclaration (16.2.2)
-rule_of Spec f = mk import_specifier (ahead (sym IdentifierName f) ▸ sym BindingIdentifier f ◇ sym ExportName f ▸ tok 'as' ▸ sym BindingIdentifier f)  -- ImportSpecifier (16.2.2)
-rule_of ExportName f = sym IdentifierName f ◇ text (well_formed false) ▸ string  -- ModuleExportName (16.2.2)
+-- ImportDeclaration (16.2.2)
+rule_of ImportDecl f = make import_declaration no_op bare_flag (tok 'import' ▸ source f) ◇ mk import_declaration (tok 'import' ▸ keep (import_clause f) (tok 'from' ▸ source f ▸ kept))
+-- ImportSpecifier (16.2.2)
+rule_of Spec f = mk import_specifier (ahead (sym IdentifierName f) ▸ sym BindingIdentifier f ◇ sym ExportName f ▸ tok 'as' ▸ sym BindingIdentifier f)
+-- ModuleExportName (16.2.2)
+rule_of ExportName f = sym IdentifierName f ◇ text (well_formed false) ▸ string
 -- WithClause (16.2.2), and its older form with `assert` on the same line
 rule_of Attrs f = (tok 'with' ▸ op with_clause 'with' entries) ◇ no_newline ▸ tok 'assert' ▸ op with_clause 'assert' entries
   where
     entries : G
     entries = braces (opt (commas true (sym Attr f)))
-rule_of Attr f = mk import_attribute ((sym IdentifierName f ◇ string) ▸ tok Colon ▸ string)  -- WithEntries (16.2.2)
+-- WithEntries (16.2.2)
+rule_of Attr f = mk import_attribute ((sym IdentifierName f ◇ string) ▸ tok Colon ▸ string)
 -- ExportDeclaration (16.2.3)
 rule_of ExportDecl f = mk export_all_declaration (tok 'export' ▸ tok Star ▸ slot (tok 'as' ▸ sym ExportName f) ▸ tok 'from' ▸ source f)
     ◇ mk export_from_declaration (tok 'export' ▸ keep (export_list (sym ExportName f) f) (tok 'from' ▸ source f ▸ kept))
