@@ -6,6 +6,3 @@ pub mod laws;
 mod node;
 
 pub use export::{MAX_LEVELS, tree_json};
-
-#[cfg(test)]
-mod tests;

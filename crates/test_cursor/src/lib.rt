@@ -1,5 +1,0 @@
-//! Tests of the moves over lexemes, by their public calls.
-#![tactic(auto)]
-
-#[cfg(test)]
-mod cursor;
