@@ -7,5 +7,6 @@ pub mod graphs;
 pub mod lexing;
 pub mod nodes;
 pub mod parsing;
+pub mod productions;
 pub mod records;
 pub mod running;
