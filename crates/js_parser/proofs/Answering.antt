@@ -28,7 +28,7 @@ use Rattle.js_core.proofs.Lists.{first_empty}
 use Rattle.js_core.specs.Readings.{HasNoReading, HasNoReadingBy, IsOnlyReadingBy, AreOf}
 use Rattle.js_parser.specs.Broken.{told_in}
 use Rattle.js_parser.specs.declared.early.Position.TheVariants.{Anywhere}
-use Rattle.js_parser.specs.FaultsTold.{EndsAt, is_stopped_by_fault, without_last}
+use Rattle.js_parser.specs.FaultsTold.{AreBesideFatal, EndsAt}
 use Rattle.js_cursor.specs.Stages.{stage}
 use Rattle.js_parser.specs.Leftover.{leftover, with_leftover}
 use Rattle.js_parser.specs.NodeSpans.{SlotsLie}
@@ -155,6 +155,8 @@ taken_answer {text} {s} {o} {asks} {p} {ids} span nodes out kept early covers w 
       stop = stage p;
       came = h.came;
       whole = λ q. h.last;
+      faults = p.lexer.kept.errors;
+      told = refl;
       errors = z;
       comments = ap (λ (x : LexerOutput). x.comments) e ∙ ap (λ (x : LexerOutput). x.comments) w;
       blanks = ap (λ (x : LexerOutput). x.irregular_whitespaces) e ∙ ap (λ (x : LexerOutput). x.irregular_whitespaces) w;
@@ -252,13 +254,8 @@ childless {nodes} {ids} ns span z e = subst (λ (ms : List Node). IsTree ms (pro
   children = HoldsAll-none (with_program (program_node span []) ns) 1 (length (with_program (program_node span []) ns)) (omega arith);
 })
 
--- what holds of all holds of all but the last
-all_without_last : (P : Diagnostic → Type 0) (b : Bool) (ds : List Diagnostic) → All P ds → All P (without_last b ds)
-all_without_last P true ds h = All-take P (length ds - 1) ds h
-all_without_last P false ds h = h
-
-pub refused_answer : {text : List ℕ} {s : SourceType} {o : ParseOptions} {p : Parser} {ids : List (Option NodeId)} (ns : List Node) (span : Span) (nodes : List Node) (faults_told : List Diagnostic) (out kept : LexerOutput) (b : Bool) → b ≡ is_stopped_by_fault (stage p) p.errors → kept ≡ p.lexer.kept → span.start ≡ 0 → span.end ≡ length p.text → faults_told ≡ without_last b p.lexer.kept.errors → ids ≡ [] → nodes ≡ with_program (program_node span ids) ns → ns ≡ p.nodes → out ≡ record kept { tokens = []; errors = faults_told ++ p.errors } → LieIn p.lexer.text kept → ProgramRefused text s o p → IsAnswer text (goal_of s) (options_of o) nodes out true
-refused_answer {text} {s} {o} {p} {ids} ns span nodes told out kept f g w a b k z t same e l h = record {
+pub refused_answer : {text : List ℕ} {s : SourceType} {o : ParseOptions} {p : Parser} {ids : List (Option NodeId)} (ns : List Node) (span : Span) (nodes : List Node) (faults_told : List Diagnostic) (out kept : LexerOutput) → kept ≡ p.lexer.kept → span.start ≡ 0 → span.end ≡ length p.text → AreBesideFatal p.lexer.kept.errors p.errors faults_told → (count : ℕ) × (faults_told ≡ take count p.lexer.kept.errors) → ids ≡ [] → nodes ≡ with_program (program_node span ids) ns → ns ≡ p.nodes → out ≡ record kept { tokens = []; errors = faults_told ++ p.errors } → LieIn p.lexer.text kept → ProgramRefused text s o p → IsAnswer text (goal_of s) (options_of o) nodes out true
+refused_answer {text} {s} {o} {p} {ids} ns span nodes told out kept w a b k front z t same e l h = record {
   told = told_all h.is_of told out.errors (ap (λ (x : LexerOutput). x.errors) e) are_faults;
   lie = lies h.is_of (record kept { tokens = [] }) out told e (record { comments = l.comments; irregular_whitespaces = l.irregular_whitespaces; tokens = All-nil (λ (d : Token). LiesIn d.span p.lexer.text); errors = l.errors }) are_faults;
   tree = program_tree (record { start = 0; end = length text }) end;
@@ -278,7 +275,9 @@ refused_answer {text} {s} {o} {p} {ids} ns span nodes told out kept f g w a b k 
     stop = stage p;
     came = h.came;
     whole = λ q. absurd (false≢true (sym q));
-    errors = ap (λ (x : LexerOutput). x.errors) e ∙ ap (λ (v : List Diagnostic). v ++ p.errors) (k ∙ ap (λ (c : Bool). without_last c p.lexer.kept.errors) g);
+    faults = told;
+    told = k;
+    errors = ap (λ (x : LexerOutput). x.errors) e;
     comments = ap (λ (x : LexerOutput). x.comments) e ∙ ap (λ (x : LexerOutput). x.comments) w;
     blanks = ap (λ (x : LexerOutput). x.irregular_whitespaces) e ∙ ap (λ (x : LexerOutput). x.irregular_whitespaces) w;
   };
@@ -289,7 +288,7 @@ refused_answer {text} {s} {o} {p} {ids} ns span nodes told out kept f g w a b k 
     whole = record { ordered = omega arith; starts_whole = IsCharBoundary-start text (characters h.is_of); ends_whole = IsCharBoundary-end text }
 
     are_faults : All (IsFault (goal_of s) text) told
-    are_faults = subst (λ (ds : List Diagnostic). All (IsFault (goal_of s) text) ds) (sym k) (all_without_last (IsFault (goal_of s) text) f p.lexer.kept.errors (faults h.is_of))
+    are_faults = subst (λ (ds : List Diagnostic). All (IsFault (goal_of s) text) ds) (sym front.1) (All-take (IsFault (goal_of s) text) front.0 p.lexer.kept.errors (faults h.is_of))
 
     some : out.errors ≡ [] → ⊥
     some y = h.some (ending told p.errors (sym (ap (λ (x : LexerOutput). x.errors) e) ∙ y))

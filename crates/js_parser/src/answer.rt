@@ -1,14 +1,14 @@
 //! What a parse answers.
 
-ghost use Rattle.std.specs.Prelude.{ℕ, ◌≡◌, ◌++◌, Bool, false, true, List, [], IfOk, OnOk};
+ghost use Rattle.std.specs.Prelude.{ℕ, ◌≡◌, ◌++◌, ◌↔◌, Bool, false, List, [], take, IfOk, IsTrue, OnOk};
+ghost use Rattle.js_base.specs.declared.diagnostic.Diagnostic.{Diagnostic};
 ghost use Rattle.js_base.specs.declared.options.ParseOptions.{ParseOptions};
 ghost use Rattle.js_base.specs.declared.source_type.SourceType.{SourceType};
 ghost use Rattle.js_cursor.specs.Places.{IsAt};
-ghost use Rattle.js_cursor.specs.Stages.{stage};
 ghost use Rattle.js_grammar.specs.ModuleRecords.{record_of_parts};
 ghost use Rattle.js_cursor.specs.js_lex.States.{goal_of};
 ghost use Rattle.js_core.specs.laws_shared.States.{NodesLie};
-ghost use Rattle.js_parser.specs.FaultsTold.{ends_in_fault, is_stopped_by_fault, told_at_stop, without_last};
+ghost use Rattle.js_parser.specs.FaultsTold.{AreAlike, AreBesideFatal, last_of};
 ghost use Rattle.js_core.specs.Kept.{KeepsRight};
 ghost use Rattle.js_parser.specs.Leftover.{told_at, with_leftover};
 ghost use Rattle.js_parser.specs.Parsed.{options_of, IsAnswer, IsOverlong, output_of};
@@ -16,8 +16,7 @@ ghost use Rattle.js_core.specs.Taken.{ProgramTaken, ProgramRefused};
 
 use crate::early::early_errors;
 use js_base::{
-    Diagnostic, DiagnosticClass, DiagnosticKind, Diagnostics, Kind, NoMemory, SourceType, Span,
-    Spans, Tokens,
+    Diagnostic, DiagnosticKind, Diagnostics, NoMemory, SourceType, Span, Spans, Tokens,
 };
 use js_core::{RuntimeParser, parse_program};
 use js_cursor::Comments;
@@ -98,17 +97,16 @@ pub fn refused(source_type: SourceType, p: RuntimeParser<'_>) -> Result<ParserRe
     requires { IsAt p }
     ensures answer { IfOk result (λ r. (text : List ℕ) (s : SourceType) (o : ParseOptions) → ProgramRefused text s o p.entry → IsAnswer text (goal_of s) (options_of o) r.program.tree (output_of r) r.fatal_error) }
     ensures kept { IfOk result (λ r. (text : List ℕ) (s : SourceType) (o : ParseOptions) (asks : Bool) → ProgramRefused text s o p.entry → KeepsRight text (goal_of s) (options_of o) asks (output_of r)) }
-    ensures told { IfOk result (λ r. r.diagnostics ≡ told_at_stop true (stage p.entry) p.entry.errors) }
+    ensures told { IfOk result (λ r. (told : List Diagnostic) × AreBesideFatal p.entry.lexer.kept.errors p.entry.errors told × (r.diagnostics ≡ told ++ p.entry.errors)) }
     ensures no_flow { IfOk result (λ r. r.is_flow_language ≡ false) }
     ensures source_type { IfOk result (λ r. r.program.source_type ≡ source_type) }
 {
     let alloc = p.alloc;
     let span = Span::new(0, p.source_text.len() as u32);
-    let tells_fault = is_stopped_by_fault(&p);
     let parts = p.into_parts();
     let kept = parts.lexer.finish();
     let tree = parts.ast.finish(span, Vec::new(alloc))?;
-    let faults = without_last(tells_fault, kept.errors);
+    let faults = beside_fatal(kept.errors, &parts.errors);
     let diagnostics = joined(faults, parts.errors)?;
     let (module_record, _) = parts.module_record_builder.build()?;
     Ok(ParserReturn {
@@ -159,34 +157,36 @@ pub fn overlong(alloc: Global, source_type: SourceType) -> Result<ParserReturn, 
     })
 }
 
-/// Whether the fatal diagnostic is the fault of what stands there, where no lexeme does.
-fn is_stopped_by_fault(p: &RuntimeParser<'_>) -> bool
-    ensures { result ≡ is_stopped_by_fault (stage p.now) p.now.errors }
-{
-    p.at(Kind::Undetermined) && ends_in_fault(&p.errors)
-}
-
-/// Whether the last diagnostic is a fault of lexemes.
-fn ends_in_fault(found: &Diagnostics) -> bool
-    ensures { result ≡ ends_in_fault found.now }
-{
-    let count = found.len();
-    if count == 0 {
-        return false;
-    }
-    matches!(found[count - 1].kind.class(), DiagnosticClass::Lexical)
-}
-
-/// The faults that are told beside a fatal diagnostic: without the last one, where that is the fatal one itself.
-fn without_last(tells_fault: bool, faults: Diagnostics) -> Diagnostics
-    ensures { result ≡ without_last tells_fault faults }
+/// The faults that are told beside a fatal diagnostic, which was found last: without the one that it is itself.
+fn beside_fatal(faults: Diagnostics, found: &Diagnostics) -> Diagnostics
+    ensures beside { AreBesideFatal faults found.now result }
+    ensures front { (count : ℕ) × (result ≡ take count faults) }
 {
     let mut faults = faults;
-    let count = faults.len();
-    if tells_fault && count > 0 {
-        faults.truncate(count - 1);
+    if are_alike(last_of(&faults), last_of(found)) {
+        faults.truncate(faults.len() - 1);
     }
     faults
+}
+
+/// Whether they are one and the same: a kind at a span.
+fn are_alike(fault: Option<Diagnostic>, found: Option<Diagnostic>) -> bool
+    ensures { IsTrue result ↔ AreAlike fault found }
+{
+    match (fault, found) {
+        (Some(fault), Some(found)) => fault.kind == found.kind && fault.span == found.span,
+        _ => false,
+    }
+}
+
+/// The last diagnostic, if there is one.
+fn last_of(list: &Diagnostics) -> Option<Diagnostic>
+    ensures { result ≡ last_of list.now }
+{
+    match list.len() {
+        0 => None,
+        len => list.get(len - 1).copied(),
+    }
 }
 
 /// Where nothing was found, what is told of the early rules, and then a diagnostic for each shorthand with an initialiser

@@ -165,8 +165,9 @@ pub fn run<S: Source, K: Sink>(
 
     // Where the words are admitted and the source tells its bytes, and these are a text: its only reading is written
     // and 0 answered, or it has none, one diagnostic or more are written, each at a span inside the text, and 1
-    // answered; faults and want of memory aside. Readings are by the productions that are built, over lexemes of the kinds that are read so far. They
-    // are valid by the whole language, and where no lexeme is of another kind or begins another production no other tree is.
+    // answered; faults and want of memory aside. Readings are by the productions that are built, over lexemes of the
+    // kinds that are read so far. They are valid by the whole language, and where no lexeme is of another kind or begins
+    // another production no other tree is.
     ensures headline { IfSome (S.remaining source.old) (λ text. IsText text → (s : Set) → Admitted (map string_bytes words.now.items) s →
         IsAnswerTo s text (told S.remaining S.faults K.taken K.faults source.old source.new sink.old sink.new) result) }
 

@@ -1,40 +1,24 @@
-use Rattle.std.proofs.Common.{refl, map, string_bytes, Global}
-use Rattle.js_run.specs.Runs.{told}
+use Rattle.std.proofs.Common.{refl}
 use Rattle.js_run.proofs.Runs.{answer_if_told, core_answer_if_told, marked_if_told, long_if_told, no_text_if_told}
 use Rattle.js_run.proofs.program.run.Goals as goal
 
 pub returns-clause-headline : goal.returns-clause-headline
-returns-clause-headline g c =
-    answer_if_told c.steps.result (map (string_bytes {Z = Global}) c.args.words.now.items)
-    (told g.S.Source.remaining g.S.Source.faults g.K.Sink.taken g.K.Sink.faults c.args.source.now c.steps.new.source c.args.sink.now c.steps.new.sink)
-    (g.S.Source.remaining c.args.source.now) refl c.steps.ensures.words c.steps.ensures.cause
+returns-clause-headline g c = answer_if_told _ _ _ (g.S.Source.remaining c.args.source.now) refl c.steps.ensures.words c.steps.ensures.cause
 
 pub returns-clause-marks : goal.returns-clause-marks
-returns-clause-marks g c =
-    marked_if_told c.steps.result (map (string_bytes {Z = Global}) c.args.words.now.items)
-    (told g.S.Source.remaining g.S.Source.faults g.K.Sink.taken g.K.Sink.faults c.args.source.now c.steps.new.source c.args.sink.now c.steps.new.sink)
-    (g.S.Source.remaining c.args.source.now) refl c.steps.ensures.words c.steps.ensures.cause
+returns-clause-marks g c = marked_if_told _ _ _ (g.S.Source.remaining c.args.source.now) refl c.steps.ensures.words c.steps.ensures.cause
 
 pub returns-clause-core_headline : goal.returns-clause-core_headline
-returns-clause-core_headline g c =
-    core_answer_if_told c.steps.result (map (string_bytes {Z = Global}) c.args.words.now.items)
-    (told g.S.Source.remaining g.S.Source.faults g.K.Sink.taken g.K.Sink.faults c.args.source.now c.steps.new.source c.args.sink.now c.steps.new.sink)
-    (g.S.Source.remaining c.args.source.now) refl c.steps.ensures.words c.steps.ensures.cause
+returns-clause-core_headline g c = core_answer_if_told _ _ _ (g.S.Source.remaining c.args.source.now) refl c.steps.ensures.words c.steps.ensures.cause
 
 pub returns-clause-cause : goal.returns-clause-cause
 returns-clause-cause g c = c.steps.ensures.cause
 
 pub returns-clause-too_long : goal.returns-clause-too_long
-returns-clause-too_long g c =
-    long_if_told c.steps.result (map (string_bytes {Z = Global}) c.args.words.now.items)
-    (told g.S.Source.remaining g.S.Source.faults g.K.Sink.taken g.K.Sink.faults c.args.source.now c.steps.new.source c.args.sink.now c.steps.new.sink)
-    (g.S.Source.remaining c.args.source.now) refl c.steps.ensures.cause
+returns-clause-too_long g c = long_if_told _ _ _ (g.S.Source.remaining c.args.source.now) refl c.steps.ensures.cause
 
 pub returns-clause-not_utf8 : goal.returns-clause-not_utf8
-returns-clause-not_utf8 g c =
-    no_text_if_told c.steps.result (map (string_bytes {Z = Global}) c.args.words.now.items)
-    (told g.S.Source.remaining g.S.Source.faults g.K.Sink.taken g.K.Sink.faults c.args.source.now c.steps.new.source c.args.sink.now c.steps.new.sink)
-    (g.S.Source.remaining c.args.source.now) refl c.steps.ensures.cause
+returns-clause-not_utf8 g c = no_text_if_told _ _ _ (g.S.Source.remaining c.args.source.now) refl c.steps.ensures.cause
 
 pub returns-clause-words : goal.returns-clause-words
 returns-clause-words g c = c.steps.ensures.words
