@@ -15,9 +15,7 @@ ghost use Rattle.js_parser.specs.Parsed.{options_of, IsAnswer, IsOverlong, outpu
 ghost use Rattle.js_core.specs.Taken.{ProgramTaken, ProgramRefused};
 
 use crate::early::early_errors;
-use js_base::{
-    Diagnostic, DiagnosticKind, Diagnostics, NoMemory, SourceType, Span, Spans, Tokens,
-};
+use js_base::{Diagnostic, DiagnosticKind, Diagnostics, NoMemory, SourceType, Span, Spans, Tokens};
 use js_core::{RuntimeParser, parse_program};
 use js_cursor::Comments;
 use js_record::{ModuleRecord, ModuleRecordBuilder, ModuleVisits};
@@ -174,9 +172,25 @@ fn are_alike(fault: Option<Diagnostic>, found: Option<Diagnostic>) -> bool
     ensures { IsTrue result ↔ AreAlike fault found }
 {
     match (fault, found) {
-        (Some(fault), Some(found)) => fault.kind == found.kind && fault.span == found.span,
+        (Some(fault), Some(found)) => {
+            is_kind(fault.kind, found.kind) && is_span(fault.span, found.span)
+        }
         _ => false,
     }
+}
+
+/// Whether they are one kind.
+fn is_kind(kind: DiagnosticKind, other: DiagnosticKind) -> bool
+    ensures { IsTrue result ↔ (kind ≡ other) }
+{
+    kind == other
+}
+
+/// Whether they are one span.
+fn is_span(span: Span, other: Span) -> bool
+    ensures { IsTrue result ↔ (span ≡ other) }
+{
+    span == other
 }
 
 /// The last diagnostic, if there is one.
