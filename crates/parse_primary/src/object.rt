@@ -410,7 +410,7 @@ fn make_property<C: ParserConfig>(
 
 /// The function of a method: its parameters in their parentheses, and its body in its braces (ECMA-262, sections 15.4,
 /// 15.5, 15.6 and 15.8).
-fn parse_method_function<C: ParserConfig, N: Nested<C>>(
+pub fn parse_method_function<C: ParserConfig, N: Nested<C>>(
     p: &mut ParserImpl<'_, C>,
     nested: &N,
     form: MethodForm,
