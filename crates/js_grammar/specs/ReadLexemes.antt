@@ -1,7 +1,7 @@
--- Which lexemes the parse functions read: all but private names, the `@` of decorators and a hashbang comment. Nothing is derived over another one.
+-- Which lexemes the parse functions read: all but a hashbang comment. Nothing is derived over another one.
 use Rattle.std.specs.Prelude.{ℕ, Bool, not, List, [], ◌∷◌, IsTrue}
 use Rattle.js_base.specs.declared.kind.Kind.{Kind}
-use Rattle.js_base.specs.declared.kind.Kind.TheVariants.{At, PrivateIdentifier, HashbangComment, Undetermined}
+use Rattle.js_base.specs.declared.kind.Kind.TheVariants.{HashbangComment, Undetermined}
 use Rattle.js_base.specs.Kinds.{one_of_kinds}
 use Rattle.js_grammar.specs.Grammar.{Lexeme}
 use Rattle.js_grammar.specs.Lexed.{NextLexeme, passing_of}
@@ -9,7 +9,7 @@ use Rattle.js_grammar.specs.Settings.{Goal}
 
 -- The kinds that aren't read, and that of a token where no lexeme stands.
 abbrev pub unread_kinds : List Kind
-unread_kinds = At ∷ PrivateIdentifier ∷ HashbangComment ∷ Undetermined ∷ []
+unread_kinds = HashbangComment ∷ Undetermined ∷ []
 
 abbrev pub is_read_kind : Kind → Bool
 is_read_kind k = not (one_of_kinds unread_kinds k)
