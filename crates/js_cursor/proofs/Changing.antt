@@ -140,11 +140,15 @@ module _ {p : Parser} where
   pub left_on : {k : ℕ} {q : Parser} → IsAt p → Leaves k p q → GoesOn p q
   left_on {q = q} a h = subst (GoesOn p) (sym h.is) (fields_set p.nodes p.visits [] p.ctx q.depth a (Keeps-refl p.nodes) (sym (append-nil p.visits)))
 
+  -- where the shorthands and the commas stay
+  pub notes_on : {q : Parser} → IsAt p → q ≡ record p { state = q.state } → q.state.covers ≡ p.state.covers → q.state.commas ≡ p.state.commas → GoesOn p q
+  notes_on {q} a i c d = subst (GoesOn p) (sym i) (notes_set q.state [] [] a (c ∙ sym (append-nil p.state.covers)) (d ∙ sym (append-nil p.state.commas)) (record { covers = subst (λ v. StandBefore v p.token.span.start) (sym c) a.noted.covers; commas = subst (λ v. StandBefore v p.token.span.start) (sym d) a.noted.commas }))
+
   pub noted_on : {place : ℕ} {q : Parser} → IsAt p → NotesArrow place p q → GoesOn p q
-  noted_on {place} {q} a h = subst (GoesOn p) (sym h.is) (notes_set q.state [] [] a (h.noted.covers ∙ sym (append-nil p.state.covers)) (h.noted.commas ∙ sym (append-nil p.state.commas)) (record { covers = subst (λ v. StandBefore v p.token.span.start) (sym h.noted.covers) a.noted.covers; commas = subst (λ v. StandBefore v p.token.span.start) (sym h.noted.commas) a.noted.commas }))
+  noted_on a h = notes_on a h.is h.noted.covers h.noted.commas
 
   pub operand_noted_on : {place : ℕ} {q : Parser} → IsAt p → NotesNoOperand place p q → GoesOn p q
-  operand_noted_on {place} {q} a h = subst (GoesOn p) (sym h.is) (notes_set q.state [] [] a (h.noted.covers ∙ sym (append-nil p.state.covers)) (h.noted.commas ∙ sym (append-nil p.state.commas)) (record { covers = subst (λ v. StandBefore v p.token.span.start) (sym h.noted.covers) a.noted.covers; commas = subst (λ v. StandBefore v p.token.span.start) (sym h.noted.commas) a.noted.commas }))
+  operand_noted_on a h = notes_on a h.is h.noted.covers h.noted.commas
 
   -- what stays when a function gives up
   pub gave_up_on : {P : Diagnostic → Type 0} {q : Parser} → GivesUp P p q Fatal → GoesOn p q

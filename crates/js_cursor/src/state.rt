@@ -3,7 +3,7 @@
 ghost use Rattle.std.specs.Prelude.{◌≡◌, ◌<◌, ℕ, List, [], ◌∷◌, ◌++◌, length, take, Some, OnOk, OnErr};
 ghost use Rattle.js_base.specs.Contexts.{bits_of};
 ghost use Rattle.js_cursor.specs.Histories.{standing, without, Pops};
-ghost use Rattle.js_cursor.specs.Notes.{HasNone, NotesFailed, NotesOperand, NotesPlace, is_noted, noted_number};
+ghost use Rattle.js_cursor.specs.Notes.{HasNone, NotesClosing, NotesFailed, NotesOperand, NotesPlace, closing_known, is_noted, noted_number};
 
 use crate::history::History;
 use js_base::{Context, NoMemory, Span};
@@ -67,12 +67,19 @@ impl NotedPlaces {
 }
 
 /// What a parser notes on its way: where no head of an arrow function was found, where no operand was found, since such a
-/// head stands there, and the shorthands with `=` and the commas at the end of a list that are judged once it is known
-/// whether a target stands there. Contracts see it as `Notes`.
+/// head stands there, behind which parentheses `=>` stands, and the shorthands with `=` and the commas at the end of a list
+/// that are judged once it is known whether a target stands there. Contracts see it as `Notes`.
 #[derive(Drop)]
 pub struct ParserState {
     failed: NotedPlaces,
     operands: NotedPlaces,
+    /// Places behind which parentheses begin that have `=>` behind them; and behind which others do.
+    arrows: BTreeSet<u32>,
+    others: BTreeSet<u32>,
+    /// Up to which place the text was looked through for these, in bytes.
+    looked: u32,
+    /// Whether a head is being attempted.
+    attempting: bool,
     covers: History<CoverInitializer>,
     commas: History<Span>,
 }
@@ -82,7 +89,7 @@ impl Model for ParserState {
 
     ghost Value = { Notes };
 
-    ghost view = { λ s. record { failed = s.failed; operands = s.operands; covers = s.covers; commas = s.commas } };
+    ghost view = { λ s. record { failed = s.failed; operands = s.operands; arrows = s.arrows.keys; others = s.others.keys; looked = s.looked; attempting = s.attempting; covers = s.covers; commas = s.commas } };
 }
 
 impl ParserState {
@@ -93,6 +100,10 @@ impl ParserState {
         ParserState {
             failed: NotedPlaces::new(alloc),
             operands: NotedPlaces::new(alloc),
+            arrows: BTreeSet::new(alloc),
+            others: BTreeSet::new(alloc),
+            looked: 0,
+            attempting: false,
             covers: History::new(alloc),
             commas: History::new(alloc),
         }
@@ -174,6 +185,60 @@ impl ParserState {
         ensures err { OnErr result (self.new ≡ self.old) }
     {
         self.operands.insert(ctx, place)
+    }
+
+    /// Whether `=>` stands behind the parentheses that begin behind a place; `None` where that wasn't noted.
+    pub fn arrow_behind(&self, place: u32) -> Option<bool>
+        ensures { result ≡ closing_known self.now place }
+    {
+        if self.arrows.contains(&place) {
+            return Some(true);
+        }
+        if self.others.contains(&place) {
+            return Some(false);
+        }
+        None
+    }
+
+    /// Notes whether it does. The only error is want of memory, and then all stays.
+    pub fn note_closing(&mut self, place: u32, is_arrow: bool) -> Result<(), NoMemory>
+        ensures ok { OnOk result (NotesClosing place is_arrow self.old self.new) }
+        ensures err { OnErr result (self.new ≡ self.old) }
+    {
+        if is_arrow {
+            self.arrows.insert(place)?;
+        } else {
+            self.others.insert(place)?;
+        }
+        Ok(())
+    }
+
+    /// Up to which place the text was looked through for `=>` behind parentheses, in bytes.
+    pub fn looked(&self) -> u32
+        ensures { result ≡ self.now.looked }
+    {
+        self.looked
+    }
+
+    /// It was looked through up to this place.
+    pub fn set_looked(&mut self, place: u32)
+        ensures { self.new ≡ record self.old { looked = place } }
+    {
+        self.looked = place;
+    }
+
+    /// Whether a head of an arrow function is being attempted.
+    pub fn is_attempting(&self) -> bool
+        ensures { result ≡ self.now.attempting }
+    {
+        self.attempting
+    }
+
+    /// From now on one is, or none.
+    pub fn set_attempting(&mut self, is_attempting: bool)
+        ensures { self.new ≡ record self.old { attempting = is_attempting } }
+    {
+        self.attempting = is_attempting;
     }
 
     /// How many changes made the shorthands.

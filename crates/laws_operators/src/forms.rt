@@ -32,3 +32,18 @@ pub enum OpenBracket {
     /// A brace.
     Curly,
 }
+
+/// What a lexeme does to the brackets that are open.
+#[derive(Clone, Copy)]
+pub enum Passing {
+    /// Nothing.
+    Plain,
+    /// It opens one.
+    Opens,
+    /// It closes the one that was opened last.
+    Closes,
+    /// None that is open closes: another one does here, or the text ends, or no lexeme stands here.
+    Never,
+    /// That isn't known.
+    Unknown,
+}

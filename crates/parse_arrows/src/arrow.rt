@@ -309,7 +309,7 @@ fn attempt_head<C: ParserConfig, N: Patterns<C>>(
     let place = p.prev_token_end();
     let kept = kept_so_far(p);
     let here = p.checkpoint()?;
-    if let Some(parameters) = try_parse_head(p, nested, is_async)? {
+    if let Some(parameters) = attempt_parameters(p, nested, is_async)? {
         if excludes_operand(p, place, kept)? {
             if kept_so_far(p) != kept {
                 p.note_operand_failed(place)?;
@@ -323,7 +323,26 @@ fn attempt_head<C: ParserConfig, N: Patterns<C>>(
     Ok(None)
 }
 
-/// FormalParameters in parentheses, behind `async` or not, where `=>` stands behind them, whatever else may stand there.
+/// FormalParameters in parentheses, behind `async` or not, where `=>` stands behind them, whatever else may stand there. While
+/// they are read a head is being attempted.
+fn attempt_parameters<C: ParserConfig, N: Patterns<C>>(
+    p: &mut ParserImpl<'_, C>,
+    nested: &N,
+    is_async: bool,
+) -> Result<Option<NodeId>, Stop>
+    requires at { Standing p.old }
+    requires nests { CanNest (N.can nested.now) (room p.old) }
+    requires open { p.old.token.kind ≡ LParen }
+    ensures { MatchResult result (λ found. TriesHead is_async p.old p.new found) OnlyMemory }
+{
+    let outer = p.state.is_attempting();
+    p.state.set_attempting(true);
+    let found = try_parse_head(p, nested, is_async)?;
+    p.state.set_attempting(outer);
+    Ok(found)
+}
+
+/// The same, whether it is noted that a head is being attempted or not.
 #[inline(always)]
 fn try_parse_head<C: ParserConfig, N: Patterns<C>>(
     p: &mut ParserImpl<'_, C>,
@@ -443,7 +462,7 @@ fn attempt_head_again<C: ParserConfig, N: Patterns<C>>(
         return Ok(None);
     }
     p.note_operand_failed(place)?;
-    try_parse_head(p, nested, is_async)
+    attempt_parameters(p, nested, is_async)
 }
 
 /// Notes that no parameters stand here with `=>` behind them, behind `async` or not.

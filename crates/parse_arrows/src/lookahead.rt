@@ -1,9 +1,10 @@
 //! What the lexeme behind an opening parenthesis says of the head of an arrow function (ECMA-262, section 15.3).
 
-ghost use Rattle.std.specs.Prelude.{◌≡◌, MatchResult};
+ghost use Rattle.std.specs.Prelude.{◌≡◌, IfOk, MatchResult};
 ghost use Rattle.parse_arrows.specs.Prelude.{begins_operand, LooksAhead, LParen, OnlyMemory, Standing};
 
-use js_base::Kind;
+use crate::closing::look_for_closings;
+use js_base::{Kind, NoMemory};
 use laws_operators::forms::HeadLookahead;
 use parse_shared::{ParserConfig, ParserImpl, Stop};
 
@@ -23,7 +24,28 @@ pub(crate) fn is_parenthesized_head<C: ParserConfig>(
     if begins_no_parameter(kind) {
         return Ok(HeadLookahead::NoHead);
     }
-    Ok(HeadLookahead::Maybe)
+    let found = look_behind_closing(p)?;
+    Ok(found)
+}
+
+/// What may begin with the parenthesis that stands here, by whether `=>` stands behind the one that closes it, as far as
+/// that is noted. It is looked up where a head is being attempted, so that heads that are attempted in vain in one another
+/// aren't read again and again.
+fn look_behind_closing<C: ParserConfig>(
+    p: &mut ParserImpl<'_, C>,
+) -> Result<HeadLookahead, NoMemory>
+    requires at { Standing p.old }
+    ensures { IfOk result (λ found. LooksAhead p.old p.new found) }
+{
+    let place = p.prev_token_end();
+    if p.state.is_attempting() && p.state.looked() <= place {
+        look_for_closings(p, place)?;
+    }
+    match p.state.arrow_behind(place) {
+        Some(true) => Ok(HeadLookahead::Head),
+        Some(false) => Ok(HeadLookahead::NoHead),
+        None => Ok(HeadLookahead::Maybe),
+    }
 }
 
 /// Whether a lexeme is one of those that begin an expression, and neither a parameter nor a rest: a literal, a sign, `(`,
