@@ -78,7 +78,7 @@ token_given {source} {text} {s} {t} faults {all} before b h q o = go (same_kind 
     go false e x = told b h e x.1
 
 -- a lexeme that isn't the end has some bytes
-empty_is_end : (g : LexicalGoal) (rest : List ℕ) (k : Kind) → kind_in g [] rest ≡ Some k → k ≡ Eof
+pub empty_is_end : (g : LexicalGoal) (rest : List ℕ) (k : Kind) → kind_in g [] rest ≡ Some k → k ≡ Eof
 empty_is_end division rest k e = (plain_end rest k e).0
 empty_is_end regular_expression rest k e = cc
 empty_is_end template_tail rest k e = cc

@@ -24,7 +24,7 @@ use Rattle.js_cursor.specs.Markers.{GivesPlain}
 use Rattle.js_cursor.proofs.Moving.{whole_again, cut_sign}
 
 -- the end of the text is the lexeme that ends there
-at_end : {text : List ℕ} {s : ℕ} {x : Lexeme} → IsUtf8 text → IsCharBoundary text s → LexemeBehind division text s x → x.kind ≡ Eof → x.to ≡ length text
+pub at_end : {text : List ℕ} {s : ℕ} {x : Lexeme} → IsUtf8 text → IsCharBoundary text s → LexemeBehind division text s x → x.kind ≡ Eof → x.to ≡ length text
 at_end {text} {s} {x} u b h e =
     let p = passed u b h in
     go p.word p.rest p.lexeme.kind p.here p.to p.stands.boundary

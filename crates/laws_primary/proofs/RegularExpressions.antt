@@ -199,7 +199,7 @@ module _ {text : List ℕ} {f : Flags} {p q : Parser} {at_end : ℕ} (a : At tex
   text_stays = h.stays.text ∙ a.text_is
 
   heads_stay : NotedHeads q
-  heads_stay = heads_kept p q h.stays.text h.stays.source_type h.stays.options (ap (λ (n : Notes). n.failed) h.stays.state) (ap (λ (n : Notes). n.operands) h.stays.state) a.heads
+  heads_stay = heads_kept p q h.stays.text h.stays.source_type h.stays.options (ap (λ (n : Notes). n.failed) h.stays.state) (ap (λ (n : Notes). n.operands) h.stays.state) (ap (λ (n : Notes). n.arrows) h.stays.state) (ap (λ (n : Notes). n.others) h.stays.state) a.heads
 
   -- of the plain goal one of the two signs alone stands there, and no operand begins with it
   abbrev operand_kinds : Look

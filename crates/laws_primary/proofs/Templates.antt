@@ -220,7 +220,7 @@ module _ {text : List ℕ} {f : Flags} {p q : Parser} (a : PartAt text f p) wher
       at = h.at;
       plain = subst (λ (v : List ℕ). IsPlain v q) text_is (plain_given h.next.faults h.at.token outcome);
       behind = let s = h.next.start in let e = place in omega arith;
-      heads = heads_kept p q h.stays.text h.stays.source_type h.stays.options (ap (λ (n : Notes). n.failed) h.stays.state) (ap (λ (n : Notes). n.operands) h.stays.state) a.heads;
+      heads = heads_kept p q h.stays.text h.stays.source_type h.stays.options (ap (λ (n : Notes). n.failed) h.stays.state) (ap (λ (n : Notes). n.operands) h.stays.state) (ap (λ (n : Notes). n.arrows) h.stays.state) (ap (λ (n : Notes). n.others) h.stays.state) a.heads;
       kept_last = next_kept_last h.next;
     }
 
@@ -387,7 +387,7 @@ module _ {text : List ℕ} {f : Flags} {p q : Parser} (a : At text f p) (k : p.t
         part = tail_part q.token.kind tail_kind;
         begins = λ y l. begins_here a y (subst (λ (n : ℕ). Lex text n y) h.place l) ∙ sym h.again.start;
         behind = let s = h.again.start in let g = a.behind in let l = h.place in omega arith;
-        heads = heads_kept p q h.stays.text h.stays.source_type h.stays.options (ap (λ (n : Notes). n.failed) h.stays.state) (ap (λ (n : Notes). n.operands) h.stays.state) a.heads;
+        heads = heads_kept p q h.stays.text h.stays.source_type h.stays.options (ap (λ (n : Notes). n.failed) h.stays.state) (ap (λ (n : Notes). n.operands) h.stays.state) (ap (λ (n : Notes). n.arrows) h.stays.state) (ap (λ (n : Notes). n.others) h.stays.state) a.heads;
         kept_last = again_last p.lexer q.lexer p.token q.token h.again.same.keeps_tokens h.again.tokens counted.0 counted.1 a.kept_last;
       };
       same = same_of h.at (read_again_follows h) h.stays.nodes h.stays.errors h.stays.options h.stays.ctx h.stays.depth h.stays.visits;
@@ -415,7 +415,7 @@ module _ {text : List ℕ} {f : Flags} {p q : Parser} (a : At text f p) (k : p.t
     grown = grown_then h.stays.errors (kept_one g.2);
     stopped = λ w. record { before = q.errors; last = g.0; is = ap (λ (z : Parser). z.errors) g.2.is; early = All-same IsEarly q.errors p.errors h.stays.errors w; ends = unexpected_ends h.at g.0 g.1 };
     lies = λ l. nodes_lie p r (text_stays) (nodes_stay) l.1;
-    heads = subst NotedHeads (sym g.2.is) (heads_kept p q h.stays.text h.stays.source_type h.stays.options (ap (λ (n : Notes). n.failed) h.stays.state) (ap (λ (n : Notes). n.operands) h.stays.state) a.heads);
+    heads = subst NotedHeads (sym g.2.is) (heads_kept p q h.stays.text h.stays.source_type h.stays.options (ap (λ (n : Notes). n.failed) h.stays.state) (ap (λ (n : Notes). n.operands) h.stays.state) (ap (λ (n : Notes). n.arrows) h.stays.state) (ap (λ (n : Notes). n.others) h.stays.state) a.heads);
     none = no_part f none_there;
   }
     where

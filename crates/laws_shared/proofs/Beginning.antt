@@ -18,7 +18,7 @@ use Rattle.js_cursor.specs.Places.{IsAt, goal}
 use Rattle.js_cursor.specs.Tokens.{IsToken, whole as whole_token, sign as sign_token, nothing as no_token}
 use Rattle.js_cursor.specs.Moves.{Passed, Completed, MovesOn, is_last}
 use Rattle.laws_shared.specs.States.{IsPlain, Standing}
-use Rattle.js_cursor.specs.Notes.{HasNone, Notes, is_noted}
+use Rattle.js_cursor.specs.Notes.{HasNone, Notes, is_noted, is_place}
 use Rattle.laws_shared.specs.Heads.{NotedHeads}
 use Rattle.laws_shared.specs.Lexemes.{KeptLast}
 use Rattle.laws_shared.proofs.KeptTokens.{no_plain_hashbang, next_kept_last}
@@ -29,11 +29,11 @@ hashbang_kind x = x.tells.kind ∙ hashbang_is x.stands.lex.word x.lexeme.kind (
 
 -- nothing is noted where a text begins
 pub none_noted : (p : Parser) → HasNone p.state → NotedHeads p
-none_noted p n = (λ w c s b k. absurd (false≢true (sym (ap (λ (v : List ℕ). is_noted v c s) n.failed) ∙ k)), λ w c s b k. absurd (false≢true (sym (ap (λ (v : List ℕ). is_noted v c s) n.operands) ∙ k)))
+none_noted p n = (λ w c s b k. absurd (false≢true (sym (ap (λ (v : List ℕ). is_noted v c s) n.failed) ∙ k)), λ w c s b k. absurd (false≢true (sym (ap (λ (v : List ℕ). is_noted v c s) n.operands) ∙ k)), (λ s k. absurd (false≢true (sym (ap (λ (v : List ℕ). is_place v s) n.arrows) ∙ k)), λ s k. absurd (false≢true (sym (ap (λ (v : List ℕ). is_place v s) n.others) ∙ k))))
 
 -- Behind a lexeme of whichever goal the plain goal gives the next token.
 pub behind_first : {p q : Parser} → IsAt p → NotedHeads p → Passed p q → Standing q
-behind_first {p} {q} b n h = record { text_is = refl; flags_are = refl; at = h.at; plain = plain_given h.next.faults h.at.token outcome; behind = let s = h.next.start in let e = place in omega arith; heads = heads_kept p q h.stays.text h.stays.source_type h.stays.options (ap (λ (m : Notes). m.failed) h.stays.state) (ap (λ (m : Notes). m.operands) h.stays.state) n; kept_last = next_kept_last h.next }
+behind_first {p} {q} b n h = record { text_is = refl; flags_are = refl; at = h.at; plain = plain_given h.next.faults h.at.token outcome; behind = let s = h.next.start in let e = place in omega arith; heads = heads_kept p q h.stays.text h.stays.source_type h.stays.options (ap (λ (m : Notes). m.failed) h.stays.state) (ap (λ (m : Notes). m.operands) h.stays.state) (ap (λ (m : Notes). m.arrows) h.stays.state) (ap (λ (m : Notes). m.others) h.stays.state) n; kept_last = next_kept_last h.next }
   where
     reads : p.lexer.text ≡ q.text
     reads = b.reads ∙ sym h.stays.text

@@ -34,7 +34,7 @@ use Rattle.js_cursor.proofs.Changing.{fields_at, fields_set, entered_on}
 use Rattle.js_base.specs.declared.context.Context.{Context}
 use Rattle.js_cursor.specs.Notes.{Notes, is_noted}
 use Rattle.js_cursor.specs.Starts.{is_module}
-use Rattle.laws_shared.specs.Heads.{NoHead, NotedHeads, OnlyArrow, flags_in, widened}
+use Rattle.laws_shared.specs.Heads.{NoHead, NotedClosings, NotedHeads, OnlyArrow, flags_in, widened}
 use Rattle.laws_shared.specs.Lexemes.{KeptFor, TriviaKept, News, other_goals, is_read_kind}
 use Rattle.laws_shared.proofs.KeptTokens.{counts_here, completed_counts, before_next, next_kept_last, again_before, again_last, trivia_kept}
 use Rattle.laws_shared.specs.NodeTexts.{NodeFits}
@@ -77,8 +77,8 @@ pub flags_same : {w : Bool} (p q : Parser) → q.ctx ≡ p.ctx → q.source_type
 flags_same p q c s o = rw (c, s, o) refl
 
 -- what is noted of heads stays right where the text and what is noted stay
-pub heads_kept : (p q : Parser) → q.text ≡ p.text → q.source_type ≡ p.source_type → q.options ≡ p.options → q.state.failed ≡ p.state.failed → q.state.operands ≡ p.state.operands → NotedHeads p → NotedHeads q
-heads_kept p q t s o h g n = (λ w c x b k. stays NoHead w c x (n.0 w c x b (subst (λ (v : List ℕ). is_noted v c x ≡ true) h k)), λ w c x b k. stays OnlyArrow w c x (n.1 w c x b (subst (λ (v : List ℕ). is_noted v c x ≡ true) g k)))
+pub heads_kept : (p q : Parser) → q.text ≡ p.text → q.source_type ≡ p.source_type → q.options ≡ p.options → q.state.failed ≡ p.state.failed → q.state.operands ≡ p.state.operands → q.state.arrows ≡ p.state.arrows → q.state.others ≡ p.state.others → NotedHeads p → NotedHeads q
+heads_kept p q t s o h g a b n = (λ w c x y k. stays NoHead w c x (n.0 w c x y (subst (λ (v : List ℕ). is_noted v c x ≡ true) h k)), λ w c x y k. stays OnlyArrow w c x (n.1 w c x y (subst (λ (v : List ℕ). is_noted v c x ≡ true) g k)), subst (λ (v : List ℕ). NotedClosings q.text v q.state.others) (sym a) (subst (λ (v : List ℕ). NotedClosings q.text p.state.arrows v) (sym b) (subst (λ (v : List ℕ). NotedClosings v p.state.arrows p.state.others) (sym t) n.2)))
   where
     stays : (P : List ℕ → Flags → ℕ → Type 0) → (w : Bool) (c : Context) (x : ℕ) → P p.text (widened w (flags_in p c)) x → P q.text (widened w (flags_in q c)) x
     stays P w c x z = subst (λ (v : List ℕ). P v (widened w (flags_in q c)) x) (sym t) (subst (λ (f : Flags). P p.text f x) (λ i. record (widened w (flags_in q c)) { module_goal = is_module (sym s i); v8 = (sym o i).allow_v8_intrinsics }) z)
@@ -109,7 +109,7 @@ module _ {text : List ℕ} {f : Flags} {p : Parser} where
     at = h.at;
     plain = subst (λ (v : List ℕ). IsPlain v q) text_is (plain_given h.next.faults h.at.token outcome);
     behind = let s = h.next.start in let e = place in omega arith;
-    heads = heads_kept p q h.stays.text h.stays.source_type h.stays.options (ap (λ (n : Notes). n.failed) h.stays.state) (ap (λ (n : Notes). n.operands) h.stays.state) a.heads;
+    heads = heads_kept p q h.stays.text h.stays.source_type h.stays.options (ap (λ (n : Notes). n.failed) h.stays.state) (ap (λ (n : Notes). n.operands) h.stays.state) (ap (λ (n : Notes). n.arrows) h.stays.state) (ap (λ (n : Notes). n.others) h.stays.state) a.heads;
     kept_last = next_kept_last h.next;
   }
     where
@@ -193,7 +193,7 @@ completes {text} {f} {p} {q} (inr e) b n a h = record {
     at = b;
     plain = plain;
     behind = let s = e.1.again.start in let g = a.behind in let l = e.1.place in omega arith;
-    heads = heads_kept p q e.1.stays.text e.1.stays.source_type e.1.stays.options (ap (λ (n : Notes). n.failed) e.1.stays.state) (ap (λ (n : Notes). n.operands) e.1.stays.state) a.heads;
+    heads = heads_kept p q e.1.stays.text e.1.stays.source_type e.1.stays.options (ap (λ (n : Notes). n.failed) e.1.stays.state) (ap (λ (n : Notes). n.operands) e.1.stays.state) (ap (λ (n : Notes). n.arrows) e.1.stays.state) (ap (λ (n : Notes). n.others) e.1.stays.state) a.heads;
     kept_last = again_last p.lexer q.lexer p.token q.token e.1.again.same.keeps_tokens e.1.again.tokens counted.0 counted.1 a.kept_last;
   };
   same = same_of b (read_again_follows e.1) e.1.stays.nodes e.1.stays.errors e.1.stays.options e.1.stays.ctx e.1.stays.depth e.1.stays.visits;

@@ -9,7 +9,7 @@ use Rattle.js_grammar.specs.Grammar.{◌▸◌}
 use Rattle.js_grammar.specs.Parsing.{Fails, full, plain}
 use Rattle.js_grammar.specs.Productions.{Flags, sym, tok, other, Params}
 use Rattle.js_grammar.specs.Table.{rule, args}
-use Rattle.js_cursor.specs.Notes.{is_noted}
+use Rattle.js_cursor.specs.Notes.{is_noted, is_place}
 use Rattle.js_cursor.specs.Parsers.{Parser}
 use Rattle.js_cursor.specs.Starts.{is_module}
 use Rattle.laws_shared.specs.Lexemes.{Lex}
@@ -41,6 +41,10 @@ widened w f = record f { new_target = w || f.new_target; wide = w }
 abbrev pub OnlyArrow : List ℕ → Flags → ℕ → Type 0
 OnlyArrow text f s = Fails rule (Lex text) (plain (other (λ k w e. same_kind Arrow k))) no_slots (args f) s
 
+-- Where parentheses are noted that have `=>` behind them no operand stands, and where others are no head, under all parameters.
+abbrev pub NotedClosings : List ℕ → List ℕ → List ℕ → Type 0
+NotedClosings text arrows others = ((s : ℕ) → is_place arrows s ≡ true → (f : Flags) → OnlyArrow text f s) × ((s : ℕ) → is_place others s ≡ true → (f : Flags) → NoHead text f s)
+
 -- Whatever is noted is so: no head is derived from the place, or no operand, under the parameters by which it is noted, in wider forms neither.
 abbrev pub NotedHeads : Parser → Type 0
-NotedHeads p = ((w : Bool) (c : Context) (s : ℕ) → bits_of c < 65536 → is_noted p.state.failed c s ≡ true → NoHead p.text (widened w (flags_in p c)) s) × ((w : Bool) (c : Context) (s : ℕ) → bits_of c < 65536 → is_noted p.state.operands c s ≡ true → OnlyArrow p.text (widened w (flags_in p c)) s)
+NotedHeads p = ((w : Bool) (c : Context) (s : ℕ) → bits_of c < 65536 → is_noted p.state.failed c s ≡ true → NoHead p.text (widened w (flags_in p c)) s) × ((w : Bool) (c : Context) (s : ℕ) → bits_of c < 65536 → is_noted p.state.operands c s ≡ true → OnlyArrow p.text (widened w (flags_in p c)) s) × NotedClosings p.text p.state.arrows p.state.others
