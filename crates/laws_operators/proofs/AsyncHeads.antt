@@ -58,7 +58,7 @@ use Rattle.laws_operators.specs.Arrows.{AsyncHead, list_head, name_head, AsyncHe
 use Rattle.laws_operators.specs.declared.forms.ArrowHead.{ArrowHead}
 use Rattle.laws_operators.specs.HeadOperands.{NoTargetPart}
 use Rattle.laws_operators.specs.Lists.{NoParameters, parameters_of}
-use Rattle.laws_operators.proofs.Arrows.{from_unmoved, head_one, no_arrow, no_arrow_behind, no_async_here, no_head_no_line, no_plain_led, plain_head_flags, unmoved, unmoved_went_on, went_back, no_async_escaped}
+use Rattle.laws_operators.proofs.Arrows.{from_unmoved, head_one, no_arrow, no_arrow_behind, no_async_here, no_head_no_line, no_plain_led, plain_head_flags, unmoved_went_on, went_back, no_async_escaped}
 use Rattle.laws_operators.proofs.CalledFronts.{Front, word_alone, with_arguments, word_front}
 use Rattle.laws_shared.specs.js_lex.Reading.{Tells, is_right_angle}
 use Rattle.laws_shared.proofs.js_lex.Again.{cut_same}
@@ -66,7 +66,7 @@ use Rattle.laws_operators.specs.Lookaheads.{NoHeadThere}
 use Rattle.laws_operators.proofs.Conditionals.{conditional_none}
 use Rattle.laws_operators.proofs.HeadOperands.{from_none}
 use Rattle.laws_patterns.proofs.Peeks.{peeked_kind}
-use Rattle.laws_operators.proofs.SlashedHeads.{found_there}
+use Rattle.laws_operators.proofs.SlashedHeads.{attempted_there, found_there}
 
 -- ---- the table, where `async` stands with a head behind it
 
@@ -438,16 +438,16 @@ begins_so p q e h = subst (λ (v : Bool). AsyncHeadBegins p q v) e h
 
 -- ---- what stands behind the word
 
-pub no_list_behind : {p q : Parser} → Standing p → p.token.kind ≡ LParen → (q ≡ p) × NoHeadThere p → HeadBehindAsync p q None
-no_list_behind a k x = (unmoved_went_on a (unmoved x.0), λ text f b. no_head_no_line b k (x.1 text f (arrow_head true f) b))
+pub no_list_behind : {p q : Parser} → Standing p → p.token.kind ≡ LParen → Unmoved p q × NoHeadThere p → HeadBehindAsync p q None
+no_list_behind a k x = (unmoved_went_on a x.0, λ text f b. no_head_no_line b k (x.1 text f (arrow_head true f) b))
 
 list_behind_word : (p q : Parser) (found : Option NodeId) → Standing p → p.token.kind ≡ LParen → AttemptsHead true p q found → HeadBehindAsync p q found
 list_behind_word p q (Some id) a k x = (x.0.0, λ text f b. list_head k (x.0.1 text f b) (x.1 text f b))
 list_behind_word p q None a k x = (unmoved_went_on a x.0, λ text f b. no_head_no_line b k (x.1 text f b))
 
-pub lists_behind : (p o q : Parser) (r : Result (Option NodeId) Stop) → o ≡ p → Standing p → p.token.kind ≡ LParen → MatchResult r (λ found. AttemptsHead true o q found) OnlyMemory → MatchResult r (λ found. HeadBehindAsync p q found) OnlyMemory
-lists_behind p o q (Ok found) e a k x = list_behind_word p q found a k (subst (λ (z : Parser). AttemptsHead true z q found) e x)
-lists_behind p o q (Err e) i a k x = x
+pub lists_behind : (p o q : Parser) (r : Result (Option NodeId) Stop) → Unmoved p o → Standing p → p.token.kind ≡ LParen → MatchResult r (λ found. AttemptsHead true o q found) OnlyMemory → MatchResult r (λ found. HeadBehindAsync p q found) OnlyMemory
+lists_behind p o q (Ok found) u a k x = list_behind_word p q found a k (attempted_there u true q found x)
+lists_behind p o q (Err e) u a k x = x
 
 pub none_behind : (p q : Parser) (r : Option NodeId) → r ≡ None → HeadBehindAsync p q r → HeadBehindAsync p q None
 none_behind p q r e h = subst (HeadBehindAsync p q) e h

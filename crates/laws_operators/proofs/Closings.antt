@@ -11,39 +11,15 @@ use Rattle.js_grammar.specs.Brackets.{Bracket, plain, opens, closes, bracket, mo
 use Rattle.js_grammar.specs.Grammar.{Lexeme, Lexemes}
 use Rattle.js_grammar.specs.Lexed.{Lexes}
 use Rattle.js_grammar.specs.Lexemes.{division}
+use Rattle.js_grammar.proofs.Alike.{lex-same}
 use Rattle.js_grammar.proofs.Heads.{One, the_last, and_more}
 use Rattle.laws_shared.specs.js_lex.Reading.{cut, is_right_angle, Tells, GivesLexeme, GivesNone, GivesBehind, LexemeBehind, Outcome}
 use Rattle.laws_shared.proofs.js_lex.Again.{cut_same, passed}
 use Rattle.laws_shared.proofs.part_scan.StringPlaces.{front_word}
 use Rattle.laws_shared.specs.Lexemes.{Lex, slashes}
-use Rattle.laws_operators.specs.declared.forms.OpenBracket.{OpenBracket}
-use Rattle.laws_operators.specs.Closings.{number_of, Closing, closed, inside, ArrowBehindOne, open_behind, tells_whole, BracketPassed, LastClosed, Opened, ArrowStands, ArrowFound, Settled}
+use Rattle.laws_operators.specs.Closings.{ArrowTold, Closing, closed, inside, tells_whole, Settled}
 use Rattle.laws_operators.proofs.OnePlace.{one_plain_move}
 use Rattle.laws_operators.proofs.BinaryOperators.{different}
-
--- ---- lists of brackets
-
-pub one_more : (st : List ℕ) (bs : List OpenBracket) (b : OpenBracket) → open_behind st (bs ++ b ∷ []) ≡ number_of b ∷ open_behind st bs
-one_more st [] b = refl
-one_more st (c ∷ bs) b = one_more (number_of c ∷ st) bs b
-
-some_behind : (b : ℕ) (st : List ℕ) (bs : List OpenBracket) → (c : ℕ) × (u : List ℕ) × (open_behind (b ∷ st) bs ≡ c ∷ u)
-some_behind b st [] = (b, st, refl)
-some_behind b st (c ∷ bs) = some_behind (number_of c) (b ∷ st) bs
-
--- where some are old
-pub some_open : (bs : List OpenBracket) → (length bs ≡ 0 → ⊥) → (c : ℕ) × (u : List ℕ) × (open_behind [] bs ≡ c ∷ u)
-some_open [] n = absurd (n refl)
-some_open (b ∷ bs) n = some_behind (number_of b) [] bs
-
-pub none_open : (bs : List OpenBracket) → length bs ≡ 0 → open_behind [] bs ≡ []
-none_open [] e = refl
-none_open (b ∷ bs) e = absurd (omega arith)
-
--- the last one is closed
-pub pops : (b c : OpenBracket) (bs : List OpenBracket) → number_of c ≡ number_of b → pop (number_of b) (open_behind [] (bs ++ c ∷ [])) ≡ Some (open_behind [] bs)
-unfolding pop
-pops b c bs e = ap (pop (number_of b)) (one_more [] bs c) ∙ (ap (λ (v : Bool). cond v (Some (open_behind [] bs)) None) (eq-eqb (number_of b) (number_of c) (sym e)))
 
 -- ---- kinds
 
@@ -147,8 +123,34 @@ module _ {text : List ℕ} {e : ℕ} {t : Token} (g : GivesBehind text e t) wher
   pub settled_behind : (w : tells_whole t.kind ≡ true) → (y : Lexeme) × Settled text e y × Tells y t
   settled_behind w = let x = whole_behind w in (x.0, (x.1, subst (λ (k : Kind). one_of_kinds slashes k ≡ false) x.2.kind (no_slash_behind w)), x.2)
 
-  pub arrow_behind : t.kind ≡ Arrow → (y : Lexeme) × LexemeBehind division text e y × (y.kind ≡ Arrow)
+  -- the same, and what it does to the brackets that are open
+  pub moved_behind : {P : Kind → Type 0} → tells_whole t.kind ≡ true → P t.kind → (y : Lexeme) × Settled text e y × Tells y t × P y.kind
+  moved_behind {P} w p = let x = settled_behind w in (x.0, x.1, x.2, subst P x.2.kind p)
+
+  -- none stands there
+  pub none_behind : t.kind ≡ Undetermined → (y : Lexeme) → LexemeBehind division text e y → ⊥
+  none_behind k = go (same_kind Undetermined t.kind) (ap (same_kind Undetermined) k) behind_it
+    where
+      go : (r : Bool) → r ≡ true → elim r as (λ _. Type 0) [ true ↦ (d : Diagnostic) × ((g.next).faults ≡ d ∷ []) × GivesNone division (g.before).goal text e t d | false ↦ ((g.next).faults ≡ []) × GivesLexeme division cut text e t ] → (y : Lexeme) → LexemeBehind division text e y → ⊥
+      go true q x = x.2.none
+      go false q x = absurd (false≢true q)
+
+  -- whether it is `=>`
+  pub arrow_behind : t.kind ≡ Arrow → ArrowTold text e true
   arrow_behind k = let x = whole_behind (ap tells_whole k) in (x.0, x.1, sym x.2.kind ∙ k)
+
+  pub no_arrow_behind : (t.kind ≡ Arrow → ⊥) → ArrowTold text e false
+  no_arrow_behind n y l k = go (same_kind Undetermined t.kind) behind_it
+    where
+      by : (x : GivesLexeme division cut text e t) → ⊥
+      by x =
+          let i : y ≡ x.lexeme = lex-same l.lex x.stands.lex (l.of_goal ∙ sym x.stands.of_goal) in
+          let r : is_right_angle x.lexeme.kind ≡ false = ap (λ (z : Lexeme). is_right_angle z.kind) (sym i) ∙ ap is_right_angle k in
+          n (x.tells.kind ∙ (ap (λ (z : Lexeme). z.kind) (cut_same x.lexeme r) ∙ (ap (λ (z : Lexeme). z.kind) (sym i) ∙ k)))
+
+      go : (r : Bool) → elim r as (λ _. Type 0) [ true ↦ (d : Diagnostic) × ((g.next).faults ≡ d ∷ []) × GivesNone division (g.before).goal text e t d | false ↦ ((g.next).faults ≡ []) × GivesLexeme division cut text e t ] → ⊥
+      go true x = x.2.none y l
+      go false x = by x.1
 
 -- it ends between characters
 pub plain_between : {text : List ℕ} {s : ℕ} {y : Lexeme} → IsUtf8 text → IsCharBoundary text s → LexemeBehind division text s y → IsCharBoundary text y.to
@@ -156,54 +158,6 @@ plain_between {text} {s} {y} u b l =
     let p = passed u b l in
     let w = front_word text y.from p.word p.rest u p.stands.boundary p.here in
     subst (λ (v : ℕ). IsCharBoundary text v) (sym p.to) w.boundary
-
--- ---- the lexemes that were passed so far
-
-pub record PassedTo (text : List ℕ) (start : ℕ) (old : List OpenBracket) (place : ℕ) : Type 0 where
-  pub between : IsCharBoundary text place
-  pub leads : (e : ℕ) → Closing text (open_behind [] old) place e → Closing text [] start e
-
-pub passed_none : {text : List ℕ} {start : ℕ} {old : List OpenBracket} → IsCharBoundary text start → old ≡ [] → PassedTo text start old start
-passed_none {text} {start} {old} b h = record { between = b; leads = λ e c. subst (λ (bs : List OpenBracket). Closing text (open_behind [] bs) start e) h c }
-
-module _ {text : List ℕ} {start place : ℕ} {old : List OpenBracket} (new : List OpenBracket) {t : Token} {to : ℕ} (u : IsUtf8 text) (z : PassedTo text start old place) (g : GivesBehind text place t) (w : tells_whole t.kind ≡ true) (m : move (bracket t.kind) (open_behind [] old) ≡ Some (open_behind [] new)) (d : to ≡ t.span.end) where
-  next_lexeme : (y : Lexeme) × Settled text place y × Tells y t
-  next_lexeme = settled_behind g w
-
-  ends_there : to ≡ next_lexeme.0.to
-  ends_there = d ∙ next_lexeme.2.end
-
-  moved : move (bracket next_lexeme.0.kind) (open_behind [] old) ≡ Some (open_behind [] new)
-  moved = ap (λ (k : Kind). move (bracket k) (open_behind [] old)) (sym next_lexeme.2.kind) ∙ m
-
-  between_there : IsCharBoundary text to
-  between_there = subst (λ (v : ℕ). IsCharBoundary text v) (sym ends_there) (plain_between u z.between next_lexeme.1.0)
-
-  -- some brackets are old behind it
-  pub passed_on : (length new ≡ 0 → ⊥) → PassedTo text start new to
-  passed_on n =
-      let x = some_open new n in
-      record {
-        between = between_there;
-        leads = λ e c. z.leads e (inside next_lexeme.1 (moved ∙ ap Some x.2) (subst (λ (st : List ℕ). Closing text st next_lexeme.0.to e) x.2 (subst (λ (v : ℕ). Closing text (open_behind [] new) v e) ends_there c)));
-      }
-
-  -- or none
-  pub passed_between : IsCharBoundary text to
-  passed_between = between_there
-
-  pub closes_there : length new ≡ 0 → (y : Lexeme) → LexemeBehind division text to y → y.kind ≡ Arrow → ArrowBehindOne text start
-  closes_there n y l k = record {
-    place = to;
-    closing = subst (λ (v : ℕ). Closing text [] start v) (sym ends_there) (z.leads next_lexeme.0.to (closed next_lexeme.1 (moved ∙ ap Some (none_open new n))));
-    arrow = y;
-    stands = l;
-    is = k;
-  }
-
-  pub arrow_found : length new ≡ 0 → (found : Bool) → ArrowStands text to found → ArrowFound text start found
-  arrow_found n true y = closes_there n y.0 y.1 y.2
-  arrow_found n false y = tt
 
 -- ---- the lexemes of an operand go the same way
 
@@ -222,18 +176,3 @@ closes_alike text s {st = st} {e = e} {e' = e'} l (and_more {b = b} {s = t} {x =
     let g : Some (b ∷ t) ≡ Some (c ∷ v) = sym p ∙ (ap (λ (z : Lexeme). move (bracket z.kind) st) w ∙ q) in
     let z : b ∷ t ≡ c ∷ v = cc in
     closes_alike text y.to (subst (λ (k : Lexeme). Lexes (Lex text) k.to ls) w l.1) (subst (λ (n : List ℕ). One n ls e r) z o) d
-
--- ---- what is answered of one lexeme
-
-pub last_closed : (b c : OpenBracket) (old new : List OpenBracket) (r : Bool) → old ≡ new ++ c ∷ [] → (r ≡ true → c ≡ b) → LastClosed b old new r
-last_closed b c old new true e q = ap (λ (bs : List OpenBracket). pop (number_of b) (open_behind [] bs)) e ∙ pops b c new (ap number_of (q refl))
-last_closed b c old new false e q = tt
-
-pub opened_passed : {E : Type 0} (k : Kind) {j : Kind} (b : OpenBracket) (old new : List OpenBracket) (r : Result Bool E) → k ≡ j → tells_whole j ≡ true → ((st : List ℕ) → move (bracket j) st ≡ Some (number_of b ∷ st)) → IfOk r (λ o. Opened b old new o) → IfOk r (λ o. BracketPassed k old new o)
-opened_passed k b old new (Ok true) e w m o = (ap tells_whole e ∙ w, ap (λ (i : Kind). move (bracket i) (open_behind [] old)) e ∙ (m (open_behind [] old) ∙ ap Some (sym o)))
-opened_passed k b old new (Ok false) e w m o = tt
-opened_passed k b old new (Err x) e w m o = tt
-
-pub closed_passed : (k : Kind) {j : Kind} (b : OpenBracket) (old new : List OpenBracket) (r : Bool) → k ≡ j → tells_whole j ≡ true → ((st : List ℕ) → move (bracket j) st ≡ pop (number_of b) st) → LastClosed b old new r → BracketPassed k old new r
-closed_passed k b old new true e w m o = (ap tells_whole e ∙ w, ap (λ (i : Kind). move (bracket i) (open_behind [] old)) e ∙ (m (open_behind [] old) ∙ o))
-closed_passed k b old new false e w m o = tt

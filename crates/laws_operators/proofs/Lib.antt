@@ -17,8 +17,10 @@ pub mod HeadOperands
 pub mod HeadsAsArguments
 pub mod Lists
 pub mod Lookaheads
+pub mod NotedClosings
 pub mod NotedHeads
 pub mod OnePlace
+pub mod OpenBrackets
 pub mod Operations
 pub mod ParenthesizedFronts
 pub mod Refusals

@@ -1,6 +1,6 @@
 -- What the lexeme behind an opening parenthesis says of the head of an arrow function (ECMA-262, 15.3).
-use Rattle.std.proofs.Common.{ℕ, ◌≡◌, List, true, false, IsTrue, None, refl, sym, ap, subst, arith, ◌∙◌, Option}
-use Rattle.std.specs.Prelude.{Ok}
+use Rattle.std.proofs.Common.{ℕ, ◌≡◌, Bool, List, true, false, cond, IsTrue, None, Some, refl, sym, ap, subst, arith, ◌∙◌, Option}
+use Rattle.std.specs.Prelude.{Ok, Err}
 use Rattle.std.proofs.lemmas.Bool.{false≢true}
 use Rattle.js_base.specs.declared.diagnostic.DiagnosticKind.TheVariants.{ExpectToken}
 use Rattle.js_base.specs.declared.kind.Kind.{Kind}
@@ -11,7 +11,7 @@ use Rattle.js_grammar.specs.Trees.{Slots, end, parenthesized_expression}
 use Rattle.js_grammar.specs.Grammar.{Lexeme, Lexemes, Look, Takes, seen, such, marked, ◌▸◌, is_lexeme, is_seq}
 use Rattle.js_grammar.specs.Lexed.{Lexes}
 use Rattle.js_grammar.specs.Parsing.{Test, plain, full, always, Goes, Fails, still}
-use Rattle.js_grammar.specs.Productions.{G, Flags, at, tok, mk, plus_in, with_pife, Expression, Params, Primary, Short, Unary, Update}
+use Rattle.js_grammar.specs.Productions.{G, Flags, at, tok, mk, plus_in, with_pife, Assignment, Expression, Params, Primary, Short, Unary, Update}
 use Rattle.js_grammar.specs.Table.{rule, rule_of}
 use Rattle.js_grammar.specs.FirstSets.{first}
 use Rattle.js_grammar.specs.Follow.{after}
@@ -23,14 +23,16 @@ use Rattle.js_grammar.proofs.FollowLaws.{fails_by}
 use Rattle.js_grammar.proofs.Looks.{covers, apart, not_both}
 use Rattle.laws_shared.specs.js_tree.declared.id.NodeId.{NodeId}
 use Rattle.laws_shared.specs.js_cursor.Moves.{GivesUp, IsHere, Peeks}
+use Rattle.laws_shared.specs.js_cursor.Notes.{Notes, closing_known, is_place}
 use Rattle.laws_shared.specs.js_cursor.Parsers.{Parser}
 use Rattle.laws_shared.specs.js_cursor.declared.stop.Stop.{Stop}
 use Rattle.laws_patterns.proofs.laws_primary.Links.{no_lhs_here}
 use Rattle.laws_patterns.proofs.laws_primary.Members.{no_head}
 use Rattle.laws_shared.specs.Answers.{Answers, Stops, Underived}
+use Rattle.laws_shared.specs.Heads.{NoHead, OnlyArrow}
 use Rattle.laws_shared.specs.Lexemes.{Lex, signs}
 use Rattle.laws_shared.specs.Operators.{unary_kinds}
-use Rattle.laws_shared.specs.States.{At}
+use Rattle.laws_shared.specs.States.{At, Standing}
 use Rattle.laws_shared.proofs.Classes.{here_ends}
 use Rattle.laws_shared.proofs.Giving.{gives_up}
 use Rattle.laws_shared.proofs.Here.{told, uncut, unsettled}
@@ -41,15 +43,18 @@ use Rattle.laws_shared.proofs.Verdicts.{after as grown_behind}
 use Rattle.laws_patterns.specs.Parameters.{parameters_left}
 use Rattle.laws_patterns.proofs.ParameterLists.{no_params}
 use Rattle.laws_patterns.proofs.Peeks.{peeked_kind}
-use Rattle.laws_operators.specs.Arrows.{AttemptsHead, IsHeadHere, NoLineHere, NoAssignment, Unmoved, NoOperandHere}
+use Rattle.laws_operators.specs.Arrows.{IsHeadHere, NoLineHere, NoAssignment, SearchesPlainHead, Unmoved, NoOperandHere}
 use Rattle.laws_operators.specs.Lookaheads.{begins_operand, LooksAhead, NoHeadThere}
 use Rattle.laws_operators.specs.declared.forms.HeadLookahead.{HeadLookahead}
 use Rattle.laws_operators.specs.declared.forms.HeadLookahead.TheVariants as lookahead
 use Rattle.laws_operators.specs.Rests.{update_kinds}
-use Rattle.laws_operators.proofs.Arrows.{certain_head, no_head_no_line, no_parameters, unarrowed, unassigned, unmoved}
+use Rattle.laws_operators.proofs.Arrows.{certain_head, from_unmoved, no_head_no_line, no_parameters, unarrowed, unassigned}
 use Rattle.laws_operators.proofs.Coalescing.{no_short}
 use Rattle.laws_operators.proofs.Exponents.{power_none}
+use Rattle.laws_operators.proofs.NotedClosings.{noted_false, noted_true}
+use Rattle.laws_operators.proofs.NotedHeads.{there_too}
 use Rattle.laws_operators.proofs.Operations.{fails_at_level}
+use Rattle.laws_operators.proofs.SlashedHeads.{only_no_operand}
 use Rattle.laws_operators.proofs.Updates.{nothing_read}
 
 -- nothing that may begin what is due behind a parenthesis stands there
@@ -137,24 +142,51 @@ module _ {p : Parser} (k : p.token.kind ≡ LParen) (n : NoOperandHere p) where
     n,
   )
 
--- what was seen
-pub head_alone : (p q : Parser) (h : HeadLookahead) → h ≡ lookahead.Head → LooksAhead p q h → (q ≡ p) × NoOperandHere p
-head_alone p q h e x = subst (λ (v : HeadLookahead). LooksAhead p q v) e x
+-- ---- by what is noted of the parenthesis that closes
 
-pub none_seen : (p q : Parser) (h : HeadLookahead) → h ≡ lookahead.NoHead → LooksAhead p q h → (q ≡ p) × NoHeadThere p
-none_seen p q h e x = subst (λ (v : HeadLookahead). LooksAhead p q v) e x
+pub known_true : (n : Notes) (s : ℕ) → closing_known n s ≡ Some true → is_place n.arrows s ≡ true
+known_true n s e = go (is_place n.arrows s) (is_place n.others s) e
+  where
+    go : (a b : Bool) → cond a (Some true) (cond b (Some false) None) ≡ Some true → a ≡ true
+    go true b e = refl
+    go false true e = let i : false ≡ true = cc in absurd (false≢true i)
+    go false false e = absurd (cc)
+
+known_false : (n : Notes) (s : ℕ) → closing_known n s ≡ Some false → is_place n.others s ≡ true
+known_false n s e = go (is_place n.arrows s) (is_place n.others s) e
+  where
+    go : (a b : Bool) → cond a (Some true) (cond b (Some false) None) ≡ Some false → b ≡ true
+    go true b e = let i : true ≡ false = cc in absurd (false≢true (sym i))
+    go false true e = refl
+    go false false e = absurd (cc)
+
+module _ {p q : Parser} {place : ℕ} (k : p.token.kind ≡ LParen) (u : Unmoved p q) (i : place ≡ p.prev_token_end) where
+  pub looks_arrow : closing_known q.state place ≡ Some true → LooksAhead p q lookahead.Head
+  looks_arrow e = (u, λ text f a. only_no_operand k a (subst (λ (s : ℕ). OnlyArrow text f s) i (noted_true (u.at text f a) (known_true q.state place e))))
+
+  pub looks_no_arrow : closing_known q.state place ≡ Some false → LooksAhead p q lookahead.NoHead
+  looks_no_arrow e = (u, λ text f g a. subst (λ (s : ℕ). NoHead text g s) i (noted_false g (u.at text f a) (known_false q.state place e)))
+
+-- ---- what was seen
+
+pub seen_so : (p q : Parser) {h j : HeadLookahead} → h ≡ j → LooksAhead p q h → LooksAhead p q j
+seen_so p q e x = subst (λ (v : HeadLookahead). LooksAhead p q v) e x
+
+pub looks_from : (p o q : Parser) (h : HeadLookahead) → o ≡ p → LooksAhead o q h → LooksAhead p q h
+looks_from p o q h e x = subst (λ (z : Parser). LooksAhead z q h) e x
+
+pub seen_unmoved : (p q : Parser) (h : HeadLookahead) → LooksAhead p q h → Unmoved p q
+seen_unmoved p q lookahead.Head x = x.0
+seen_unmoved p q lookahead.Maybe x = x
+seen_unmoved p q lookahead.NoHead x = x.0
 
 -- so no head stands here
-pub none_read : {p q : Parser} → p.token.kind ≡ LParen → (q ≡ p) × NoHeadThere p → Unmoved p q × NoLineHere p
-none_read k x = (unmoved x.0, λ text f a. no_head_no_line a k (x.1 text f f a))
+pub none_read : {p q : Parser} → p.token.kind ≡ LParen → Unmoved p q × NoHeadThere p → Unmoved p q × NoLineHere p
+none_read k x = (x.0, λ text f a. no_head_no_line a k (x.1 text f f a))
 
-pub maybe_seen : (p q : Parser) (h : HeadLookahead) → (h ≡ lookahead.NoHead → ⊥) → LooksAhead p q h → q ≡ p
-maybe_seen p q lookahead.Head n x = x.0
-maybe_seen p q lookahead.Maybe n x = x
-maybe_seen p q lookahead.NoHead n x = absurd (n refl)
+-- no operand stands where the parser is now
+pub operand_there : {p q : Parser} → Standing p → Unmoved p q → NoOperandHere p → NoOperandHere q
+operand_there a u n = there_too (λ text f s. Underived text (at Short f) s) a u n
 
-pub head_from : {p o q : Parser} (id : NodeId) → o ≡ p → IsHeadHere o q id → IsHeadHere p q id
-head_from {q = q} id e h = subst (λ (z : Parser). IsHeadHere z q id) e h
-
-pub maybe_from : (p o q : Parser) (h : HeadLookahead) (found : Option NodeId) → h ≡ lookahead.Maybe → LooksAhead p o h → AttemptsHead false o q found → AttemptsHead false p q found
-maybe_from p o q h found e x y = subst (λ (z : Parser). AttemptsHead false z q found) (subst (λ (v : HeadLookahead). LooksAhead p o v) e x) y
+pub stops_there : {p q : Parser} (w : Parser) (e : Stop) → Unmoved p q → NoOperandHere p → NoAssignment q w e × NoOperandHere q → SearchesPlainHead p w (Err e)
+stops_there w e u n x = ((λ text f a. from_unmoved text f (at Assignment f) w (Err e) u (x.0 text f (u.at text f a))), λ i. n)

@@ -11,7 +11,7 @@ use Rattle.laws_shared.proofs.js_cursor.Changing.{noted_on, operand_noted_on}
 use Rattle.laws_shared.proofs.js_cursor.Noting.{noted_step}
 use Rattle.laws_operators.specs.Arrows.{NoParametersHere, OnlyArrowHere, Unmoved}
 use Rattle.laws_operators.proofs.Arrows.{unmoved}
-use Rattle.laws_shared.specs.Heads.{NoHead, NotedHeads, OnlyArrow, flags_in, widened}
+use Rattle.laws_shared.specs.Heads.{NoHead, NotedClosings, NotedHeads, OnlyArrow, flags_in, widened}
 use Rattle.laws_shared.specs.Lexemes.{spot}
 use Rattle.laws_shared.specs.States.{At, IsPlain, Same, Standing, flags_of, whole, sign, nothing as none_stands, SpansLie}
 use Rattle.laws_shared.specs.js_tree.Holding.{Keeps}
@@ -30,13 +30,17 @@ noted_none {p} {place} i w h e = λ text f a.
 pub noted_operand : {text : List ℕ} {f : Flags} {q : Parser} {place : ℕ} → At text f q → bits_of q.ctx < 65536 → is_noted q.state.operands q.ctx place ≡ true → OnlyArrow text f place
 noted_operand {text} {f} {q} {place} a w h = subst (λ (g : Flags). OnlyArrow text g place) a.flags_are (subst (λ (t : List ℕ). OnlyArrow t (widened f.wide (flags_of q)) place) a.text_is (a.heads.1 f.wide q.ctx place w h))
 
+-- what is noted of closings stays
+closings_kept : {text xs ys us vs : List ℕ} → us ≡ xs → vs ≡ ys → NotedClosings text xs ys → NotedClosings text us vs
+closings_kept {text} {ys = ys} {us} i j n = subst (λ (v : List ℕ). NotedClosings text us v) (sym j) (subst (λ (u : List ℕ). NotedClosings text u ys) (sym i) n)
+
 -- what is noted is so still
 pub noted_so : {p q : Parser} {place : ℕ} → Standing p → place ≡ p.prev_token_end → NoParametersHere p → NotesArrow place p q → NotedHeads q
-noted_so {p} {q} {place} a i n h = subst NotedHeads (sym h.is) (λ w. noted_step (λ c s. NoHead p.text (widened w (flags_in p c)) s) h.noted.failed (subst (λ (v : ℕ). NoHead p.text (widened w (flags_of p)) v) (sym i) (n _ _ (standing_for a refl refl))) (a.heads.0 w), λ w c s b k. a.heads.1 w c s b (subst (λ (v : List ℕ). is_noted v c s ≡ true) h.noted.operands k))
+noted_so {p} {q} {place} a i n h = subst NotedHeads (sym h.is) (λ w. noted_step (λ c s. NoHead p.text (widened w (flags_in p c)) s) h.noted.failed (subst (λ (v : ℕ). NoHead p.text (widened w (flags_of p)) v) (sym i) (n _ _ (standing_for a refl refl))) (a.heads.0 w), λ w c s b k. a.heads.1 w c s b (subst (λ (v : List ℕ). is_noted v c s ≡ true) h.noted.operands k), closings_kept h.noted.arrows h.noted.others a.heads.2)
 
 -- the same of operands, at any place
 operand_noted_at : {p q : Parser} {place : ℕ} → Standing p → ((text : List ℕ) (f : Flags) → At text f p → OnlyArrow text f place) → NotesNoOperand place p q → NotedHeads q
-operand_noted_at {p} {q} a n h = subst NotedHeads (sym h.is) (λ w c s b k. a.heads.0 w c s b (subst (λ (v : List ℕ). is_noted v c s ≡ true) h.noted.failed k), λ w. noted_step (λ c s. OnlyArrow p.text (widened w (flags_in p c)) s) h.noted.operands (n _ _ (standing_for a refl refl)) (a.heads.1 w))
+operand_noted_at {p} {q} a n h = subst NotedHeads (sym h.is) (λ w c s b k. a.heads.0 w c s b (subst (λ (v : List ℕ). is_noted v c s ≡ true) h.noted.failed k), λ w. noted_step (λ c s. OnlyArrow p.text (widened w (flags_in p c)) s) h.noted.operands (n _ _ (standing_for a refl refl)) (a.heads.1 w), closings_kept h.noted.arrows h.noted.others a.heads.2)
 
 plain_of : {text : List ℕ} {p : Parser} (ns : Notes) → IsPlain text p → IsPlain text (record p { state = ns })
 plain_of ns (whole c n x) = whole c n x
@@ -44,7 +48,7 @@ plain_of ns (sign c k x) = sign c k x
 plain_of ns (none_stands c k n) = none_stands c k n
 
 -- the parser went back, and then something was noted
-state_noted : {p r q : Parser} → Unmoved p r → q ≡ record r { state = q.state } → GoesOn r q → ((text : List ℕ) (f : Flags) → At text f r → NotedHeads q) → Unmoved p q
+pub state_noted : {p r q : Parser} → Unmoved p r → q ≡ record r { state = q.state } → GoesOn r q → ((text : List ℕ) (f : Flags) → At text f r → NotedHeads q) → Unmoved p q
 state_noted {p} {r} {q} u i g n =
     record {
       at = λ text f b. at_noted text f (u.at text f b);

@@ -1,5 +1,5 @@
 -- Heads of arrow functions in which a slash stands (ECMA-262, 15.3): what stands there is read as arguments too, and those are read over one list of lexemes alone, or none.
-use Rattle.std.proofs.Common.{ℕ, ◌≡◌, ◌<◌, inl, inr, List, length, Bool, true, false, not, IsTrue, Option, Some, None, refl, sym, ap, subst, arith, ◌∙◌}
+use Rattle.std.proofs.Common.{ℕ, ◌≡◌, ◌<◌, ◌⊎◌, inl, inr, List, length, Bool, true, false, not, IsTrue, Option, Some, None, refl, sym, ap, subst, arith, ◌∙◌}
 use Rattle.std.specs.Prelude.{IfOk, IsCharBoundary, IsUtf8, MatchResult, Result, Ok, Err}
 use Rattle.std.proofs.Math.Dec.{eqb}
 use Rattle.std.proofs.lemmas.Bool.{eqb-true, false≢true}
@@ -19,7 +19,7 @@ use Rattle.js_grammar.proofs.Calculus.{ends, here_at}
 use Rattle.laws_shared.specs.js_tree.declared.id.NodeId.{NodeId}
 use Rattle.laws_shared.proofs.js_tree.HoldingLemmas.{Holds-wider, Keeps-longer, Keeps-trans}
 use Rattle.laws_shared.specs.js_cursor.Moves.{NotesNoOperand, OnlyMemory}
-use Rattle.laws_shared.specs.js_cursor.Notes.{is_noted}
+use Rattle.laws_shared.specs.js_cursor.Notes.{is_noted, is_place}
 use Rattle.laws_shared.specs.js_cursor.Parsers.{Parser}
 use Rattle.laws_shared.specs.js_cursor.declared.stop.Stop.{Stop}
 use Rattle.laws_shared.specs.js_cursor.declared.stop.Stop.TheVariants.{Fatal}
@@ -35,14 +35,15 @@ use Rattle.laws_shared.proofs.Verdicts.{either_way}
 use Rattle.parse_targets.specs.Others.{NoYield}
 use Rattle.parse_targets.proofs.ArraysBeforeSigns.{is_cover}
 use Rattle.laws_operators.specs.Arrows.{ArgumentsTold, AttemptsHead, FindsHead, Head, HeadDerived, HeadRead, HeadStands, NeverArrow, read_clean, read_unclean, IsHeadRead, NoHeadHere, NoLine, NoSlash, OnlyArrowHere, OperandExcluded, PlainHead, a_head, told_head, SlashFound, ToldHead, TriesHead, Unmoved, WentOn, head_of}
-use Rattle.laws_operators.proofs.Arrows.{arrow_is_here, closed_arrow, head_derived, head_only_arrow, no_head_no_line, no_yield_paren, plain_head_flags, quiet_behind, start_between, unassigned}
+use Rattle.laws_operators.proofs.Arrows.{arrow_is_here, head_derived, head_only_arrow, no_head_no_line, no_yield_paren, plain_head_flags, quiet_behind, start_between, unassigned}
 use Rattle.laws_operators.proofs.HeadsAsArguments.{params_as_arguments}
+use Rattle.laws_operators.proofs.NotedClosings.{attempts_alone, attempts_unmoved, more_alone, more_none, more_unmoved, noted_true}
 use Rattle.laws_operators.proofs.NotedHeads.{noted_operand, operand_noted_behind, there_too}
 use Rattle.laws_operators.proofs.ParenthesizedFronts.{no_operand_before}
 use Rattle.laws_operators.proofs.SlashesInText.{all_calm}
 use Rattle.laws_shared.specs.Contexts.{arrow_head}
 use Rattle.laws_operators.proofs.FreeOfAwait.{params_around}
-use Rattle.laws_operators.specs.Closings.{ArrowBehindOne, ArrowFound}
+use Rattle.laws_operators.specs.Closings.{FindsClosing, NotesMore}
 use Rattle.laws_operators.proofs.Exponents.{longer}
 
 -- ---- what was read as arguments
@@ -117,21 +118,28 @@ told_so p q e h = subst (λ (v : Bool). ArgumentsTold p q v) e h
 pub slash_so : (text : List ℕ) (s e : ℕ) {b r : Bool} → r ≡ b → SlashFound text s e r → SlashFound text s e b
 slash_so text s e i h = subst (λ (v : Bool). SlashFound text s e v) i h
 
-pub excluded_so : (place kept : ℕ) (q : Parser) {b r : Bool} → r ≡ b → OperandExcluded place kept q r → OperandExcluded place kept q b
-excluded_so place kept q e h = subst (λ (v : Bool). OperandExcluded place kept q v) e h
+pub excluded_so : (place kept : ℕ) (p q : Parser) {b r : Bool} → r ≡ b → OperandExcluded place kept p q r → OperandExcluded place kept p q b
+excluded_so place kept p q e h = subst (λ (v : Bool). OperandExcluded place kept p q v) e h
 
--- it is noted, or the parentheses close before `=>`, or no slash stands between
-pub excluded_noted : (place kept : ℕ) (q : Parser) {b : Bool} → bits_of q.ctx < 65536 → b ≡ is_noted q.state.operands q.ctx place → b ≡ true → OperandExcluded place kept q true
-excluded_noted place kept q w h e = inl (w, sym h ∙ e)
+-- it is noted, or no slash stands between
+pub excluded_noted : (place kept : ℕ) (p q : Parser) {b : Bool} → q ≡ p → bits_of p.ctx < 65536 → b ≡ is_noted p.state.operands p.ctx place → b ≡ true → OperandExcluded place kept p q true
+excluded_noted place kept p q i w h e = subst (λ (z : Parser). OperandExcluded place kept p z true) (sym i) (more_none refl, inl (w, sym h ∙ e))
 
-pub excluded_closed : (place kept : ℕ) (q : Parser) {E : Type 0} (r : Result Bool E) → IfOk r (λ b. ArrowFound q.text place b) → IfOk r (λ b. OperandExcluded place kept q b)
-excluded_closed place kept q (Ok true) h = inr (inl h)
-excluded_closed place kept q (Ok false) h = tt
-excluded_closed place kept q (Err e) h = h
+pub excluded_arrow : (place kept : ℕ) (p q : Parser) → q ≡ p → is_place p.state.arrows place ≡ true → OperandExcluded place kept p q true
+excluded_arrow place kept p q i h = subst (λ (z : Parser). OperandExcluded place kept p z true) (sym i) (more_none refl, inr (inl h))
 
-pub excluded_unslashed : (place kept : ℕ) (q : Parser) {e : ℕ} (b : Bool) → length q.errors ≡ kept → e ≡ q.token.span.start → SlashFound q.text place e b → OperandExcluded place kept q (not b)
-excluded_unslashed place kept q true n i h = tt
-excluded_unslashed place kept q false n i h = inr (inr (n, subst (λ (v : ℕ). NoSlash q.text place v) i h))
+pub excluded_closed : (place kept : ℕ) (p q : Parser) {E : Type 0} (r : Result Bool E) → IfOk r (λ b. FindsClosing place p q b) → IfOk r (λ b. OperandExcluded place kept p q b)
+excluded_closed place kept p q (Ok true) h = (h.0, inr (inl h.1))
+excluded_closed place kept p q (Ok false) h = h
+excluded_closed place kept p q (Err e) h = h
+
+pub excluded_unslashed : (place kept : ℕ) (p q : Parser) {e : ℕ} (b : Bool) → q ≡ p → length p.errors ≡ kept → e ≡ p.token.span.start → SlashFound p.text place e b → OperandExcluded place kept p q (not b)
+excluded_unslashed place kept p q true j n i h = more_none j
+excluded_unslashed place kept p q false j n i h = subst (λ (z : Parser). OperandExcluded place kept p z true) (sym j) (more_none refl, inr (inr (n, subst (λ (v : ℕ). NoSlash p.text place v) i h)))
+
+pub excluded_more : (place kept : ℕ) (p q : Parser) (b : Bool) → OperandExcluded place kept p q b → NotesMore p q
+excluded_more place kept p q true x = x.0
+excluded_more place kept p q false x = x
 
 -- where no slash stands in the head
 slashless : {text : List ℕ} {f g : Flags} {p q : Parser} {id : NodeId} → At text f p → Head text f g p q id → q.token.kind ≡ Arrow → NoSlash text p.prev_token_end q.token.span.start → OnlyArrow text f p.prev_token_end
@@ -142,35 +150,40 @@ read_at : {text : List ℕ} {f g : Flags} {p q : Parser} {id : NodeId} → HeadR
 read_at (read_clean h) = h.at
 read_at (read_unclean t m) = t.at
 
-pub head_settled : {p q : Parser} {id : NodeId} (b : Bool) (place kept : ℕ) → kept ≡ length p.errors → place ≡ p.prev_token_end → IsHeadRead b p q id → OperandExcluded place kept q true → OnlyArrowHere p
-head_settled {p} {q} {id} b place kept n i x o = λ text f a. by a (x.1 text f a) o
+pub head_settled : {p o q : Parser} {id : NodeId} (b : Bool) (place kept : ℕ) → kept ≡ length p.errors → place ≡ p.prev_token_end → IsHeadRead b p q id → OperandExcluded place kept o q true → OnlyArrowHere p
+head_settled {p} {o} {q} {id} b place kept n i x w = λ text f a. by a (x.1 text f a) w.1
   where
-    by : {text : List ℕ} {f : Flags} → At text f p → HeadRead text f (arrow_head b f) p q id → OperandExcluded place kept q true → OnlyArrow text f p.prev_token_end
+    by : {text : List ℕ} {f : Flags} → At text f p → HeadRead text f (arrow_head b f) p q id → ((bits_of q.ctx < 65536) × (is_noted q.state.operands q.ctx place ≡ true)) ⊎ ((is_place q.state.arrows place ≡ true) ⊎ ((length q.errors ≡ kept) × NoSlash q.text place q.token.span.start)) → OnlyArrow text f p.prev_token_end
     by {text} {f} a h (inl e) = subst (λ (v : ℕ). OnlyArrow text f v) i (noted_operand (read_at h) e.0 e.1)
-    by {text} a h (inr (inl c)) = closed_arrow (subst (λ (v : ℕ). ArrowBehindOne text v) i (subst (λ (t : List ℕ). ArrowBehindOne t place) (read_at h).text_is c))
+    by {text} {f} a h (inr (inl c)) = subst (λ (v : ℕ). OnlyArrow text f v) i (noted_true (read_at h) c)
     by {text} a (read_clean h) (inr (inr s)) = slashless a h x.0 (subst (λ (t : List ℕ). NoSlash t p.prev_token_end q.token.span.start) h.at.text_is (subst (λ (v : ℕ). NoSlash q.text v q.token.span.start) i s.1))
     by a (read_unclean t m) (inr (inr s)) = absurd (longer t.grown (sym (s.0 ∙ n)))
 
--- a head that was read stands where it is noted that behind arguments there `=>` stands
-pub head_noted : {p q r : Parser} {id : NodeId} {place : ℕ} (b : Bool) → Standing p → place ≡ p.prev_token_end → IsHeadRead b p q id → OnlyArrowHere p → NotesNoOperand place q r → IsHeadRead b p r id
-head_noted {p} {q} {r} {id} {place} b a i x n h = (ap (λ (z : Parser). z.token.kind) h.is ∙ x.0, λ text f c. subst (λ (z : Parser). HeadRead text f (arrow_head b f) p z id) (sym h.is) (by (x.1 text f c)))
+-- a head that was read stands where nothing but notes changed
+pub head_kept : {p q r : Parser} {id : NodeId} (b : Bool) → r ≡ record q { state = r.state } → ((text : List ℕ) (f : Flags) → At text f q → Same p q → Unmoved q r) → IsHeadRead b p q id → IsHeadRead b p r id
+head_kept {p} {q} {r} {id} b i u x = (ap (λ (z : Parser). z.token.kind) i ∙ x.0, λ text f c. subst (λ (z : Parser). HeadRead text f (arrow_head b f) p z id) (sym i) (by (x.1 text f c)))
   where
     q' : Parser
     q' = record q { state = r.state }
 
-    unmoved_by : {text : List ℕ} {f : Flags} → At text f q → Same p q → Unmoved q q'
-    unmoved_by c s = subst (Unmoved q) h.is (operand_noted_behind a (standing c) s n i h)
-
     by : {text : List ℕ} {f g : Flags} → HeadRead text f g p q id → HeadRead text f g p q' id
     by {text} {f} (read_clean y) =
-        let u = unmoved_by y.at y.same in
-        read_clean (record { at = u.at text f y.at; same = same_both y.same u.same; further = y.further; quiet = y.quiet; label = y.label; slots = y.slots; pass = y.pass; walked = y.walked; read = y.read; holds = y.holds; keeps = y.keeps })
+        let v : Unmoved q q' = subst (Unmoved q) i (u text f y.at y.same) in
+        read_clean (record { at = v.at text f y.at; same = same_both y.same v.same; further = y.further; quiet = y.quiet; label = y.label; slots = y.slots; pass = y.pass; walked = y.walked; read = y.read; holds = y.holds; keeps = y.keeps })
     by {text} {f} (read_unclean y m) =
-        let u = unmoved_by y.at y.same in
-        read_unclean (record { at = u.at text f y.at; same = same_both y.same u.same; further = y.further; grown = y.grown; label = y.label; slots = y.slots; pass = y.pass; walked = y.walked; holds = y.holds; keeps = y.keeps }) m
+        let v : Unmoved q q' = subst (Unmoved q) i (u text f y.at y.same) in
+        read_unclean (record { at = v.at text f y.at; same = same_both y.same v.same; further = y.further; grown = y.grown; label = y.label; slots = y.slots; pass = y.pass; walked = y.walked; holds = y.holds; keeps = y.keeps }) m
+
+-- where it is noted that behind arguments there `=>` stands
+pub head_noted : {p q r : Parser} {id : NodeId} {place : ℕ} (b : Bool) → Standing p → place ≡ p.prev_token_end → IsHeadRead b p q id → OnlyArrowHere p → NotesNoOperand place q r → IsHeadRead b p r id
+head_noted b a i x n h = head_kept b h.is (λ text f c s. operand_noted_behind a (standing c) s n i h) x
+
+-- where more is noted of closings
+pub head_more : {p q r : Parser} {id : NodeId} (b : Bool) → IsHeadRead b p q id → NotesMore q r → IsHeadRead b p r id
+head_more b x m = head_kept b (more_alone m) (λ text f c s. more_unmoved (standing c) m) x
 
 -- by arguments that stand before `=>`, no operand is derived
-only_no_operand : {text : List ℕ} {f : Flags} {p : Parser} → p.token.kind ≡ LParen → At text f p → OnlyArrow text f p.prev_token_end → Underived text (at Short f) p.prev_token_end
+pub only_no_operand : {text : List ℕ} {f : Flags} {p : Parser} → p.token.kind ≡ LParen → At text f p → OnlyArrow text f p.prev_token_end → Underived text (at Short f) p.prev_token_end
 only_no_operand k a n = no_operand_before n (λ y l. kind_here a k refl y l)
 
 -- without `async`
@@ -256,6 +269,10 @@ module _ {p r : Parser} (u : Unmoved p r) where
   plain_from_there {text} {f} (a_head h y n) = a_head (head_from_there h) (subst (λ (s : ℕ). NoYield text f s) u.place y) (subst (λ (s : ℕ). Underived text (at Short f) s) u.place n)
   plain_from_there {text} {f} (told_head h n) = told_head (told_from_there h) (subst (λ (s : ℕ). Underived text (at Assignment f) s) u.place n)
 
+  pub tried_as_there : (b : Bool) (q : Parser) (found : Option NodeId) → TriesHead b r q found → TriesHead b p q found
+  tried_as_there b q (Some id) x = (x.0, λ text f a. read_from_there (x.1 text f (u.at text f a)))
+  tried_as_there b q None x = (unmoved_both u x.0, λ text f a. subst (λ (s : ℕ). NoHead text (arrow_head b f) s) u.place (x.1 text f (u.at text f a)))
+
   -- what is read after the parser went back, where `=>` alone stands behind arguments
   pub tried_there : (b : Bool) (q : Parser) (found : Option NodeId) → OnlyArrowHere p → TriesHead b r q found → AttemptsHead b p q found
   tried_there b q (Some id) n x = ((x.0, λ text f a. read_from_there (x.1 text f (u.at text f a))), n)
@@ -293,3 +310,11 @@ some_tried b p o q id r s e h = subst (λ (z : Parser). IsHeadRead b z q id) s (
 
 pub none_tried : (b : Bool) (p o q : Parser) (r : Option NodeId) → o ≡ p → r ≡ None → TriesHead b o q r → Unmoved p q × NoHeadHere b p
 none_tried b p o q r s e h = subst (λ (z : Parser). Unmoved z q × NoHeadHere b z) s (subst (TriesHead b o q) e h)
+
+-- while a head is being attempted
+tried_behind : {p q r : Parser} {c : Bool} (b : Bool) (found : Option NodeId) → Standing p → r ≡ record q { state = record q.state { attempting = c } } → TriesHead b p q found → TriesHead b p r found
+tried_behind b (Some id) a i x = head_kept b (attempts_alone i) (λ text f d s. attempts_unmoved (standing d) i) x
+tried_behind b None a i x = (unmoved_both x.0 (attempts_unmoved (standing (x.0.at _ _ a)) i), x.1)
+
+pub tried_while : {p o q r : Parser} {c d : Bool} (b : Bool) (found : Option NodeId) → Standing p → o ≡ record p { state = record p.state { attempting = c } } → TriesHead b o q found → r ≡ record q { state = record q.state { attempting = d } } → TriesHead b p r found
+tried_while {p} {o} {q} b found a i x j = tried_behind b found a j (tried_as_there (attempts_unmoved a i) b q found x)

@@ -22,7 +22,7 @@ use Rattle.laws_shared.specs.js_tree.Nodes.{node_at}
 use Rattle.laws_shared.specs.js_tree.Holding.{Holds, Keeps}
 use Rattle.laws_shared.specs.js_cursor.Checkpoints.{GoesOn}
 use Rattle.laws_shared.specs.js_cursor.Moves.{KeepsDiagnostic}
-use Rattle.laws_shared.specs.js_cursor.Notes.{is_noted}
+use Rattle.laws_shared.specs.js_cursor.Notes.{is_noted, is_place}
 use Rattle.laws_shared.specs.js_cursor.Parsers.{Parser}
 use Rattle.laws_shared.specs.js_cursor.declared.stop.Stop.{Stop}
 use Rattle.laws_shared.specs.js_cursor.declared.stop.Stop.TheVariants.{Fatal}
@@ -35,7 +35,7 @@ use Rattle.laws_shared.specs.Stands.{StandsHere}
 use Rattle.laws_shared.specs.States.{At, Same, NodesLie, SpansLie}
 use Rattle.parse_targets.specs.Others.{NoYield}
 use Rattle.laws_operators.specs.declared.forms.ArrowHead.{ArrowHead}
-use Rattle.laws_operators.specs.Closings.{ArrowBehindOne}
+use Rattle.laws_operators.specs.Closings.{NotesMore}
 use Rattle.laws_operators.specs.HeadOperands.{NoTargetSeen}
 
 -- what stands before `=>`: a name, or parameters in parentheses
@@ -156,10 +156,10 @@ abbrev pub SlashFound : List ℕ → ℕ → ℕ → Bool → Type 0
 SlashFound text s e true = Unit {0}
 SlashFound text s e false = NoSlash text s e
 
--- It's noted that behind arguments there `=>` stands; or the parentheses that begin there close before `=>`; or nothing was told since there were so many diagnostics, and no slash stands in the head that was read from the place on.
-abbrev pub OperandExcluded : ℕ → ℕ → Parser → Bool → Type 0
-OperandExcluded place kept q true = ((bits_of q.ctx < 65536) × (is_noted q.state.operands q.ctx place ≡ true)) ⊎ (ArrowBehindOne q.text place ⊎ ((length q.errors ≡ kept) × NoSlash q.text place q.token.span.start))
-OperandExcluded place kept q false = Unit {0}
+-- It's noted that behind arguments there `=>` stands, or behind the parentheses that begin there; or nothing was told since there were so many diagnostics, and no slash stands in the head that was read from the place on.
+abbrev pub OperandExcluded : ℕ → ℕ → Parser → Parser → Bool → Type 0
+OperandExcluded place kept p q true = NotesMore p q × (((bits_of q.ctx < 65536) × (is_noted q.state.operands q.ctx place ≡ true)) ⊎ ((is_place q.state.arrows place ≡ true) ⊎ ((length q.errors ≡ kept) × NoSlash q.text place q.token.span.start)))
+OperandExcluded place kept p q false = NotesMore p q
 
 -- behind arguments that are derived from here `=>` stands
 abbrev pub OnlyArrowHere : Parser → Type 0

@@ -9,7 +9,7 @@ use Rattle.js_grammar.specs.Productions.{Flags}
 use Rattle.laws_shared.specs.js_cursor.Parsers.{Parser}
 use Rattle.laws_shared.specs.Heads.{NoHead}
 use Rattle.laws_shared.specs.States.{At}
-use Rattle.laws_operators.specs.Arrows.{NoOperandHere}
+use Rattle.laws_operators.specs.Arrows.{NoOperandHere, Unmoved}
 use Rattle.laws_operators.specs.declared.forms.HeadLookahead.{HeadLookahead}
 use Rattle.laws_operators.specs.declared.forms.HeadLookahead.TheVariants as lookahead
 
@@ -21,8 +21,8 @@ begins_operand k = ((one_of_kinds literal_kinds k || is_some (row_of unary_opera
 abbrev pub NoHeadThere : Parser → Type 0
 NoHeadThere p = (text : List ℕ) (f g : Flags) → At text f p → NoHead text g p.prev_token_end
 
--- nothing has changed
+-- the parser is where it was
 abbrev pub LooksAhead : Parser → Parser → HeadLookahead → Type 0
-LooksAhead p q lookahead.Head = (q ≡ p) × NoOperandHere p
-LooksAhead p q lookahead.Maybe = q ≡ p
-LooksAhead p q lookahead.NoHead = (q ≡ p) × NoHeadThere p
+LooksAhead p q lookahead.Head = Unmoved p q × NoOperandHere p
+LooksAhead p q lookahead.Maybe = Unmoved p q
+LooksAhead p q lookahead.NoHead = Unmoved p q × NoHeadThere p

@@ -33,17 +33,11 @@ pub enum OpenBracket {
     Curly,
 }
 
-/// What a lexeme does to the brackets that are open.
+/// A bracket that is open, and the place behind which it stands, in bytes.
 #[derive(Clone, Copy)]
-pub enum Passing {
-    /// Nothing.
-    Plain,
-    /// It opens one.
-    Opens,
-    /// It closes the one that was opened last.
-    Closes,
-    /// None that is open closes: another one does here, or the text ends, or no lexeme stands here.
-    Never,
-    /// That isn't known.
-    Unknown,
+pub struct OpenedBracket {
+    /// Which one it is.
+    pub bracket: OpenBracket,
+    /// The end of the lexeme before it.
+    pub behind: u32,
 }

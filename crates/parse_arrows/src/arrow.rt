@@ -400,15 +400,18 @@ fn try_parse_parameters<C: ParserConfig, N: Patterns<C>>(
 /// close before `=>`, which is looked up where something was told of the head. Else lexemes might be read otherwise from
 /// that place, if a slash stands between, with which a regular expression may begin.
 fn excludes_operand<C: ParserConfig>(
-    p: &ParserImpl<'_, C>,
+    p: &mut ParserImpl<'_, C>,
     place: u32,
     kept: usize,
 ) -> Result<bool, NoMemory>
-    requires at { Standing p.now }
-    requires between { IsCharBoundary p.now.text place }
-    ensures { IfOk result (λ b. OperandExcluded place kept p.now b) }
+    requires at { Standing p.old }
+    requires between { IsCharBoundary p.old.text place }
+    ensures { IfOk result (λ b. OperandExcluded place kept p.old p.new b) }
 {
     if p.operand_failed(place) {
+        return Ok(true);
+    }
+    if matches!(p.state.arrow_behind(place), Some(true)) {
         return Ok(true);
     }
     if kept_so_far(p) != kept {

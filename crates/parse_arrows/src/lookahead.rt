@@ -35,6 +35,7 @@ fn look_behind_closing<C: ParserConfig>(
     p: &mut ParserImpl<'_, C>,
 ) -> Result<HeadLookahead, NoMemory>
     requires at { Standing p.old }
+    requires open { p.old.token.kind ≡ LParen }
     ensures { IfOk result (λ found. LooksAhead p.old p.new found) }
 {
     let place = p.prev_token_end();

@@ -44,21 +44,21 @@ note_operand_failed-requires g c =
     let w = went_back (ap may_be_read_again c.requires.open) c.in_ok-here.ensures.remembers (told_went_on c.args.p.now c.is_arrow_due.new.p c.in_ok-excluded.excluded t) c.rewind.ensures in
     (w.at _ _ c.requires.at).at
 
-pub try_parse_head-requires-clause-at : goal.try_parse_head-requires-clause-at
-try_parse_head-requires-clause-at g c =
+pub attempt_parameters-requires-clause-at : goal.attempt_parameters-requires-clause-at
+attempt_parameters-requires-clause-at g c =
     let t = told_from c.args.p.now _ c.is_arrow_due.new.p c.in_ok-excluded.excluded c.in_ok-here.ensures.same c.in_ok-excluded.ensures in
     let w = went_back (ap may_be_read_again c.requires.open) c.in_ok-here.ensures.remembers (told_went_on c.args.p.now c.is_arrow_due.new.p c.in_ok-excluded.excluded t) c.rewind.ensures in
     standing ((operand_noted_here c.requires.at w (told_so c.args.p.now c.is_arrow_due.new.p c.if-not-excluded.false t).1 c.prev_token_end-place.ensures c.in_ok-note_operand_failed.ensures.ok).at _ _ c.requires.at)
 
-pub try_parse_head-requires-clause-nests : goal.try_parse_head-requires-clause-nests
-try_parse_head-requires-clause-nests g c =
+pub attempt_parameters-requires-clause-nests : goal.attempt_parameters-requires-clause-nests
+attempt_parameters-requires-clause-nests g c =
     let t = told_from c.args.p.now _ c.is_arrow_due.new.p c.in_ok-excluded.excluded c.in_ok-here.ensures.same c.in_ok-excluded.ensures in
     let w = went_back (ap may_be_read_again c.requires.open) c.in_ok-here.ensures.remembers (told_went_on c.args.p.now c.is_arrow_due.new.p c.in_ok-excluded.excluded t) c.rewind.ensures in
     let u = operand_noted_here c.requires.at w (told_so c.args.p.now c.is_arrow_due.new.p c.if-not-excluded.false t).1 c.prev_token_end-place.ensures c.in_ok-note_operand_failed.ensures.ok in
     nests_later c.requires.nests (let v = u.place in later_room (omega arith) u.same)
 
-pub try_parse_head-requires-clause-open : goal.try_parse_head-requires-clause-open
-try_parse_head-requires-clause-open g c =
+pub attempt_parameters-requires-clause-open : goal.attempt_parameters-requires-clause-open
+attempt_parameters-requires-clause-open g c =
     let t = told_from c.args.p.now _ c.is_arrow_due.new.p c.in_ok-excluded.excluded c.in_ok-here.ensures.same c.in_ok-excluded.ensures in
     let w = went_back (ap may_be_read_again c.requires.open) c.in_ok-here.ensures.remembers (told_went_on c.args.p.now c.is_arrow_due.new.p c.in_ok-excluded.excluded t) c.rewind.ensures in
     (operand_noted_here c.requires.at w (told_so c.args.p.now c.is_arrow_due.new.p c.if-not-excluded.false t).1 c.prev_token_end-place.ensures c.in_ok-note_operand_failed.ensures.ok).kind ∙ c.requires.open
@@ -68,4 +68,4 @@ returns g c =
     let t = told_from c.args.p.now _ c.is_arrow_due.new.p c.in_ok-excluded.excluded c.in_ok-here.ensures.same c.in_ok-excluded.ensures in
     let w = went_back (ap may_be_read_again c.requires.open) c.in_ok-here.ensures.remembers (told_went_on c.args.p.now c.is_arrow_due.new.p c.in_ok-excluded.excluded t) c.rewind.ensures in
     let n = (told_so c.args.p.now c.is_arrow_due.new.p c.if-not-excluded.false t).1 in
-    tries_there c.args.is_async c.try_parse_head.new.p _ (operand_noted_here c.requires.at w n c.prev_token_end-place.ensures c.in_ok-note_operand_failed.ensures.ok) n c.try_parse_head.ensures
+    tries_there c.args.is_async c.attempt_parameters.new.p _ (operand_noted_here c.requires.at w n c.prev_token_end-place.ensures c.in_ok-note_operand_failed.ensures.ok) n c.attempt_parameters.ensures
