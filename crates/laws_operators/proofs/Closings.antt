@@ -123,10 +123,6 @@ module _ {text : List ℕ} {e : ℕ} {t : Token} (g : GivesBehind text e t) wher
   pub settled_behind : (w : tells_whole t.kind ≡ true) → (y : Lexeme) × Settled text e y × Tells y t
   settled_behind w = let x = whole_behind w in (x.0, (x.1, subst (λ (k : Kind). one_of_kinds slashes k ≡ false) x.2.kind (no_slash_behind w)), x.2)
 
-  -- the same, and what it does to the brackets that are open
-  pub moved_behind : {P : Kind → Type 0} → tells_whole t.kind ≡ true → P t.kind → (y : Lexeme) × Settled text e y × Tells y t × P y.kind
-  moved_behind {P} w p = let x = settled_behind w in (x.0, x.1, x.2, subst P x.2.kind p)
-
   -- none stands there
   pub none_behind : t.kind ≡ Undetermined → (y : Lexeme) → LexemeBehind division text e y → ⊥
   none_behind k = go (same_kind Undetermined t.kind) (ap (same_kind Undetermined) k) behind_it
@@ -161,7 +157,7 @@ plain_between {text} {s} {y} u b l =
 
 -- ---- the lexemes of an operand go the same way
 
-one_is : {text : List ℕ} {s : ℕ} {x y : Lexeme} (st : List ℕ) {u v : List ℕ} → Lex text s x → Settled text s y → move (bracket x.kind) st ≡ Some u → move (bracket y.kind) st ≡ Some v → x ≡ y
+pub one_is : {text : List ℕ} {s : ℕ} {x y : Lexeme} (st : List ℕ) {u v : List ℕ} → Lex text s x → Settled text s y → move (bracket x.kind) st ≡ Some u → move (bracket y.kind) st ≡ Some v → x ≡ y
 one_is st l h p q = one_plain_move st l h.0 h.1 p q
 
 pub none_left : {b : ℕ} {s : List ℕ} → Some [] ≡ Some (b ∷ s) → ⊥

@@ -51,16 +51,16 @@ eof_stays : (st : List ℕ) → move (bracket Eof) st ≡ Some st
 unfolding move bracket
 eof_stays st = refl
 
-ends_never : {text : List ℕ} {s : ℕ} {b : ℕ} {u : List ℕ} {ls r : Lexemes} {e : ℕ} → s ≡ length text → Lexes (Lex text) s ls → One (b ∷ u) ls e r → ⊥
-ends_never {text} {s} {b} {u} i l (the_last {x = x} p) = none_left (sym p ∙ (ap (λ (k : Kind). move (bracket k) (b ∷ u)) (end_there i l.0).0 ∙ eof_stays (b ∷ u)))
-ends_never {text} {s} {b} {u} {e = e} i l (and_more {b = c} {s = t} {x = x} {ls = ls} {rest = r} p o) =
+ends_never : (text : List ℕ) {s b : ℕ} {u st : List ℕ} {ls r : Lexemes} {e : ℕ} → s ≡ length text → st ≡ b ∷ u → Lexes (Lex text) s ls → One st ls e r → ⊥
+ends_never text {st = st} i j l (the_last {x = x} p) = none_left (sym p ∙ (ap (λ (k : Kind). move (bracket k) st) (end_there i l.0).0 ∙ (eof_stays st ∙ ap Some j)))
+ends_never text {b = b} {u} {st} i j l (and_more {b = c} {s = t} {x = x} p o) =
     let z = end_there i l.0 in
-    let g : Some (c ∷ t) ≡ Some (b ∷ u) = sym p ∙ (ap (λ (k : Kind). move (bracket k) (b ∷ u)) z.0 ∙ eof_stays (b ∷ u)) in
+    let g : Some (c ∷ t) ≡ Some (b ∷ u) = sym p ∙ (ap (λ (k : Kind). move (bracket k) st) z.0 ∙ (eof_stays st ∙ ap Some j)) in
     let w : c ∷ t ≡ b ∷ u = cc in
-    ends_never (z.1 ∙ i) l.1 (subst (λ (v : List ℕ). One v ls e r) w o)
+    ends_never text (z.1 ∙ i) w l.1 o
 
 pub never_closes : {text : List ℕ} {s : ℕ} {st : List ℕ} {ls r : Lexemes} {e : ℕ} → Unclosed text st s → Lexes (Lex text) s ls → One st ls e r → ⊥
-never_closes (text_ends i) l o = ends_never i l o
+never_closes {text} (text_ends i) l o = ends_never text i refl l o
 never_closes (none_stands n) l (the_last p) = let z = plain_there l.0 in n z.lexeme z.stands
 never_closes (none_stands n) l (and_more p o) = let z = plain_there l.0 in n z.lexeme z.stands
 never_closes {text} {s} {st} (further {y = y} h q c) l (the_last {x = x} p) = none_left (sym p ∙ (ap (λ (z : Lexeme). move (bracket z.kind) st) (one_is st l.0 h p q) ∙ q))

@@ -312,9 +312,9 @@ pub none_tried : (b : Bool) (p o q : Parser) (r : Option NodeId) → o ≡ p →
 none_tried b p o q r s e h = subst (λ (z : Parser). Unmoved z q × NoHeadHere b z) s (subst (TriesHead b o q) e h)
 
 -- while a head is being attempted
-tried_behind : {p q r : Parser} {c : Bool} (b : Bool) (found : Option NodeId) → Standing p → r ≡ record q { state = record q.state { attempting = c } } → TriesHead b p q found → TriesHead b p r found
-tried_behind b (Some id) a i x = head_kept b (attempts_alone i) (λ text f d s. attempts_unmoved (standing d) i) x
-tried_behind b None a i x = (unmoved_both x.0 (attempts_unmoved (standing (x.0.at _ _ a)) i), x.1)
+pub tried_behind : {p r : Parser} (q : Parser) (c b : Bool) (found : Option NodeId) → Standing p → r ≡ record q { state = record q.state { attempting = c } } → TriesHead b p q found → TriesHead b p r found
+tried_behind {r = r} q c b (Some id) a i x = head_kept b (attempts_alone q r c i) (λ text f d s. attempts_unmoved c (standing d) i) x
+tried_behind q c b None a i x = (unmoved_both x.0 (attempts_unmoved c (standing (x.0.at _ _ a)) i), x.1)
 
-pub tried_while : {p o q r : Parser} {c d : Bool} (b : Bool) (found : Option NodeId) → Standing p → o ≡ record p { state = record p.state { attempting = c } } → TriesHead b o q found → r ≡ record q { state = record q.state { attempting = d } } → TriesHead b p r found
-tried_while {p} {o} {q} b found a i x j = tried_behind b found a j (tried_as_there (attempts_unmoved a i) b q found x)
+pub tried_while : {p r : Parser} (o q : Parser) (c d b : Bool) (found : Option NodeId) → Standing p → o ≡ record p { state = record p.state { attempting = c } } → TriesHead b o q found → r ≡ record q { state = record q.state { attempting = d } } → TriesHead b p r found
+tried_while o q c d b found a i x j = tried_behind q d b found a j (tried_as_there (attempts_unmoved c a i) b q found x)

@@ -1,0 +1,1 @@
+use Rattle.parse_arrows.proofs.closing.close_bracket.Goals as goal
