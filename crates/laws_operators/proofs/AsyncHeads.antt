@@ -48,7 +48,7 @@ use Rattle.laws_shared.proofs.Moving.{same_both}
 use Rattle.laws_shared.proofs.NameKinds.{name_apart, name_read, name_whole}
 use Rattle.laws_shared.proofs.Paths.{fails_at, read_of, walked_both, walked_one}
 use Rattle.laws_shared.proofs.Signs.{other_kind}
-use Rattle.laws_shared.proofs.Escapes.{read_as, read_plain, plain_or_word}
+use Rattle.laws_shared.proofs.Escapes.{read_as, read_plain, plain_or_escapable}
 use Rattle.laws_shared.proofs.Verdicts.{grown_then}
 use Rattle.laws_patterns.proofs.laws_primary.Operands.{name_signless}
 use Rattle.laws_patterns.proofs.laws_primary.AsyncWords.{given_behind}
@@ -181,7 +181,7 @@ module _ {text : List ℕ} {f : Flags} {s t : ℕ} (w : (y : Lexeme) → Lex tex
       by : Stood text t ts rest → ⊥
       by (behind_word m i) =
           let y = b (here rest) (here_at (Lex text) rest m) in
-          contrary (seen (looser 2 f.in_ (first_row ts)) (here rest)) (subst (λ (r : Row). not (seen (looser 2 f.in_ r) (here rest)) ≡ true) (sym i) (covered a_head_there (λ k w e. not (looser 2 f.in_ after_expression k w e)) (head_binds f.in_) (here rest).kind (here rest).newline (here rest).escaped (and_from _ _ y.1 (and_from _ _ (ap not y.0) (plain_or_word (here rest) (here_at (Lex text) rest m)))))) a
+          contrary (seen (looser 2 f.in_ (first_row ts)) (here rest)) (subst (λ (r : Row). not (seen (looser 2 f.in_ r) (here rest)) ≡ true) (sym i) (covered a_head_there (λ k w e. not (looser 2 f.in_ after_expression k w e)) (head_binds f.in_) (here rest).kind (here rest).newline (here rest).escaped (and_from _ _ y.1 (and_from _ _ (ap not y.0) (plain_or_escapable (here rest) (here_at (Lex text) rest m)))))) a
       by (at_arrow u) = contrary (seen (looser 2 f.in_ (first_row ts)) (here rest)) (covered an_arrow (λ k w e. not (looser 2 f.in_ (first_row ts) k w e)) (arrow_binds f.in_ (first_row ts) (row_claimed d)) (here rest).kind (here rest).newline (here rest).escaped (and_from _ _ u (ap not (read_plain (here rest) (here_at (Lex text) rest lexed) (sym (kind_of_same Arrow (here rest).kind u)) refl)))) a
 
   conditional_fails : Fails rule (Lex text) (after (at Assignment f)) end (such (at Conditional f) always) s

@@ -1,5 +1,5 @@
 -- Which lexemes have an escape: names and words alone.
-use Rattle.std.proofs.Common.{ℕ, ◌≡◌, Bool, true, false, not, ◌&&◌, ◌||◌, List, IsTrue, refl, sym, ap, subst, ◌∙◌, cond}
+use Rattle.std.proofs.Common.{ℕ, ◌≡◌, Bool, true, false, not, ◌&&◌, ◌||◌, List, ◌∷◌, IsTrue, refl, sym, ap, subst, ◌∙◌, cond}
 use Rattle.std.proofs.lemmas.Bool.{false≢true, and_parts, and_from, or_left, or_right, not-true}
 use Rattle.js_base.specs.declared.kind.Kind.{Kind}
 use Rattle.js_base.specs.declared.kind.Kind.TheVariants.{Ident, PrivateIdentifier}
@@ -66,8 +66,12 @@ plain_here p e n w h = (e, plain_word p.token e n (sym w ∙ h))
 pub unescaped_word : (k : Kind) (e : Bool) → e ≡ false → escaped_word k e ≡ false
 unescaped_word k e h = ap (λ (b : Bool). b && not (same_kind Ident k)) h
 
+-- the kinds that may have an escape (ECMA-262, 12.7)
+abbrev pub escapable_kinds : List Kind
+escapable_kinds = PrivateIdentifier ∷ identifier_name_kinds
+
 abbrev sign_like : Look
-sign_like k w e = is_read_kind k && not (one_of_kinds identifier_name_kinds k)
+sign_like k w e = is_read_kind k && not (one_of_kinds escapable_kinds k)
 
 abbrev unescapable : Look
 unescapable k w e = not (is_word k || same_kind PrivateIdentifier k)
@@ -76,20 +80,20 @@ signs_unescapable : covers sign_like unescapable ≡ true
 unfolding covers words
 signs_unescapable = refl
 
--- what is read and is no word has no escape
-pub read_unnamed : {text : List ℕ} {s : ℕ} (y : Lexeme) → Lex text s y → one_of_kinds identifier_name_kinds y.kind ≡ false → y.escaped ≡ false
+-- what is read, and is no word and no private name, has no escape
+pub read_unnamed : {text : List ℕ} {s : ℕ} (y : Lexeme) → Lex text s y → one_of_kinds escapable_kinds y.kind ≡ false → y.escaped ≡ false
 read_unnamed y l n = l.0.escaped ∙ ap (λ (b : Bool). b && has_backslash l.0.word) (not-true (is_word y.kind || same_kind PrivateIdentifier y.kind) (covered sign_like unescapable signs_unescapable y.kind false false (and_from _ _ l.1 (ap not n))))
 
 -- of a kind
-pub read_plain : {k : Kind} {text : List ℕ} {s : ℕ} (y : Lexeme) → Lex text s y → y.kind ≡ k → one_of_kinds identifier_name_kinds k ≡ false → y.escaped ≡ false
-read_plain y l e n = read_unnamed y l (ap (one_of_kinds identifier_name_kinds) e ∙ n)
+pub read_plain : {k : Kind} {text : List ℕ} {s : ℕ} (y : Lexeme) → Lex text s y → y.kind ≡ k → one_of_kinds escapable_kinds k ≡ false → y.escaped ≡ false
+read_plain y l e n = read_unnamed y l (ap (one_of_kinds escapable_kinds) e ∙ n)
 
--- none of these kinds is a word's
-pub no_word_among : (ks : List Kind) (k : Kind) → every_kind (λ k. not (one_of_kinds identifier_name_kinds k)) ks ≡ true → one_of_kinds ks k ≡ true → one_of_kinds identifier_name_kinds k ≡ false
-no_word_among ks k n m = not-true (one_of_kinds identifier_name_kinds k) (of_every (λ k. not (one_of_kinds identifier_name_kinds k)) ks k n m)
+-- none of these kinds is a word's or that of private names
+pub no_word_among : (ks : List Kind) (k : Kind) → every_kind (λ k. not (one_of_kinds escapable_kinds k)) ks ≡ true → one_of_kinds ks k ≡ true → one_of_kinds escapable_kinds k ≡ false
+no_word_among ks k n m = not-true (one_of_kinds escapable_kinds k) (of_every (λ k. not (one_of_kinds escapable_kinds k)) ks k n m)
 
 -- one of these kinds
-pub read_listed : (ks : List Kind) {text : List ℕ} {s : ℕ} (y : Lexeme) → Lex text s y → one_of_kinds ks y.kind ≡ true → every_kind (λ k. not (one_of_kinds identifier_name_kinds k)) ks ≡ true → y.escaped ≡ false
+pub read_listed : (ks : List Kind) {text : List ℕ} {s : ℕ} (y : Lexeme) → Lex text s y → one_of_kinds ks y.kind ≡ true → every_kind (λ k. not (one_of_kinds escapable_kinds k)) ks ≡ true → y.escaped ≡ false
 read_listed ks y l m n = read_unnamed y l (no_word_among ks y.kind n m)
 
 -- what has an escape and is no name is a word with one
@@ -108,30 +112,30 @@ read_as y s h = subst (λ (k : Kind). is_read_kind k ≡ true) s.kind h
 pub all_escaped : {text : List ℕ} {f : Flags} {p : Parser} → At text f p → escaped_word p.token.kind p.token.escaped ≡ true → (y : Lexeme) → Lex text p.prev_token_end y → y.escaped ≡ true
 all_escaped {p = p} a e y l = escaped_here a y l ∙ (and_parts p.token.escaped (not (same_kind Ident p.token.kind)) e).0
 
-abbrev a_word : Look
-a_word k w e = one_of_kinds identifier_name_kinds k
+abbrev may_escape : Look
+may_escape k w e = one_of_kinds escapable_kinds k
 
 abbrev settled_look : Look
 settled_look k w e = not (is_right_angle k) && not (one_of_kinds other_goals k)
 
-words_settled : covers a_word settled_look ≡ true
+escapable_settled : covers may_escape settled_look ≡ true
 unfolding covers
-words_settled = refl
+escapable_settled = refl
 
--- what has an escape is a word
-pub word_escaped : {text : List ℕ} {s : ℕ} (y : Lexeme) → Lex text s y → y.escaped ≡ true → one_of_kinds identifier_name_kinds y.kind ≡ true
-word_escaped y l e = go (one_of_kinds identifier_name_kinds y.kind) refl
+-- what has an escape is a word or a private name
+pub escaped_kind : {text : List ℕ} {s : ℕ} (y : Lexeme) → Lex text s y → y.escaped ≡ true → one_of_kinds escapable_kinds y.kind ≡ true
+escaped_kind y l e = go (one_of_kinds escapable_kinds y.kind) refl
   where
-    go : (b : Bool) → one_of_kinds identifier_name_kinds y.kind ≡ b → one_of_kinds identifier_name_kinds y.kind ≡ true
+    go : (b : Bool) → one_of_kinds escapable_kinds y.kind ≡ b → one_of_kinds escapable_kinds y.kind ≡ true
     go true q = q
     go false q = absurd (false≢true (sym (read_unnamed y l q) ∙ e))
 
 -- so it has none, or it is one
-pub plain_or_word : {text : List ℕ} {s : ℕ} (y : Lexeme) → Lex text s y → (not y.escaped || one_of_kinds identifier_name_kinds y.kind) ≡ true
-plain_or_word y l = go y.escaped refl
+pub plain_or_escapable : {text : List ℕ} {s : ℕ} (y : Lexeme) → Lex text s y → (not y.escaped || one_of_kinds escapable_kinds y.kind) ≡ true
+plain_or_escapable y l = go y.escaped refl
   where
-    go : (b : Bool) → y.escaped ≡ b → (not y.escaped || one_of_kinds identifier_name_kinds y.kind) ≡ true
-    go true e = or_right (not y.escaped) _ (word_escaped y l e)
+    go : (b : Bool) → y.escaped ≡ b → (not y.escaped || one_of_kinds escapable_kinds y.kind) ≡ true
+    go true e = or_right (not y.escaped) _ (escaped_kind y l e)
     go false e = or_left _ _ (ap not e)
 
 -- it is of the token's kind
@@ -140,7 +144,7 @@ kind_escaped {p = p} a e y l = go p.cut refl
   where
     apart : (is_right_angle y.kind ≡ false) × (one_of_kinds other_goals y.kind ≡ false)
     apart =
-        let z = and_parts (not (is_right_angle y.kind)) _ (covered a_word settled_look words_settled y.kind false false (word_escaped y l (escaped_here a y l ∙ e))) in
+        let z = and_parts (not (is_right_angle y.kind)) _ (covered may_escape settled_look escapable_settled y.kind false false (escaped_kind y l (escaped_here a y l ∙ e))) in
         (not-true (is_right_angle y.kind) z.0, not-true (one_of_kinds other_goals y.kind) z.1)
 
     go : (b : Bool) → p.cut ≡ b → y.kind ≡ p.token.kind

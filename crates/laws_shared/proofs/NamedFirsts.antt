@@ -4,7 +4,6 @@ use Rattle.std.proofs.lemmas.Bool.{false≢true, and_parts, and_from}
 use Rattle.js_base.specs.declared.kind.Kind.{Kind}
 use Rattle.js_base.specs.declared.kind.Kind.TheVariants.{Ident, Yield, Await}
 use Rattle.js_base.specs.Kinds.{same_kind, one_of_kinds}
-use Rattle.js_base.specs.KindSets.{identifier_name_kinds}
 use Rattle.js_grammar.specs.Trees.{end}
 use Rattle.js_grammar.specs.Grammar.{Lexeme, Look, seen}
 use Rattle.js_grammar.specs.Parsing.{Test, Fails, full}
@@ -19,7 +18,7 @@ use Rattle.js_cursor.specs.Parsers.{Parser}
 use Rattle.laws_shared.specs.Lexemes.{Lex, escaped_word, may_name, other_goals}
 use Rattle.laws_shared.specs.States.{At}
 use Rattle.laws_shared.proofs.Here.{told_plain, angled, escaped_here, kind_here}
-use Rattle.laws_shared.proofs.Escapes.{kind_escaped, word_escaped}
+use Rattle.laws_shared.proofs.Escapes.{escapable_kinds, escaped_kind, kind_escaped}
 use Rattle.laws_shared.proofs.Paths.{angles, not_here, reads, settles}
 
 -- What begins with a name, or with what no name begins, but never with `await` under Await.
@@ -110,9 +109,9 @@ firsts_by = record { first = first_by; claims = claims }
 abbrev pub begins_named : Bool → Bool → G → Look → List Kind → Bool
 begins_named y t g F ks = covers (λ k w e. starts first_by g F k w e && reads k w e) (λ k w e. may_name y t k || one_of_kinds ks k)
 
--- of what may begin g with an escape, those words that are read are names
+-- of what may begin g with an escape, all that is read are names
 abbrev pub escapes_named : Bool → Bool → G → Look → Bool
-escapes_named y t g F = covers (λ k w e. starts first_by g F k w e && (one_of_kinds identifier_name_kinds k && e)) (λ k w e. may_name y t k)
+escapes_named y t g F = covers (λ k w e. starts first_by g F k w e && (one_of_kinds escapable_kinds k && e)) (λ k w e. may_name y t k)
 
 -- for both values of both parameters
 by_flags : (P : Bool → Bool → Type 0) → P true true → P true false → P false true → P false false → (y t : Bool) → P y t
@@ -167,7 +166,7 @@ module _ {text : List ℕ} {o : Flags} {p : Parser} (a : At text o p) (f : Flags
 
       none : (y : Lexeme) → Lex text p.prev_token_end y → IsTrue (seen (starts first_by (g f) X.base) y) → ⊥
       none y l h =
-          let name = covered (λ k w e. starts first_by (g f) X.base k w e && (one_of_kinds identifier_name_kinds k && e)) (λ k w e. may_name f.yield_ f.await_ k) (by_flags (λ y t. escapes_named y t (g (with_flags y t f)) X.base ≡ true) c1 c2 c3 c4 f.yield_ f.await_) y.kind y.newline y.escaped (and_from _ _ h (and_from _ _ (word_escaped y l (escaped_here a y l ∙ escaped)) (escaped_here a y l ∙ escaped))) in
+          let name = covered (λ k w e. starts first_by (g f) X.base k w e && (one_of_kinds escapable_kinds k && e)) (λ k w e. may_name f.yield_ f.await_ k) (by_flags (λ y t. escapes_named y t (g (with_flags y t f)) X.base ≡ true) c1 c2 c3 c4 f.yield_ f.await_) y.kind y.newline y.escaped (and_from _ _ h (and_from _ _ (escaped_kind y l (escaped_here a y l ∙ escaped)) (escaped_here a y l ∙ escaped))) in
           false≢true (sym n ∙ (ap (may_name f.yield_ f.await_) (sym (kind_escaped a escaped y l)) ∙ name))
 
   -- what doesn't begin with `yield` under Yield

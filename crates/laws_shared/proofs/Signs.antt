@@ -5,7 +5,7 @@ use Rattle.js_base.specs.declared.kind.Kind.{Kind}
 use Rattle.js_base.specs.declared.kind.Kind.TheVariants.{Question, Colon, PrivateIdentifier, RAngle, Undetermined}
 use Rattle.js_base.specs.declared.span.Span.{Span}
 use Rattle.js_base.specs.Kinds.{same_kind, one_of_kinds}
-use Rattle.js_base.specs.KindSets.{identifier_name_kinds}
+
 use Rattle.js_base.specs.Texts.{words}
 use Rattle.js_grammar.specs.Grammar.{Lexeme, Look, is, seen}
 use Rattle.js_grammar.specs.Lexemes.{is_word, is_escaped}
@@ -18,7 +18,7 @@ use Rattle.js_grammar.specs.Lexed.{NextLexeme, all_faults}
 use Rattle.laws_shared.specs.Lexemes.{Lex, other_goals, is_read_kind}
 use Rattle.laws_shared.specs.States.{At}
 use Rattle.laws_shared.proofs.Here.{found, told_plain, uncut, kind_here, unsettled}
-use Rattle.laws_shared.proofs.Escapes.{read_listed, read_plain}
+use Rattle.laws_shared.proofs.Escapes.{escapable_kinds, read_listed, read_plain}
 use Rattle.std.proofs.Common.{◌<◌, ◌⊎◌, inl, inr, length-append, cond, nat_lt}
 use Rattle.std.proofs.lemmas.Bool.{or_left, or_right, lt-ltb}
 use Rattle.js_base.specs.declared.kind.Kind.TheVariants.{Eof, Comma, Semicolon, RParen, RBrack}
@@ -156,10 +156,10 @@ module _ {text : List ℕ} {f : Flags} {p : Parser} (a : At text f p) where
   word_there e w n y l = (kind_here a e n y l, escaped_here a y l ∙ w)
 
   -- of a sign
-  pub stands_there : {k : Kind} → p.token.kind ≡ k → (one_of_kinds identifier_name_kinds k || one_of_kinds unsettled k) ≡ false → AllAre text p.prev_token_end k
-  stands_there {k} e n y l = go (one_of_kinds identifier_name_kinds k) refl n
+  pub stands_there : {k : Kind} → p.token.kind ≡ k → (one_of_kinds escapable_kinds k || one_of_kinds unsettled k) ≡ false → AllAre text p.prev_token_end k
+  stands_there {k} e n y l = go (one_of_kinds escapable_kinds k) refl n
     where
-      go : (b : Bool) → one_of_kinds identifier_name_kinds k ≡ b → (b || one_of_kinds unsettled k) ≡ false → (y.kind ≡ k) × (y.escaped ≡ false)
+      go : (b : Bool) → one_of_kinds escapable_kinds k ≡ b → (b || one_of_kinds unsettled k) ≡ false → (y.kind ≡ k) × (y.escaped ≡ false)
       go true i h = absurd (false≢true (sym h))
       go false i h = let z = kind_here a e h y l in (z, read_plain y l z i)
 

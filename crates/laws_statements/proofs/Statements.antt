@@ -63,7 +63,7 @@ use Rattle.laws_shared.proofs.Signs.{closing_there, other_kind}
 use Rattle.laws_shared.proofs.Dead.{live, lives}
 use Rattle.laws_shared.proofs.MadeNodes.{leaf_held, one_held, one_lies, LabelLies, from_start}
 use Rattle.laws_shared.proofs.Paths.{begins_by, reads, Path, ◌⟼◌, ◌⟶◌, ◌⟶✗◌, at_kind, not_here, fails_at, last_token, noded, noded_by, by_symbol_as, label_here}
-use Rattle.laws_shared.proofs.Escapes.{read_plain, keyword_plain, plain_or_word}
+use Rattle.laws_shared.proofs.Escapes.{read_plain, keyword_plain, plain_or_escapable}
 use Rattle.laws_shared.proofs.Tight.{plain_so}
 use Rattle.laws_statements.proofs.Strings.{name_node, name_expression}
 use Rattle.laws_shared.proofs.Giving.{fails_at_word}
@@ -255,7 +255,7 @@ module _ {text : List ℕ} {f : Flags} {q : Parser} (a : At text f q) where
     where
       go : (b : Bool) → one_of_kinds other_goals y.kind ≡ b → IsTrue (seen (may_omit (goes_on r)) y)
       go true e = pattern_omitted stays slash_omits r s w y l e (same_kind RegExp y.kind) refl
-      go false e = covered (on_a_line r) (may_omit (goes_on r)) (line_omits r) y.kind y.newline y.escaped (and_from _ _ (plain_or_word y l) (and_from _ _ (s y (l.0, plain_so y l.1 e)) (and_from _ _ (newline_here a y l ∙ w) (and_from _ _ (unlinked_at v y l) (ap not (no_semicolon n y l))))))
+      go false e = covered (on_a_line r) (may_omit (goes_on r)) (line_omits r) y.kind y.newline y.escaped (and_from _ _ (plain_or_escapable y l) (and_from _ _ (s y (l.0, plain_so y l.1 e)) (and_from _ _ (newline_here a y l ∙ w) (and_from _ _ (unlinked_at v y l) (ap not (no_semicolon n y l))))))
 
   -- on a new line, where nothing goes on
   pub omits_stopped : (r : Row) → ((y : Lexeme) → Plain text q.prev_token_end y → IsTrue (seen (stops_row r) y)) → (q.token.is_on_new_line ≡ true → one_of_kinds link_kinds q.token.kind ≡ false) → MayEnd q → (q.token.kind ≡ Semicolon → ⊥) → (y : Lexeme) → Lex text q.prev_token_end y → IsTrue (seen (may_omit (goes_on r)) y)

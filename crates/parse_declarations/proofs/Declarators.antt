@@ -36,7 +36,7 @@ use Rattle.js_base.specs.declared.diagnostic.DiagnosticKind.{DiagnosticKind}
 use Rattle.js_base.specs.declared.diagnostic.DiagnosticClass.TheVariants.{Early}
 use Rattle.js_base.specs.Diagnostics.{class_of}
 use Rattle.parse_shared.specs.js_cursor.Moves.{KeepsDiagnostic}
-use Rattle.parse_shared.proofs.laws_shared.Escapes.{plain_or_word}
+use Rattle.parse_shared.proofs.laws_shared.Escapes.{plain_or_escapable}
 use Rattle.parse_shared.specs.laws_shared.Answers.{Grown, Verdict, Stretch, Underived, Answer, Numbered, Stops, beside, unclean}
 use Rattle.parse_shared.specs.laws_shared.Lexemes.{Lex, Walked, spot, Plain}
 use Rattle.parse_shared.specs.laws_shared.Moves.{Moved, MadeHere, plain_label}
@@ -307,7 +307,7 @@ unfolding covers apart
 value_ends {text} {f} {r} {v} y i n z l =
     let row = row_of y.label y.slots in
     let s = narrows 2 1 (Comma ∷ []) f.in_ row (narrow_assignment 2 1 (Comma ∷ []) (narrow_operand 2 1 (Comma ∷ []) refl refl refl refl) refl refl refl refl f.in_ row y.row) z l.1 (no_comma (one_of_kinds (Comma ∷ []) z.kind) refl) (y.stops z l) in
-    covered (ends_value row) (stops_row row) (value_stops row) z.kind z.newline z.escaped (and_from _ _ (plain_or_word z (plain_lex l)) (subst (λ (b : Bool). IsTrue (seen (looser 1 b row) z || seen beside z)) i s))
+    covered (ends_value row) (stops_row row) (value_stops row) z.kind z.newline z.escaped (and_from _ _ (plain_or_escapable z (plain_lex l)) (subst (λ (b : Bool). IsTrue (seen (looser 1 b row) z || seen beside z)) i s))
   where
     no_comma : (b : Bool) → one_of_kinds (Comma ∷ []) z.kind ≡ b → one_of_kinds (Comma ∷ []) z.kind ≡ false
     no_comma true e = absurd (not_here y.at (Comma ∷ []) refl (other_kind Comma v.token.kind n) z (plain_lex l) e)

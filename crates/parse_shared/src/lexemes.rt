@@ -145,14 +145,11 @@ pub fn ends_operand<C: ParserConfig>(p: &mut ParserImpl<'_, C>) -> Result<bool, 
     }
 }
 
-/// Whether it is a lexeme that is read: any but `@`, a private name, a hashbang comment and what is none.
+/// Whether it is a lexeme that is read: any but a hashbang comment and what is none.
 fn is_read_kind(kind: Kind) -> bool
     ensures { result ≡ not (one_of_kinds unread_kinds kind) }
 {
-    !matches!(
-        kind,
-        Kind::At | Kind::PrivateIdentifier | Kind::HashbangComment | Kind::Undetermined
-    )
+    !matches!(kind, Kind::HashbangComment | Kind::Undetermined)
 }
 
 /// Whether a lexeme that is read stands here.
