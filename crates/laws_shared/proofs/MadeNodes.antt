@@ -18,10 +18,11 @@ use Rattle.js_cursor.specs.js_tree.Holding.{Makes}
 use Rattle.js_cursor.specs.js_tree.Labels.{kind_of, op_of, number_of}
 use Rattle.js_cursor.specs.js_tree.Nodes.{new_node}
 use Rattle.js_cursor.specs.js_tree.Sources.{text_of}
-use Rattle.laws_shared.specs.NodeTexts.{IsKept, Texted, TextedAs, is_name_node, is_textual, spelled_at}
+use Rattle.laws_shared.specs.NodeTexts.{IsKept, IsKeptPrivate, Texted, is_name_node, is_textual, spelled_at}
 use Rattle.js_base.specs.declared.token.Token.{Token}
+use Rattle.js_cursor.specs.js_tree.declared.kind.NodeKind.TheVariants as node
 use Rattle.js_cursor.specs.js_tree.declared.op.Op.TheVariants as op
-use Rattle.laws_shared.proofs.NodeTexts.{untextual}
+use Rattle.laws_shared.proofs.NodeTexts.{textual_name, untextual}
 use Rattle.std.proofs.Common.{◌≡◌, refl}
 use Rattle.std.specs.Prelude.{get_or, IsCharBoundary}
 use Rattle.js_grammar.proofs.Calculus.{left, right}
@@ -97,4 +98,8 @@ texted_seen {v = v} h ms k s o f name r n t m = subst (λ (x : Parser). Texted k
 
 -- a name, by its token
 pub name_seen : {u v : Parser} → v ≡ u → (ms : List Node) (k : NodeKind) (t : Token) {s : Span} → s ≡ t.span → (f : NodeFlags) (name : Option (List ℕ)) (r : Result NodeId NoMemory) → number_of f ≡ 0 → is_name_node k ≡ true → IsKept name (spelled_at u.text t) → Makes (new_node k s op.None f name []) v.nodes ms r → IfOk r (λ id. MadeHere (plain_label k op.None t.span) [] u (record v { nodes = ms }) id)
-name_seen {u} {v} h ms k t e f name r n i p m = texted_seen h ms k t.span op.None f name r n (subst (λ (b : Bool). TextedAs b (is_textual k) name (spelled_at u.text t)) (sym i) p) (subst (λ (x : Span). Makes (new_node k x op.None f name []) v.nodes ms r) e m)
+name_seen {u} {v} h ms k t e f name r n i p m = texted_seen h ms k t.span op.None f name r n (textual_name k name (spelled_at u.text t) i p) (subst (λ (x : Span). Makes (new_node k x op.None f name []) v.nodes ms r) e m)
+
+-- a private name, by its token
+pub private_seen : {u v : Parser} → v ≡ u → (ms : List Node) (t : Token) {s : Span} → s ≡ t.span → (f : NodeFlags) (name : Option (List ℕ)) (r : Result NodeId NoMemory) → number_of f ≡ 0 → IsKeptPrivate name (spelled_at u.text t) → Makes (new_node node.PrivateIdentifier s op.None f name []) v.nodes ms r → IfOk r (λ id. MadeHere (plain_label node.PrivateIdentifier op.None t.span) [] u (record v { nodes = ms }) id)
+private_seen {u} {v} h ms t e f name r n p m = texted_seen h ms node.PrivateIdentifier t.span op.None f name r n p (subst (λ (x : Span). Makes (new_node node.PrivateIdentifier x op.None f name []) v.nodes ms r) e m)

@@ -1,8 +1,12 @@
 -- What nodes keep of their text, and what tokens tell of it.
-use Rattle.std.proofs.Common.{ℕ, ◌≡◌, ◌+◌, ◌++◌, Bool, true, false, ◌&&◌, ◌||◌, List, Option, Some, refl, sym, ap, subst, ◌∙◌}
-use Rattle.std.specs.Prelude.{IsSome, chars, slice_range}
-use Rattle.std.proofs.lemmas.Bool.{false≢true}
-use Rattle.js_base.specs.part_text.Decoding.{name_text}
+use Rattle.std.proofs.Common.{ℕ, ◌≡◌, ◌≤◌, ◌+◌, ◌++◌, ◌==◌, Bool, true, false, cond, ◌&&◌, ◌||◌, List, [], ◌∷◌, drop, Option, Some, None, refl, sym, ap, subst, arith, ◌∙◌}
+use Rattle.std.specs.Prelude.{IsSome, chars, slice_range, flat_map}
+use Rattle.std.specs.Char.{encode_utf8}
+use Rattle.std.specs.List.{list_all}
+use Rattle.std.proofs.lemmas.Bool.{false≢true, and_from, and_parts, eqb-true}
+use Rattle.js_base.specs.part_text.Characters.{is_decimal, is_scalar}
+use Rattle.js_base.specs.part_text.Decoding.{name_text, only_if, utf8_of}
+use Rattle.js_base.specs.part_text.Escapes.{code_points, in_name}
 use Rattle.js_base.specs.KindSets.{identifier_name_kinds, binding_identifier_kinds}
 use Rattle.js_base.specs.Kinds.{same_kind, one_of_kinds}
 use Rattle.js_base.specs.Texts.{words}
@@ -10,19 +14,24 @@ use Rattle.js_base.specs.declared.kind.Kind.{Kind}
 use Rattle.js_base.specs.declared.kind.Kind.TheVariants.{PrivateIdentifier, Str}
 use Rattle.js_base.specs.declared.span.Span.{Span}
 use Rattle.js_base.specs.declared.token.Token.{Token}
-use Rattle.js_grammar.specs.Characters.{width}
+use Rattle.js_grammar.specs.Characters.{begins, is_identifier_part, is_identifier_start, width}
 use Rattle.js_grammar.specs.Grammar.{Look}
-use Rattle.js_grammar.specs.Lexemes.{LexicalGoal, division, is_word, kind_in}
+use Rattle.js_grammar.specs.Lexemes.{LexicalGoal, Opening, a_private_name, division, is_word, kind_in, kind_of, opening}
 use Rattle.js_grammar.specs.LexicalFaults.{behind}
 use Rattle.js_grammar.specs.Longest.{joined}
-use Rattle.js_grammar.specs.Names.{has_backslash}
+use Rattle.js_grammar.specs.Names.{has_backslash, is_plain_name, name_of, named, private_of}
 use Rattle.js_grammar.specs.Productions.{Flags}
 use Rattle.js_grammar.specs.Strings.{string_kind}
 use Rattle.js_grammar.proofs.Looks.{covers, covered}
 use Rattle.js_cursor.specs.part_words.Places.{Word}
+use Rattle.js_cursor.specs.part_words.Names.{may_stand}
+use Rattle.js_cursor.specs.part_words.declared.name.Position.{Position}
+use Rattle.js_cursor.specs.part_words.declared.name.Position.TheVariants.{Start, Part}
 use Rattle.js_cursor.specs.js_lex.Reading.{GivesLexeme}
 use Rattle.js_cursor.proofs.js_lex.Again.{cancel}
-use Rattle.js_cursor.proofs.part_words.Flags.{spelled}
+use Rattle.js_cursor.proofs.part_words.Flags.{others_stand, spelled}
+use Rattle.js_cursor.proofs.part_words.KindsOfLexemes.{opened, opened_is, plain_end}
+use Rattle.js_cursor.proofs.part_words.NameSurrogates.{may_stand-scalar}
 use Rattle.js_cursor.proofs.js_lex.Given.{string_of_kind}
 use Rattle.js_cursor.proofs.js_lex.NamesGiven.{name_of_kind, word_opened}
 use Rattle.js_cursor.proofs.part_scan.StringPlaces.{front_word}
@@ -30,35 +39,42 @@ use Rattle.js_cursor.specs.Parsers.{Parser}
 use Rattle.js_cursor.specs.Places.{IsAt}
 use Rattle.js_cursor.specs.js_tree.declared.kind.NodeKind.{NodeKind}
 use Rattle.js_cursor.specs.js_tree.declared.kind.NodeKind.TheVariants as node
-use Rattle.laws_shared.specs.NodeTexts.{IsKept, SpellsName, Texted, TextedAs, is_name_node, is_textual, spelled_at}
+use Rattle.laws_shared.specs.NodeTexts.{IsKept, IsKeptPrivate, SpellsName, SpellsPrivate, Texted, TextedAs, behind_sign, is_name_node, is_textual, spelled_at}
 use Rattle.laws_shared.specs.States.{At, IsPlain, whole, sign, nothing}
 
 -- ---- nodes
 
 unnamed : (k : NodeKind) → is_textual k ≡ false → is_name_node k ≡ false
 unnamed node.StringLiteral h = refl
+unnamed node.PrivateIdentifier h = refl
 unnamed k h = h
 
 -- a node that is no name and no string
 pub untextual : (k : NodeKind) (name : Option (List ℕ)) (cs : List ℕ) → is_textual k ≡ false → Texted k name cs
+untextual node.PrivateIdentifier name cs h = absurd (false≢true (sym h))
 untextual k name cs h = subst (λ (a : Bool). TextedAs a (is_textual k) name cs) (sym (unnamed k h)) (subst (λ (b : Bool). TextedAs false b name cs) (sym h) tt)
 
 -- a name
 pub textual_name : (k : NodeKind) (name : Option (List ℕ)) (cs : List ℕ) → is_name_node k ≡ true → IsKept name cs → Texted k name cs
+textual_name node.PrivateIdentifier name cs h i = absurd (false≢true h)
 textual_name k name cs h i = subst (λ (a : Bool). TextedAs a (is_textual k) name cs) (sym h) i
 
 -- ---- tokens
 
 module _ {p : Parser} (i : IsAt p) (x : GivesLexeme division (λ y. y) p.text p.prev_token_end p.token) where
-  -- the characters at a token are those of its lexeme
-  spelled_here : spelled_at p.text p.token ≡ x.stands.lex.word
-  spelled_here =
+  -- the lexeme's characters stand at the token
+  word_here : Word p.text p.token.span.start p.token.span.end x.stands.lex.word
+  word_here =
       let l = x.stands.lex in
       let v : Word p.text p.prev_token_end x.lexeme.from (joined l.trivia) = subst (λ (n : ℕ). Word p.text p.prev_token_end n (joined l.trivia)) (sym l.from) (front_word p.text p.prev_token_end (joined l.trivia) (l.word ++ l.rest) i.utf8 i.between l.stands.splits) in
       let here : behind p.text p.token.span.start ≡ l.word ++ l.rest = ap (behind p.text) x.tells.start ∙ cancel (joined l.trivia) (behind p.text x.lexeme.from) (l.word ++ l.rest) (sym v.splits ∙ l.stands.splits) in
       let w : Word p.text p.token.span.start (p.token.span.start + width l.word) l.word = front_word p.text p.token.span.start l.word l.rest i.utf8 i.lies.starts_whole here in
       let to : p.token.span.end ≡ p.token.span.start + width l.word = x.tells.end ∙ l.to ∙ ap (λ (n : ℕ). n + width l.word) (sym x.tells.start) in
-      spelled p.text p.token.span.start p.token.span.end l.word i.utf8 i.lies.starts_whole i.lies.ordered (subst (λ (n : ℕ). Word p.text p.token.span.start n l.word) (sym to) w)
+      subst (λ (n : ℕ). Word p.text p.token.span.start n l.word) (sym to) w
+
+  -- the characters at a token are those of its lexeme
+  spelled_here : spelled_at p.text p.token ≡ x.stands.lex.word
+  spelled_here = spelled p.text p.token.span.start p.token.span.end x.stands.lex.word i.utf8 i.lies.starts_whole i.lies.ordered word_here
 
   -- which of them is of its kind, by the plain goal
   kind_of_word : kind_in division x.stands.lex.word x.stands.lex.rest ≡ Some x.lexeme.kind
@@ -101,6 +117,99 @@ spells_name {text} {p = p} a h = by a.plain
     by (whole c n x) = of_lexeme (subst (λ (t : List ℕ). GivesLexeme division (λ y. y) t p.prev_token_end p.token) (sym a.text_is) x)
     by (sign c k x) = absurd (no_word p.token _ refl k h)
     by (nothing c k n) = absurd (no_word p.token _ refl k h)
+
+-- ---- private names
+
+named_parts : (o : Option (List ℕ)) (ps : List ℕ) → named o ≡ Some ps → (o ≡ Some ps) × (is_plain_name ps ≡ true)
+named_parts None ps e = cc
+named_parts (Some cs) ps e = go (is_plain_name cs) refl e
+  where
+    go : (b : Bool) → is_plain_name cs ≡ b → elim b [ true ↦ Some cs | false ↦ None ] ≡ Some ps → (Some cs ≡ Some ps) × (is_plain_name ps ≡ true)
+    go true f g = (g, let h : cs ≡ ps = cc in subst (λ (v : List ℕ). is_plain_name v ≡ true) h f)
+    go false f g = absurd (let h = g in cc)
+
+scalar_at : (p : Position) (c : ℕ) → may_stand p c ≡ true → is_scalar c ≡ true
+scalar_at p c h = go (is_scalar c) refl
+  where
+    go : (b : Bool) → is_scalar c ≡ b → is_scalar c ≡ true
+    go true e = e
+    go false e = absurd (false≢true (sym (may_stand-scalar p c e) ∙ h))
+
+scalar_parts : (cs : List ℕ) → list_all is_identifier_part cs ≡ true → list_all is_scalar cs ≡ true
+scalar_parts [] h = refl
+scalar_parts (c ∷ cs) h = let z = and_parts (is_identifier_part c) (list_all is_identifier_part cs) h in and_from (is_scalar c) (list_all is_scalar cs) (scalar_at Part c z.0) (scalar_parts cs z.1)
+
+plain_scalars : (ps : List ℕ) → is_plain_name ps ≡ true → list_all is_scalar ps ≡ true
+plain_scalars [] h = cc
+plain_scalars (c ∷ cs) h = let z = and_parts (is_identifier_start c) (list_all is_identifier_part cs) h in and_from (is_scalar c) (list_all is_scalar cs) (scalar_at Start c z.0) (scalar_parts cs z.1)
+
+name_stands_for : (w ps : List ℕ) → name_of w ≡ Some ps → IsSome (name_text w)
+name_stands_for w ps e =
+    let n = named_parts (code_points in_name w) ps e in
+    subst (λ (o : Option (List ℕ)). IsSome (utf8_of o)) (sym n.0) (subst (λ (b : Bool). IsSome (only_if b (flat_map encode_utf8 ps))) (sym (plain_scalars ps n.1)) refl)
+
+-- the characters of a private name: `#` and a name
+private_parts : (w rest : List ℕ) → kind_in division w rest ≡ Some PrivateIdentifier → (cs : List ℕ) × (w ≡ 35 ∷ cs) × IsSome (name_text cs)
+private_parts [] rest h = absurd (let z = (plain_end rest PrivateIdentifier h).0 in cc)
+private_parts (c ∷ cs) rest h = go (c == 35) refl (private_here _ (opened_is c cs rest PrivateIdentifier h))
+  where
+    private_here : (o : Opening) → opened PrivateIdentifier ≡ Some o → kind_of o (c ∷ cs) rest ≡ kind_of a_private_name (c ∷ cs) rest
+    private_here o e = ap (λ (o : Opening). kind_of o (c ∷ cs) rest) (some_opening o a_private_name (sym e))
+      where
+        some_opening : (a b : Opening) → Some a ≡ Some b → a ≡ b
+        some_opening a b e = cc
+
+    with_name : (o : Option (List ℕ)) → name_of cs ≡ o → private_of o ≡ Some PrivateIdentifier → IsSome (name_text cs)
+    with_name None e q = absurd (let z = q in cc)
+    with_name (Some ps) e q = name_stands_for cs ps e
+
+    go : (b : Bool) → (c == 35) ≡ b → kind_of (opening c (begins is_decimal cs)) (c ∷ cs) rest ≡ elim (c == 35) [ true ↦ private_of (name_of cs) | false ↦ None ] → (ds : List ℕ) × (c ∷ cs ≡ 35 ∷ ds) × IsSome (name_text ds)
+    go true e k = (cs, ap (λ (d : ℕ). d ∷ cs) (eqb-true c 35 e), with_name (name_of cs) refl (sym (k ∙ ap (λ (b : Bool). elim b [ true ↦ private_of (name_of cs) | false ↦ None ]) e) ∙ h))
+    go false e k = absurd (let z : None ≡ Some PrivateIdentifier = sym (k ∙ ap (λ (b : Bool). elim b [ true ↦ private_of (name_of cs) | false ↦ None ]) e) ∙ h in cc)
+
+-- a private name that stands here is one
+pub spells_private : {text : List ℕ} {f : Flags} {p : Parser} → At text f p → p.token.kind ≡ PrivateIdentifier → SpellsPrivate p.text p.token
+spells_private {text} {p = p} a h = by a.plain
+  where
+    of_word : (w : List ℕ) → spelled_at p.text p.token ≡ w → Word p.text p.token.span.start p.token.span.end w → (has_backslash w ≡ p.token.escaped) → (cs : List ℕ) × (w ≡ 35 ∷ cs) × IsSome (name_text cs) → SpellsPrivate p.text p.token
+    of_word w e s b (cs, q, n) =
+        let whole : Word p.text p.token.span.start p.token.span.end (35 ∷ cs) = subst (λ (v : List ℕ). Word p.text p.token.span.start p.token.span.end v) q s in
+        let first : Word p.text p.token.span.start (p.token.span.start + 1) (35 ∷ []) = front_word p.text p.token.span.start (35 ∷ []) (cs ++ behind p.text p.token.span.end) a.at.utf8 a.at.lies.starts_whole whole.splits in
+        let others = (others_stand first whole).1 in
+        let before : p.token.span.start + 1 ≤ p.token.span.end = (let z = others.end in omega arith) in
+        let inside : behind_sign p.text p.token ≡ cs = spelled p.text (p.token.span.start + 1) p.token.span.end cs a.at.utf8 first.boundary before others in
+        record {
+          lies = a.at.lies;
+          before = before;
+          between = first.boundary;
+          sign = e ∙ q ∙ ap (λ (v : List ℕ). 35 ∷ v) (sym inside);
+          escaped = ap has_backslash e ∙ b;
+          named = subst (λ (v : List ℕ). IsSome (name_text v)) (sym inside) n;
+        }
+
+    of_lexeme : GivesLexeme division (λ y. y) p.text p.prev_token_end p.token → SpellsPrivate p.text p.token
+    of_lexeme x =
+        let k : x.lexeme.kind ≡ PrivateIdentifier = sym x.tells.kind ∙ h in
+        let w : (is_word x.lexeme.kind || same_kind PrivateIdentifier x.lexeme.kind) ≡ true = ap (λ (v : Kind). is_word v || same_kind PrivateIdentifier v) k in
+        of_word x.stands.lex.word (spelled_here a.at x) (word_here a.at x) (sym (x.tells.escaped ∙ x.stands.lex.escaped ∙ ap (λ (b : Bool). b && has_backslash x.stands.lex.word) w)) (private_parts x.stands.lex.word x.stands.lex.rest (kind_of_word a.at x ∙ ap (λ (v : Kind). Some v) k))
+
+    by : IsPlain text p → SpellsPrivate p.text p.token
+    by (whole c n x) = of_lexeme (subst (λ (t : List ℕ). GivesLexeme division (λ y. y) t p.prev_token_end p.token) (sym a.text_is) x)
+    by (sign c k x) = absurd (let e = sym k ∙ h in cc)
+    by (nothing c k n) = absurd (let e = sym k ∙ h in cc)
+
+-- the same of that token behind it
+pub private_later : {text : List ℕ} {f : Flags} {p : Parser} {w : List ℕ} {t : Token} → At text f p → p.token.kind ≡ PrivateIdentifier → t ≡ p.token → w ≡ p.text → SpellsPrivate w t
+private_later {p = p} {w} {t} a h e s = subst (λ (v : List ℕ). SpellsPrivate v t) (sym s) (subst (λ (u : Token). SpellsPrivate p.text u) (sym e) (spells_private a h))
+
+-- what is kept of it: nothing, or what it spells
+pub private_plain : {text : List ℕ} {t : Token} → SpellsPrivate text t → t.escaped ≡ false → IsKeptPrivate None (spelled_at text t)
+private_plain {text} {t} s n = let e : has_backslash (spelled_at text t) ≡ false = s.escaped ∙ n in record { is = sym (ap (λ (b : Bool). cond b (name_text (drop 1 (spelled_at text t))) None) e); where_escaped = sym e }
+
+pub private_spelled : {text : List ℕ} {t : Token} {name : List ℕ} → SpellsPrivate text t → t.escaped ≡ true → Some name ≡ name_text (behind_sign text t) → IsKeptPrivate (Some name) (spelled_at text t)
+private_spelled {text} {t} s n k =
+    let e : has_backslash (spelled_at text t) ≡ true = s.escaped ∙ n in
+    record { is = k ∙ (ap (λ (v : List ℕ). name_text (drop 1 v)) (sym s.sign) ∙ sym (ap (λ (b : Bool). cond b (name_text (drop 1 (spelled_at text t))) None) e)); where_escaped = sym e }
 
 -- a string that stands here is a string literal
 pub spells_string : {text : List ℕ} {f : Flags} {p : Parser} → At text f p → p.token.kind ≡ Str → string_kind (spelled_at p.text p.token) ≡ Some Str
