@@ -27,13 +27,14 @@ use Rattle.js_grammar.proofs.Loops.{chain_start, chain_start_fails, chain_step_b
 use Rattle.js_grammar.proofs.Towers.{OneOf, head, later}
 use Rattle.js_grammar.proofs.Chains.{climbs, member_links, call_links, chain_links}
 use Rattle.js_grammar.proofs.Lexemes.{first_or}
-use Rattle.js_grammar.proofs.LinkLoops.{private, member_name, member_index}
+use Rattle.js_grammar.proofs.LinkLoops.{member_name, member_private, member_index}
 use Rattle.laws_shared.specs.Lexemes.{Lex}
 use Rattle.laws_shared.specs.Answers.{Stretch, Underived}
 use Rattle.laws_primary.specs.Templates.{heads, tagged_label}
-use Rattle.laws_primary.specs.Members.{Looped, NoBareNew, NoMember, NoSuperCall, SuperWord, before_call, without_arguments, access_kinds, link_kinds, LinkForm, by_name, by_call, by_index, chained, admits as admits_link, OnlyLink, sign_of, node_of, link_label}
+use Rattle.laws_primary.specs.Supers.{is_private_member}
+use Rattle.laws_primary.specs.Members.{Looped, NoBareNew, NoMember, NoSuperCall, SuperWord, before_call, without_arguments, access_kinds, link_kinds, LinkForm, by_name, by_private, by_call, by_index, chained, admits as admits_link, NoLink, OnlyLink, sign_of, node_of, link_label}
 use Rattle.laws_primary.specs.declared.forms.LinkBase.TheVariants.{Member as OfMember'}
-use Rattle.laws_shared.proofs.Dead.{fails_dead, live, lives}
+use Rattle.laws_shared.proofs.Dead.{live, lives}
 use Rattle.laws_shared.proofs.Paths.{reads}
 use Rattle.laws_primary.specs.NewTargets.{target_slots}
 
@@ -111,7 +112,7 @@ module _ (f : Flags) where
   first_link c = node (make_of (node_of c) no_op optional_flag) (seq bases (chained f c true).part)
 
   abbrev first_links : G
-  first_links = alt (first_link by_call) (alt (first_link by_name) (first_link by_index))
+  first_links = alt (first_link by_call) (alt (first_link by_name) (alt (first_link by_private) (first_link by_index)))
 
   call_left : live (base_of is_call Call f) ≡ first_call
   unfolding rule_of apart
@@ -155,6 +156,14 @@ template_apart : (f : Flags) (k : Kind) (l : Label) (cs : Slots) (w : Bool) → 
 template_apart f k l cs w h = first_or (λ (v : Kind). follow_of Links f.in_ (edge_of l cs) v w false ≡ false) NoSubstitutionTemplate k _ _ refl h refl (λ h. first_or (λ (v : Kind). follow_of Links f.in_ (edge_of l cs) v w false ≡ false) TemplateHead k _ _ refl h refl (λ h. absurd (false≢true h)))
 
 module _ {text : List ℕ} (f : Flags) where
+  -- of two forms another one isn't read
+  pub other_link : {s : ℕ} (o : Bool) (c d : LinkForm) → (c ≡ d → ⊥) → OnlyLink text f s d o → Fails rule (Lex text) (plain full) end (chained f c o).part s
+  other_link {s} o c d n u = go (u c o)
+    where
+      go : ((c ≡ d) × (o ≡ o)) ⊎ Fails rule (Lex text) (plain full) end (chained f c o).part s → Fails rule (Lex text) (plain full) end (chained f c o).part s
+      go (inl z) = absurd (n z.0)
+      go (inr z) = z
+
   -- ---- members
 
   -- the word `super`
@@ -182,6 +191,7 @@ module _ {text : List ℕ} (f : Flags) where
   unfolding covers
   no_behind_super by_name n = part_fails {X' = plain full} (fails_alt fails_never (no_super_word n)) (record { admits = λ ts us vs j k ls mid rest d d' h. (refl, refl) })
   no_behind_super by_call n = part_fails {X' = plain full} (fails_alt fails_never (no_super_word n)) (record { admits = λ ts us vs j k ls mid rest d d' h. (refl, refl) })
+  no_behind_super by_private n = part_fails {X' = plain full} (fails_alt fails_never (no_super_word n)) (record { admits = λ ts us vs j k ls mid rest d d' h. (refl, refl) })
   no_behind_super by_index n = part_fails {X' = plain full} (fails_alt fails_never (no_super_word n)) (record { admits = λ ts us vs j k ls mid rest d d' h. (refl, refl) })
 
   no_super_link : {X : Test} {s : ℕ} → Fails rule (Lex text) (plain full) end (behind_super f by_name) s → Fails rule (Lex text) (plain full) end (behind_super f by_index) s → Fails rule (Lex text) X end (super_links f) s
@@ -219,14 +229,10 @@ module _ {text : List ℕ} (f : Flags) where
     super_goes c = then_by {X' = plain full} (right fails_never ▹ x.word.goes) (record { admits = λ ts us vs j k ls mid rest d d' h. (refl, refl) })
 
     another_property : {X : Test} (c d : LinkForm) → (c ≡ d → ⊥) → OnlyLink text f s' d false → Fails rule (Lex text) X end (super_link f c) s
-    another_property c d h u = fails_node inside_full (super_goes c ▹✗ go (u c false))
-      where
-        go : ((c ≡ d) × (false ≡ false)) ⊎ Fails rule (Lex text) (plain full) end (chained f c false).part s' → Fails rule (Lex text) (plain full) end (chained f c false).part s'
-        go (inl z) = absurd (h z.0)
-        go (inr z) = z
+    another_property c d h u = fails_node inside_full (super_goes c ▹✗ other_link false c d h u)
 
     -- and a name or an expression in brackets behind it
-    pub member_super : {s'' from : ℕ} {more : Lexemes → Lexemes} {h : Slots → Slots} (c : LinkForm) → admits_link OfMember' c false ≡ true → OnlyLink text f s' c false → s' ≤ s'' → ((y : Lexeme) → Lex text s y → y.from ≡ from) → Stretch text (plain full) (chained f c false).part s' nothing s'' h more
+    pub member_super : {s'' from : ℕ} {more : Lexemes → Lexemes} {h : Slots → Slots} (c : LinkForm) → (admits_link OfMember' c false && not (is_private_member (node_of c))) ≡ true → OnlyLink text f s' c false → s' ≤ s'' → ((y : Lexeme) → Lex text s y → y.from ≡ from) → Stretch text (plain full) (chained f c false).part s' nothing s'' h more
         → Looped text (members f) (after (at Member f)) s from (link_label c false from s'') (tree l cs (h end)) (λ ls. pass (more ls)) s''
     unfolding member_links rule_of covers
     member_super {s''} {from} by_name q u o b y = record {
@@ -240,6 +246,7 @@ module _ {text : List ℕ} (f : Flags) where
       around = chain_start firsts (climbs is_member Member f) (member_links f) {F' = no_function} (member_foot ▹ (right (weaken_fails p (λ ts y e. admits (at Primary f) ts y e.0)) ▹ (right (no_with n) ▹ (left (no_target n) ▹ (right (another_property by_name by_index (λ e. cc) u) ▹ makes_by (link_label by_index false from s'') inside_full (super_goes by_index ▹ y.goes) (λ ls ls' i j. ap (λ v. link_label by_index false v s'') (b (here ls) (here_at (Lex text) ls i)))))))) refl refl b;
     }
     member_super by_call q u o b y = absurd (false≢true q)
+    member_super by_private q u o b y = absurd (false≢true q)
 
     -- neither stands there
     pub no_member_super : Fails rule (Lex text) (plain full) end (chained f by_name false).part s' → Fails rule (Lex text) (plain full) end (chained f by_index false).part s' → Underived text (at Member f) s
@@ -247,31 +254,32 @@ module _ {text : List ℕ} (f : Flags) where
     no_member_super z i = chain_start_fails firsts (climbs is_member Member f) (member_links f) {F' = no_function} (member_foot ▹✗ fails_alt (weaken_fails p (λ ts y e. admits (at Primary f) ts y e.0)) (fails_alt (no_with n) (fails_alt (no_super_link (super_goes by_name ▹✗ z) (super_goes by_index ▹✗ i)) (no_target n)))) refl refl
 
   -- a name or an expression in brackets behind it
-  pub member_step : {s s' s'' from : ℕ} {l : Label} {cs : Slots} {pass more : Lexemes → Lexemes} {h : Slots → Slots} (c : LinkForm) → admits_link OfMember' c false ≡ true → Looped text (members f) (after (at Member f)) s from l cs pass s' → AllAre text s' (sign_of c false) → s' ≤ s'' → Stretch text (plain full) (chained f c false).part s' nothing s'' h more
+  pub member_step : {s s' s'' from : ℕ} {l : Label} {cs : Slots} {pass more : Lexemes → Lexemes} {h : Slots → Slots} (c : LinkForm) → admits_link OfMember' c false ≡ true → Looped text (members f) (after (at Member f)) s from l cs pass s' → AllAre text s' (sign_of c false) → OnlyLink text f s' c false → s' ≤ s'' → Stretch text (plain full) (chained f c false).part s' nothing s'' h more
       → Looped text (members f) (after (at Member f)) s from (link_label c false from s'') (tree l cs (h end)) (λ ls. pass (more ls)) s''
-  unfolding apart
-  member_step {s' = s'} by_name q x z o y = record { reach = max x.reach y.reach; near = let i = x.near in let j = y.near in omega arith; around = member_name f x.around z (fails_dead (private f).part refl) y.goes }
-  member_step {s' = s'} by_index q x z o y = record { reach = max x.reach y.reach; near = let i = x.near in let j = y.near in omega arith; around = member_index f x.around z y.goes }
-  member_step by_call q x z o y = absurd (false≢true q)
+  member_step {s' = s'} by_name q x z u o y = record { reach = max x.reach y.reach; near = let i = x.near in let j = y.near in omega arith; around = member_name f x.around z (other_link false by_private by_name (λ e. cc) u) y.goes }
+  member_step {s' = s'} by_private q x z u o y = record { reach = max x.reach y.reach; near = let i = x.near in let j = y.near in omega arith; around = member_private f x.around z (other_link false by_name by_private (λ e. cc) u) y.goes }
+  member_step {s' = s'} by_index q x z u o y = record { reach = max x.reach y.reach; near = let i = x.near in let j = y.near in omega arith; around = member_index f x.around z y.goes }
+  member_step by_call q x z u o y = absurd (false≢true q)
 
   not_before_access : (k : Kind) {s' : ℕ} (l : Label) (cs : Slots) → ((w : Bool) → follow_of Member f.in_ (edge_of l cs) k w false ≡ false) → AllAre text s' k → (y : Lexeme) → Lex text s' y → Admits (after (at Member f)) (tree l cs end) y → ⊥
   not_before_access k l cs h z y i e = false≢true (sym (h y.newline) ∙ subst (λ v. follow_of Member f.in_ (edge_of l cs) v y.newline false ≡ true) (z y i).0 (subst (λ v. follow_of Member f.in_ (edge_of l cs) y.kind y.newline v ≡ true) (z y i).1 e.1))
 
-  dot_access : {s : ℕ} (x' : Link Symbol) → OneOf x' (beginning firsts (member_links f) Dot) → (x' ≡ chained f by_name false) ⊎ Fails rule (Lex text) (plain full) end x'.part s
+  dot_access : {s : ℕ} → NoLink text f s by_private false → (x' : Link Symbol) → OneOf x' (beginning firsts (member_links f) Dot) → (x' ≡ chained f by_name false) ⊎ Fails rule (Lex text) (plain full) end x'.part s
   unfolding member_links rule_of apart
-  dot_access x' head = inl refl
-  dot_access x' (later head) = inr (fails_dead (private f).part refl)
-  dot_access x' (later (later i)) = elim i [ ]
+  dot_access n x' head = inl refl
+  dot_access n x' (later head) = inr n
+  dot_access n x' (later (later i)) = elim i [ ]
 
   bracket_access : {s : ℕ} (x' : Link Symbol) → OneOf x' (beginning firsts (member_links f) LBrack) → (x' ≡ chained f by_index false) ⊎ Fails rule (Lex text) (plain full) end x'.part s
   unfolding member_links rule_of apart
   bracket_access x' head = inl refl
   bracket_access x' (later i) = elim i [ ]
 
-  pub member_step_fails : {s s' from : ℕ} {l : Label} {cs : Slots} {pass : Lexemes → Lexemes} (c : LinkForm) → admits_link OfMember' c false ≡ true → Looped text (members f) (after (at Member f)) s from l cs pass s' → AllAre text s' (sign_of c false) → Fails rule (Lex text) (plain full) end (chained f c false).part s' → Underived text (at Member f) s
+  pub member_step_fails : {s s' from : ℕ} {l : Label} {cs : Slots} {pass : Lexemes → Lexemes} (c : LinkForm) → admits_link OfMember' c false ≡ true → Looped text (members f) (after (at Member f)) s from l cs pass s' → AllAre text s' (sign_of c false) → ((c : LinkForm) (o : Bool) → NoLink text f s' c o) → Underived text (at Member f) s
   unfolding member_links rule_of covers
-  member_step_fails {l = l} {cs = cs} by_name q a z r = chain_step_fails_by firsts (climbs is_member Member f) (member_links f) {F' = full} {x = chained f by_name false} Dot a.around (λ y i. (z y i).0) (search (this, of_left, of_right) depth 14) dot_access (not_before_access Dot l cs (λ w. refl) z) (λ l cs vs y e. e) r refl refl
-  member_step_fails {l = l} {cs = cs} by_index q a z r = chain_step_fails_by firsts (climbs is_member Member f) (member_links f) {F' = full} {x = chained f by_index false} LBrack a.around (λ y i. (z y i).0) (search (this, of_left, of_right) depth 14) bracket_access (not_before_access LBrack l cs (λ w. refl) z) (λ l cs vs y e. e) r refl refl
+  member_step_fails {l = l} {cs = cs} by_name q a z r = chain_step_fails_by firsts (climbs is_member Member f) (member_links f) {F' = full} {x = chained f by_name false} Dot a.around (λ y i. (z y i).0) (search (this, of_left, of_right) depth 14) (dot_access (r by_private false)) (not_before_access Dot l cs (λ w. refl) z) (λ l cs vs y e. e) (r by_name false) refl refl
+  member_step_fails {l = l} {cs = cs} by_private q a z r = chain_step_fails_by firsts (climbs is_member Member f) (member_links f) {F' = full} {x = chained f by_name false} Dot a.around (λ y i. (z y i).0) (search (this, of_left, of_right) depth 14) (dot_access (r by_private false)) (not_before_access Dot l cs (λ w. refl) z) (λ l cs vs y e. e) (r by_name false) refl refl
+  member_step_fails {l = l} {cs = cs} by_index q a z r = chain_step_fails_by firsts (climbs is_member Member f) (member_links f) {F' = full} {x = chained f by_index false} LBrack a.around (λ y i. (z y i).0) (search (this, of_left, of_right) depth 14) bracket_access (not_before_access LBrack l cs (λ w. refl) z) (λ l cs vs y e. e) (r by_index false) refl refl
   member_step_fails by_call q a z r = absurd (false≢true q)
 
   -- a template behind it
@@ -392,11 +400,17 @@ module _ {text : List ℕ} (f : Flags) where
   not_before_call : (k : Kind) {s' : ℕ} (l : Label) (cs : Slots) → ((w : Bool) → follow_of Call f.in_ (edge_of l cs) k w false ≡ false) → AllAre text s' k → (y : Lexeme) → Lex text s' y → Admits (after (at Call f)) (tree l cs end) y → ⊥
   not_before_call k l cs h z y i e = false≢true (sym (h y.newline) ∙ subst (λ v. follow_of Call f.in_ (edge_of l cs) v y.newline false ≡ true) (z y i).0 (subst (λ v. follow_of Call f.in_ (edge_of l cs) y.kind y.newline v ≡ true) (z y i).1 e.1))
 
-  dot_call : {s : ℕ} (x' : Link Symbol) → OneOf x' (beginning firsts (call_links f) Dot) → (x' ≡ chained f by_name false) ⊎ Fails rule (Lex text) (plain full) end x'.part s
+  dot_call : {s : ℕ} → NoLink text f s by_private false → (x' : Link Symbol) → OneOf x' (beginning firsts (call_links f) Dot) → (x' ≡ chained f by_name false) ⊎ Fails rule (Lex text) (plain full) end x'.part s
   unfolding call_links rule_of apart
-  dot_call x' head = inl refl
-  dot_call x' (later head) = inr (fails_dead (private f).part refl)
-  dot_call x' (later (later i)) = elim i [ ]
+  dot_call n x' head = inl refl
+  dot_call n x' (later head) = inr n
+  dot_call n x' (later (later i)) = elim i [ ]
+
+  private_call : {s : ℕ} → NoLink text f s by_name false → (x' : Link Symbol) → OneOf x' (beginning firsts (call_links f) Dot) → (x' ≡ chained f by_private false) ⊎ Fails rule (Lex text) (plain full) end x'.part s
+  unfolding call_links rule_of apart
+  private_call n x' head = inr n
+  private_call n x' (later head) = inl refl
+  private_call n x' (later (later i)) = elim i [ ]
 
   paren_call : {s : ℕ} (x' : Link Symbol) → OneOf x' (beginning firsts (call_links f) LParen) → (x' ≡ chained f by_call false) ⊎ Fails rule (Lex text) (plain full) end x'.part s
   unfolding call_links rule_of apart
@@ -408,18 +422,20 @@ module _ {text : List ℕ} (f : Flags) where
   bracket_call x' head = inl refl
   bracket_call x' (later i) = elim i [ ]
 
-  pub call_step : {s s' s'' from : ℕ} {l : Label} {cs : Slots} {pass more : Lexemes → Lexemes} {h : Slots → Slots} (c : LinkForm) → Looped text (calls f) (after (at Call f)) s from l cs pass s' → AllAre text s' (sign_of c false) → s' ≤ s'' → Stretch text (plain full) (chained f c false).part s' nothing s'' h more
+  pub call_step : {s s' s'' from : ℕ} {l : Label} {cs : Slots} {pass more : Lexemes → Lexemes} {h : Slots → Slots} (c : LinkForm) → Looped text (calls f) (after (at Call f)) s from l cs pass s' → AllAre text s' (sign_of c false) → OnlyLink text f s' c false → s' ≤ s'' → Stretch text (plain full) (chained f c false).part s' nothing s'' h more
       → Looped text (calls f) (after (at Call f)) s from (link_label c false from s'') (tree l cs (h end)) (λ ls. pass (more ls)) s''
   unfolding call_links rule_of covers
-  call_step {l = l} {cs = cs} by_call x z o y = record { reach = max x.reach y.reach; near = let i = x.near in let j = y.near in omega arith; around = chain_step_by firsts (climbs is_call Call f) (call_links f) {F' = full} LParen x.around (λ y i. (z y i).0) (search (this, of_left, of_right) depth 14) paren_call (not_before_call LParen l cs (λ w. refl) z) y.goes refl refl }
-  call_step {l = l} {cs = cs} by_name x z o y = record { reach = max x.reach y.reach; near = let i = x.near in let j = y.near in omega arith; around = chain_step_by firsts (climbs is_call Call f) (call_links f) {F' = full} Dot x.around (λ y i. (z y i).0) (search (this, of_left, of_right) depth 14) dot_call (not_before_call Dot l cs (λ w. refl) z) y.goes refl refl }
-  call_step {l = l} {cs = cs} by_index x z o y = record { reach = max x.reach y.reach; near = let i = x.near in let j = y.near in omega arith; around = chain_step_by firsts (climbs is_call Call f) (call_links f) {F' = full} LBrack x.around (λ y i. (z y i).0) (search (this, of_left, of_right) depth 14) bracket_call (not_before_call LBrack l cs (λ w. refl) z) y.goes refl refl }
+  call_step {l = l} {cs = cs} by_call x z u o y = record { reach = max x.reach y.reach; near = let i = x.near in let j = y.near in omega arith; around = chain_step_by firsts (climbs is_call Call f) (call_links f) {F' = full} LParen x.around (λ y i. (z y i).0) (search (this, of_left, of_right) depth 14) paren_call (not_before_call LParen l cs (λ w. refl) z) y.goes refl refl }
+  call_step {l = l} {cs = cs} by_name x z u o y = record { reach = max x.reach y.reach; near = let i = x.near in let j = y.near in omega arith; around = chain_step_by firsts (climbs is_call Call f) (call_links f) {F' = full} Dot x.around (λ y i. (z y i).0) (search (this, of_left, of_right) depth 14) (dot_call (other_link false by_private by_name (λ e. cc) u)) (not_before_call Dot l cs (λ w. refl) z) y.goes refl refl }
+  call_step {l = l} {cs = cs} by_private x z u o y = record { reach = max x.reach y.reach; near = let i = x.near in let j = y.near in omega arith; around = chain_step_by firsts (climbs is_call Call f) (call_links f) {F' = full} Dot x.around (λ y i. (z y i).0) (search (this, of_left, of_right) depth 14) (private_call (other_link false by_name by_private (λ e. cc) u)) (not_before_call Dot l cs (λ w. refl) z) y.goes refl refl }
+  call_step {l = l} {cs = cs} by_index x z u o y = record { reach = max x.reach y.reach; near = let i = x.near in let j = y.near in omega arith; around = chain_step_by firsts (climbs is_call Call f) (call_links f) {F' = full} LBrack x.around (λ y i. (z y i).0) (search (this, of_left, of_right) depth 14) bracket_call (not_before_call LBrack l cs (λ w. refl) z) y.goes refl refl }
 
-  pub call_step_fails : {X : Test} {s s' from : ℕ} {l : Label} {cs : Slots} {pass : Lexemes → Lexemes} (c : LinkForm) → Heads X (after (at Call f)) → Looped text (calls f) (after (at Call f)) s from l cs pass s' → AllAre text s' (sign_of c false) → Fails rule (Lex text) (plain full) end (chained f c false).part s' → Fails rule (Lex text) X end (such (at Call f) always) s
+  pub call_step_fails : {X : Test} {s s' from : ℕ} {l : Label} {cs : Slots} {pass : Lexemes → Lexemes} (c : LinkForm) → Heads X (after (at Call f)) → Looped text (calls f) (after (at Call f)) s from l cs pass s' → AllAre text s' (sign_of c false) → ((c : LinkForm) (o : Bool) → NoLink text f s' c o) → Fails rule (Lex text) X end (such (at Call f) always) s
   unfolding call_links rule_of covers
-  call_step_fails {l = l} {cs = cs} by_call p x z r = chain_step_fails_by firsts (climbs is_call Call f) (call_links f) {F' = full} {x = chained f by_call false} LParen x.around (λ y i. (z y i).0) (search (this, of_left, of_right) depth 14) paren_call (not_before_call LParen l cs (λ w. refl) z) p r refl refl
-  call_step_fails {l = l} {cs = cs} by_name p x z r = chain_step_fails_by firsts (climbs is_call Call f) (call_links f) {F' = full} {x = chained f by_name false} Dot x.around (λ y i. (z y i).0) (search (this, of_left, of_right) depth 14) dot_call (not_before_call Dot l cs (λ w. refl) z) p r refl refl
-  call_step_fails {l = l} {cs = cs} by_index p x z r = chain_step_fails_by firsts (climbs is_call Call f) (call_links f) {F' = full} {x = chained f by_index false} LBrack x.around (λ y i. (z y i).0) (search (this, of_left, of_right) depth 14) bracket_call (not_before_call LBrack l cs (λ w. refl) z) p r refl refl
+  call_step_fails {l = l} {cs = cs} by_call p x z r = chain_step_fails_by firsts (climbs is_call Call f) (call_links f) {F' = full} {x = chained f by_call false} LParen x.around (λ y i. (z y i).0) (search (this, of_left, of_right) depth 14) paren_call (not_before_call LParen l cs (λ w. refl) z) p (r by_call false) refl refl
+  call_step_fails {l = l} {cs = cs} by_name p x z r = chain_step_fails_by firsts (climbs is_call Call f) (call_links f) {F' = full} {x = chained f by_name false} Dot x.around (λ y i. (z y i).0) (search (this, of_left, of_right) depth 14) (dot_call (r by_private false)) (not_before_call Dot l cs (λ w. refl) z) p (r by_name false) refl refl
+  call_step_fails {l = l} {cs = cs} by_private p x z r = chain_step_fails_by firsts (climbs is_call Call f) (call_links f) {F' = full} {x = chained f by_name false} Dot x.around (λ y i. (z y i).0) (search (this, of_left, of_right) depth 14) (dot_call (r by_private false)) (not_before_call Dot l cs (λ w. refl) z) p (r by_name false) refl refl
+  call_step_fails {l = l} {cs = cs} by_index p x z r = chain_step_fails_by firsts (climbs is_call Call f) (call_links f) {F' = full} {x = chained f by_index false} LBrack x.around (λ y i. (z y i).0) (search (this, of_left, of_right) depth 14) bracket_call (not_before_call LBrack l cs (λ w. refl) z) p (r by_index false) refl refl
 
   -- a template behind it
   template_call : {s : ℕ} (k : Kind) → one_of_kinds heads k ≡ true → (x' : Link Symbol) → OneOf x' (beginning firsts (call_links f) k) → (x' ≡ tagged f) ⊎ Fails rule (Lex text) (plain full) end x'.part s
@@ -470,24 +486,19 @@ module _ {text : List ℕ} (f : Flags) where
   unfolding covers
   headed by_call x = then_by {X' = before_chain} x.goes (by_first firsts (by_plain (is QuestionDot)) refl)
   headed by_name x = then_by {X' = before_chain} x.goes (by_first firsts (by_plain (is QuestionDot)) refl)
+  headed by_private x = then_by {X' = before_chain} x.goes (by_first firsts (by_plain (is QuestionDot)) refl)
   headed by_index x = then_by {X' = before_chain} x.goes (by_first firsts (by_plain (is QuestionDot)) refl)
 
   headless : {s : ℕ} (c : LinkForm) → Fails rule (Lex text) before_chain end (bases f) s → Fails rule (Lex text) (plain full) end (seq (bases f) (chained f c true).part) s
   unfolding covers
   headless by_call x = part_fails {X' = before_chain} x (by_first firsts (by_plain (is QuestionDot)) refl)
   headless by_name x = part_fails {X' = before_chain} x (by_first firsts (by_plain (is QuestionDot)) refl)
+  headless by_private x = part_fails {X' = before_chain} x (by_first firsts (by_plain (is QuestionDot)) refl)
   headless by_index x = part_fails {X' = before_chain} x (by_first firsts (by_plain (is QuestionDot)) refl)
-
-  other_link : {s : ℕ} (c d : LinkForm) → (c ≡ d → ⊥) → OnlyLink text f s d true → Fails rule (Lex text) (plain full) end (chained f c true).part s
-  other_link {s} c d n u = go (u c true)
-    where
-      go : ((c ≡ d) × (true ≡ true)) ⊎ Fails rule (Lex text) (plain full) end (chained f c true).part s → Fails rule (Lex text) (plain full) end (chained f c true).part s
-      go (inl z) = absurd (n z.0)
-      go (inr z) = z
 
   -- the first link was read, and it is no other one
   another_first : {s s' : ℕ} {l : Label} {cs : Slots} {pass : Lexemes → Lexemes} (x : Stretch text before_chain (bases f) s nothing s' (tree l cs) pass) (c d : LinkForm) → (c ≡ d → ⊥) → OnlyLink text f s' d true → Fails rule (Lex text) (plain full) end (first_link f c) s
-  another_first x c d n u = fails_node inside_full (headed c x ▹✗ other_link c d n u)
+  another_first x c d n u = fails_node inside_full (headed c x ▹✗ other_link true c d n u)
 
   module _ {s s' s'' from : ℕ} {l : Label} {cs : Slots} {pass more : Lexemes → Lexemes} {h : Slots → Slots} (x : Stretch text before_chain (bases f) s nothing s' (tree l cs) pass) (o : s' ≤ s'') (b : (y : Lexeme) → Lex text s y → y.from ≡ from) where
     the_first : {X : Test} (c : LinkForm) (y : Stretch text (plain full) (chained f c true).part s' nothing s'' h more) → Reads rule (Lex text) X end (first_link f c) s s'' (tree (link_label c true from s'') (tree l cs (h end))) (joined (record { reach = x.reach; pass = pass }) (record { reach = y.reach; pass = more }))
@@ -498,17 +509,22 @@ module _ {text : List ℕ} (f : Flags) where
     chain_begin by_call u y = record {
       reach = max 0 (max 0 (max x.reach y.reach));
       near = let i = x.near in let j = y.near in omega arith;
-      around = chain_start firsts (climbs is_links Links f) (chain_links f) {F' = full} (chain_foot ▹ (left (fails_alt (another_first x by_name by_call (λ e. cc) u) (another_first x by_index by_call (λ e. cc) u)) ▹ the_first by_call y)) refl refl b;
+      around = chain_start firsts (climbs is_links Links f) (chain_links f) {F' = full} (chain_foot ▹ (left (fails_alt (another_first x by_name by_call (λ e. cc) u) (fails_alt (another_first x by_private by_call (λ e. cc) u) (another_first x by_index by_call (λ e. cc) u))) ▹ the_first by_call y)) refl refl b;
     }
     chain_begin by_name u y = record {
       reach = max 0 (max 0 (max 0 (max x.reach y.reach)));
       near = let i = x.near in let j = y.near in omega arith;
-      around = chain_start firsts (climbs is_links Links f) (chain_links f) {F' = full} (chain_foot ▹ (right (another_first x by_call by_name (λ e. cc) u) ▹ (left (another_first x by_index by_name (λ e. cc) u) ▹ the_first by_name y))) refl refl b;
+      around = chain_start firsts (climbs is_links Links f) (chain_links f) {F' = full} (chain_foot ▹ (right (another_first x by_call by_name (λ e. cc) u) ▹ (left (fails_alt (another_first x by_private by_name (λ e. cc) u) (another_first x by_index by_name (λ e. cc) u)) ▹ the_first by_name y))) refl refl b;
+    }
+    chain_begin by_private u y = record {
+      reach = max 0 (max 0 (max 0 (max 0 (max x.reach y.reach))));
+      near = let i = x.near in let j = y.near in omega arith;
+      around = chain_start firsts (climbs is_links Links f) (chain_links f) {F' = full} (chain_foot ▹ (right (another_first x by_call by_private (λ e. cc) u) ▹ (right (another_first x by_name by_private (λ e. cc) u) ▹ (left (another_first x by_index by_private (λ e. cc) u) ▹ the_first by_private y)))) refl refl b;
     }
     chain_begin by_index u y = record {
-      reach = max 0 (max 0 (max 0 (max x.reach y.reach)));
+      reach = max 0 (max 0 (max 0 (max 0 (max x.reach y.reach))));
       near = let i = x.near in let j = y.near in omega arith;
-      around = chain_start firsts (climbs is_links Links f) (chain_links f) {F' = full} (chain_foot ▹ (right (another_first x by_call by_index (λ e. cc) u) ▹ (right (another_first x by_name by_index (λ e. cc) u) ▹ the_first by_index y))) refl refl b;
+      around = chain_start firsts (climbs is_links Links f) (chain_links f) {F' = full} (chain_foot ▹ (right (another_first x by_call by_index (λ e. cc) u) ▹ (right (another_first x by_name by_index (λ e. cc) u) ▹ (right (another_first x by_private by_index (λ e. cc) u) ▹ the_first by_index y)))) refl refl b;
     }
 
   no_chain : {s : ℕ} → Underived text (at Links f) s → Underived text (at Chain f) s
@@ -517,7 +533,7 @@ module _ {text : List ℕ} (f : Flags) where
 
   first_fails : {s : ℕ} → ((c : LinkForm) → Fails rule (Lex text) (plain full) end (seq (bases f) (chained f c true).part) s) → Underived text (at Chain f) s
   unfolding chain_links rule_of covers
-  first_fails x = no_chain (chain_start_fails firsts (climbs is_links Links f) (chain_links f) {F' = full} (chain_foot ▹✗ fails_alt (fails_node inside_full (x by_call)) (fails_alt (fails_node inside_full (x by_name)) (fails_node inside_full (x by_index)))) refl refl)
+  first_fails x = no_chain (chain_start_fails firsts (climbs is_links Links f) (chain_links f) {F' = full} (chain_foot ▹✗ fails_alt (fails_node inside_full (x by_call)) (fails_alt (fails_node inside_full (x by_name)) (fails_alt (fails_node inside_full (x by_private)) (fails_node inside_full (x by_index))))) refl refl)
 
   pub no_first : {s : ℕ} → Fails rule (Lex text) before_chain end (bases f) s → Underived text (at Chain f) s
   no_first x = first_fails (λ c. headless c x)
@@ -529,11 +545,17 @@ module _ {text : List ℕ} (f : Flags) where
   not_before_link : (k : Kind) {s' : ℕ} (l : Label) (cs : Slots) → ((w : Bool) → follow_of Links f.in_ (edge_of l cs) k w false ≡ false) → AllAre text s' k → (y : Lexeme) → Lex text s' y → Admits (after (at Links f)) (tree l cs end) y → ⊥
   not_before_link k l cs h z y i e = false≢true (sym (h y.newline) ∙ subst (λ v. follow_of Links f.in_ (edge_of l cs) v y.newline false ≡ true) (z y i).0 (subst (λ v. follow_of Links f.in_ (edge_of l cs) y.kind y.newline v ≡ true) (z y i).1 e.1))
 
-  dot_link : {s : ℕ} (x' : Link Symbol) → OneOf x' (beginning firsts (chain_links f) Dot) → (x' ≡ chained f by_name false) ⊎ Fails rule (Lex text) (plain full) end x'.part s
+  dot_link : {s : ℕ} → NoLink text f s by_private false → (x' : Link Symbol) → OneOf x' (beginning firsts (chain_links f) Dot) → (x' ≡ chained f by_name false) ⊎ Fails rule (Lex text) (plain full) end x'.part s
   unfolding chain_links rule_of apart
-  dot_link x' head = inl refl
-  dot_link x' (later head) = inr (fails_dead (private f).part refl)
-  dot_link x' (later (later i)) = elim i [ ]
+  dot_link n x' head = inl refl
+  dot_link n x' (later head) = inr n
+  dot_link n x' (later (later i)) = elim i [ ]
+
+  private_link : {s : ℕ} → NoLink text f s by_name false → (x' : Link Symbol) → OneOf x' (beginning firsts (chain_links f) Dot) → (x' ≡ chained f by_private false) ⊎ Fails rule (Lex text) (plain full) end x'.part s
+  unfolding chain_links rule_of apart
+  private_link n x' head = inr n
+  private_link n x' (later head) = inl refl
+  private_link n x' (later (later i)) = elim i [ ]
 
   paren_link : {s : ℕ} (x' : Link Symbol) → OneOf x' (beginning firsts (chain_links f) LParen) → (x' ≡ chained f by_call false) ⊎ Fails rule (Lex text) (plain full) end x'.part s
   unfolding chain_links rule_of apart
@@ -548,15 +570,21 @@ module _ {text : List ℕ} (f : Flags) where
   optional_one : {s : ℕ} (c : LinkForm) → OnlyLink text f s c true → (x' : Link Symbol) → OneOf x' (beginning firsts (chain_links f) QuestionDot) → (x' ≡ chained f c true) ⊎ Fails rule (Lex text) (plain full) end x'.part s
   unfolding chain_links rule_of apart
   optional_one by_call u x' head = inl refl
-  optional_one by_call u x' (later head) = inr (other_link by_name by_call (λ e. cc) u)
-  optional_one by_call u x' (later (later (later head))) = inr (other_link by_index by_call (λ e. cc) u)
-  optional_one by_name u x' head = inr (other_link by_call by_name (λ e. cc) u)
+  optional_one by_call u x' (later head) = inr (other_link true by_name by_call (λ e. cc) u)
+  optional_one by_call u x' (later (later head)) = inr (other_link true by_private by_call (λ e. cc) u)
+  optional_one by_call u x' (later (later (later head))) = inr (other_link true by_index by_call (λ e. cc) u)
+  optional_one by_name u x' head = inr (other_link true by_call by_name (λ e. cc) u)
   optional_one by_name u x' (later head) = inl refl
-  optional_one by_name u x' (later (later (later head))) = inr (other_link by_index by_name (λ e. cc) u)
-  optional_one by_index u x' head = inr (other_link by_call by_index (λ e. cc) u)
-  optional_one by_index u x' (later head) = inr (other_link by_name by_index (λ e. cc) u)
+  optional_one by_name u x' (later (later head)) = inr (other_link true by_private by_name (λ e. cc) u)
+  optional_one by_name u x' (later (later (later head))) = inr (other_link true by_index by_name (λ e. cc) u)
+  optional_one by_private u x' head = inr (other_link true by_call by_private (λ e. cc) u)
+  optional_one by_private u x' (later head) = inr (other_link true by_name by_private (λ e. cc) u)
+  optional_one by_private u x' (later (later head)) = inl refl
+  optional_one by_private u x' (later (later (later head))) = inr (other_link true by_index by_private (λ e. cc) u)
+  optional_one by_index u x' head = inr (other_link true by_call by_index (λ e. cc) u)
+  optional_one by_index u x' (later head) = inr (other_link true by_name by_index (λ e. cc) u)
+  optional_one by_index u x' (later (later head)) = inr (other_link true by_private by_index (λ e. cc) u)
   optional_one by_index u x' (later (later (later head))) = inl refl
-  optional_one c u x' (later (later head)) = inr (fails_dead x'.part refl)
   optional_one c u x' (later (later (later (later i)))) = elim i [ ]
 
   module _ {s s' from : ℕ} {l : Label} {cs : Slots} {pass : Lexemes → Lexemes} (x : Looped text (chains f) (after (at Links f)) s from l cs pass s') where
@@ -565,9 +593,11 @@ module _ {text : List ℕ} (f : Flags) where
     unfolding chain_links rule_of covers
     chain_step by_call true z u o y = record { reach = max x.reach y.reach; near = let i = x.near in let j = y.near in omega arith; around = chain_step_by firsts (climbs is_links Links f) (chain_links f) {F' = full} QuestionDot x.around (λ y i. (z y i).0) (search (this, of_left, of_right) depth 14) (optional_one by_call u) (not_before_link QuestionDot l cs (λ w. refl) z) y.goes refl refl }
     chain_step by_name true z u o y = record { reach = max x.reach y.reach; near = let i = x.near in let j = y.near in omega arith; around = chain_step_by firsts (climbs is_links Links f) (chain_links f) {F' = full} QuestionDot x.around (λ y i. (z y i).0) (search (this, of_left, of_right) depth 14) (optional_one by_name u) (not_before_link QuestionDot l cs (λ w. refl) z) y.goes refl refl }
+    chain_step by_private true z u o y = record { reach = max x.reach y.reach; near = let i = x.near in let j = y.near in omega arith; around = chain_step_by firsts (climbs is_links Links f) (chain_links f) {F' = full} QuestionDot x.around (λ y i. (z y i).0) (search (this, of_left, of_right) depth 14) (optional_one by_private u) (not_before_link QuestionDot l cs (λ w. refl) z) y.goes refl refl }
     chain_step by_index true z u o y = record { reach = max x.reach y.reach; near = let i = x.near in let j = y.near in omega arith; around = chain_step_by firsts (climbs is_links Links f) (chain_links f) {F' = full} QuestionDot x.around (λ y i. (z y i).0) (search (this, of_left, of_right) depth 14) (optional_one by_index u) (not_before_link QuestionDot l cs (λ w. refl) z) y.goes refl refl }
     chain_step by_call false z u o y = record { reach = max x.reach y.reach; near = let i = x.near in let j = y.near in omega arith; around = chain_step_by firsts (climbs is_links Links f) (chain_links f) {F' = full} LParen x.around (λ y i. (z y i).0) (search (this, of_left, of_right) depth 14) paren_link (not_before_link LParen l cs (λ w. refl) z) y.goes refl refl }
-    chain_step by_name false z u o y = record { reach = max x.reach y.reach; near = let i = x.near in let j = y.near in omega arith; around = chain_step_by firsts (climbs is_links Links f) (chain_links f) {F' = full} Dot x.around (λ y i. (z y i).0) (search (this, of_left, of_right) depth 14) dot_link (not_before_link Dot l cs (λ w. refl) z) y.goes refl refl }
+    chain_step by_name false z u o y = record { reach = max x.reach y.reach; near = let i = x.near in let j = y.near in omega arith; around = chain_step_by firsts (climbs is_links Links f) (chain_links f) {F' = full} Dot x.around (λ y i. (z y i).0) (search (this, of_left, of_right) depth 14) (dot_link (other_link false by_private by_name (λ e. cc) u)) (not_before_link Dot l cs (λ w. refl) z) y.goes refl refl }
+    chain_step by_private false z u o y = record { reach = max x.reach y.reach; near = let i = x.near in let j = y.near in omega arith; around = chain_step_by firsts (climbs is_links Links f) (chain_links f) {F' = full} Dot x.around (λ y i. (z y i).0) (search (this, of_left, of_right) depth 14) (private_link (other_link false by_name by_private (λ e. cc) u)) (not_before_link Dot l cs (λ w. refl) z) y.goes refl refl }
     chain_step by_index false z u o y = record { reach = max x.reach y.reach; near = let i = x.near in let j = y.near in omega arith; around = chain_step_by firsts (climbs is_links Links f) (chain_links f) {F' = full} LBrack x.around (λ y i. (z y i).0) (search (this, of_left, of_right) depth 14) bracket_link (not_before_link LBrack l cs (λ w. refl) z) y.goes refl refl }
 
     -- no link can be read here
@@ -575,7 +605,8 @@ module _ {text : List ℕ} (f : Flags) where
     unfolding chain_links rule_of covers
     chain_step_fails c true z r = no_chain (chain_step_fails_by firsts (climbs is_links Links f) (chain_links f) {F' = full} {x = chained f by_name true} QuestionDot x.around (λ y i. (z y i).0) (search (this, of_left, of_right) depth 14) (optional_one by_name (λ c' o'. inr (r c' o'))) (not_before_link QuestionDot l cs (λ w. refl) z) (λ l cs vs y e. e) (r by_name true) refl refl)
     chain_step_fails by_call false z r = no_chain (chain_step_fails_by firsts (climbs is_links Links f) (chain_links f) {F' = full} {x = chained f by_call false} LParen x.around (λ y i. (z y i).0) (search (this, of_left, of_right) depth 14) paren_link (not_before_link LParen l cs (λ w. refl) z) (λ l cs vs y e. e) (r by_call false) refl refl)
-    chain_step_fails by_name false z r = no_chain (chain_step_fails_by firsts (climbs is_links Links f) (chain_links f) {F' = full} {x = chained f by_name false} Dot x.around (λ y i. (z y i).0) (search (this, of_left, of_right) depth 14) dot_link (not_before_link Dot l cs (λ w. refl) z) (λ l cs vs y e. e) (r by_name false) refl refl)
+    chain_step_fails by_name false z r = no_chain (chain_step_fails_by firsts (climbs is_links Links f) (chain_links f) {F' = full} {x = chained f by_name false} Dot x.around (λ y i. (z y i).0) (search (this, of_left, of_right) depth 14) (dot_link (r by_private false)) (not_before_link Dot l cs (λ w. refl) z) (λ l cs vs y e. e) (r by_name false) refl refl)
+    chain_step_fails by_private false z r = no_chain (chain_step_fails_by firsts (climbs is_links Links f) (chain_links f) {F' = full} {x = chained f by_name false} Dot x.around (λ y i. (z y i).0) (search (this, of_left, of_right) depth 14) (dot_link (r by_private false)) (not_before_link Dot l cs (λ w. refl) z) (λ l cs vs y e. e) (r by_name false) refl refl)
     chain_step_fails by_index false z r = no_chain (chain_step_fails_by firsts (climbs is_links Links f) (chain_links f) {F' = full} {x = chained f by_index false} LBrack x.around (λ y i. (z y i).0) (search (this, of_left, of_right) depth 14) bracket_link (not_before_link LBrack l cs (λ w. refl) z) (λ l cs vs y e. e) (r by_index false) refl refl)
 
   -- where a template stands, no link of a chain can be read

@@ -11,16 +11,16 @@ use Rattle.js_base.specs.declared.span.Span.{Span}
 use Rattle.js_base.specs.Kinds.{same_kind, one_of_kinds, every_kind}
 use Rattle.js_base.specs.KindSets.{identifier_name_kinds, binding_identifier_kinds}
 use Rattle.js_base.proofs.KindLemmas.{kind_of_same}
-use Rattle.js_grammar.specs.Trees.{Slots, end, tree, Label, no_op, identifier_name, new_expression, chain_expression}
+use Rattle.js_grammar.specs.Trees.{Slots, end, tree, Label, no_op, identifier_name, private_identifier, new_expression, chain_expression}
 use Rattle.js_grammar.specs.Grammar.{Lexeme, Lexemes, Look, next, seen, exact, seq, such, nothing, ◌▸◌}
 use Rattle.js_grammar.specs.Insertion.{after_expression}
 use Rattle.js_grammar.specs.Parsing.{plain, full, always, Fails}
-use Rattle.js_grammar.specs.Productions.{G, Flags, Symbol, at, tok, plus_in, IdentifierName, Expression, Primary, Member, LeftHandSide, Template}
+use Rattle.js_grammar.specs.Productions.{G, Flags, Symbol, at, tok, plus_in, IdentifierName, PrivateName, Expression, Primary, Member, LeftHandSide, Template}
 use Rattle.js_grammar.specs.Productions.{New as new_symbol, sym as symbol}
 use Rattle.js_grammar.specs.Table.{rule, rule_of, args}
 use Rattle.js_grammar.specs.Follow.{Edge, row_of, edge_of, follow, follow_of, after, tight}
 use Rattle.js_grammar.proofs.Looks.{covers, covered, apart, not_both}
-use Rattle.js_grammar.proofs.Calculus.{Inside, inside_full, weaken, ◌▹◌, ◌▹✗◌, then_by, part_fails, fails_node, fails_under, fails_lexeme, weaken_fails}
+use Rattle.js_grammar.proofs.Calculus.{Inside, Within, inside_full, weaken, ◌▹◌, ◌▹✗◌, then_by, part_fails, fails_node, fails_under, fails_lexeme, weaken_fails}
 use Rattle.js_grammar.proofs.FirstClaims.{firsts}
 use Rattle.js_grammar.proofs.FirstRules.{by_first, fails_here}
 use Rattle.js_grammar.proofs.FollowLaws.{fails_by, surely}
@@ -53,7 +53,7 @@ use Rattle.laws_shared.proofs.Nesting.{nested_room, later_room}
 use Rattle.laws_shared.specs.Moves.{Moved, MadeHere, TakesLeaf, IsWholeHere, plain_label, unpassable}
 use Rattle.laws_shared.specs.Answers.{Grown, Verdict, clean, Stretch, Underived, Numbered, Outcome, Stops, beside}
 use Rattle.laws_shared.specs.Stands.{StandsHere}
-use Rattle.laws_primary.specs.Members.{access_kinds, no_link_behind, Taken, NoBareNew, NoMember, NoOther, Headed, a_member, a_new, a_super, is_super_word, MemberSoFar, NoAccess, NoParen, NoLhs, HeadOutcome, link_kinds, LinkForm, by_name, by_call, by_index, indexed, admits, chained, sign_of, link_label, NoLink, OnlyLink, Linked, LinkHere, a_link, no_link, ReadsLink, WithArguments, MakesWithArguments, WithIndex, MakesWithIndex, LinkOutcome, Beyond, CallSoFar, ChainSoFar, Callee, a_head, a_call, CalleeOutcome, TellsChain}
+use Rattle.laws_primary.specs.Members.{access_kinds, no_link_behind, Taken, NoBareNew, NoMember, NoOther, Headed, a_member, a_new, a_super, is_super_word, MemberSoFar, NoAccess, NoParen, NoLhs, HeadOutcome, link_kinds, LinkForm, by_name, by_private, by_call, by_index, indexed, admits, chained, sign_of, link_label, NoLink, OnlyLink, Linked, LinkHere, a_link, no_link, ReadsLink, WithArguments, MakesWithArguments, WithIndex, MakesWithIndex, WithName, MakesWithName, NoNames, member_name, named_form, LinkOutcome, Beyond, CallSoFar, ChainSoFar, Callee, a_head, a_call, CalleeOutcome, TellsChain}
 use Rattle.laws_primary.specs.Templates.{ChainLinkOutcome, GoesOn, ReadsChainLink, ReadsTagged, Tagged, TagOutcome, TagSign, Templated, heads, tagged_label}
 use Rattle.laws_primary.proofs.SuperWords.{no_super_member, no_super_new, no_super_there}
 use Rattle.laws_primary.proofs.Templates.{heads_there, tag_taken}
@@ -63,7 +63,7 @@ use Rattle.laws_shared.proofs.Verdicts.{verdict_of, either_way, and_then, behind
 use Rattle.laws_shared.proofs.Verdicts.{after as grown_behind}
 use Rattle.laws_shared.proofs.Moving.{moves, same_both, beside_nodes, elsewhere, at_depth, stops_behind, stops_in, stops_so, standing, same_with}
 use Rattle.laws_shared.proofs.MadeNodes.{leaf_held, node_held, one_lies, made_lies}
-use Rattle.laws_shared.proofs.Escapes.{read_as, read_listed, read_plain}
+use Rattle.laws_shared.proofs.Escapes.{escapable_kinds, read_as, read_listed, read_plain}
 use Rattle.laws_shared.proofs.Paths.{reads, Path, ◌⟶✗◌, skips, token, passes_test, read_of, walked_both, walked_one, noded, noding, label_here, fails_at}
 use Rattle.laws_primary.proofs.Operands.{by_path, primary_fails, primary_kinds}
 use Rattle.laws_shared.proofs.NameKinds.{no_listed_name}
@@ -87,7 +87,7 @@ use Rattle.laws_shared.proofs.Tight.{plain_is_read, plain_lex}
 -- ---- which lexeme stands here
 
 -- of these kinds none stands here
-none_of : {text : List ℕ} {s : ℕ} (ks : List Kind) → every_kind (λ k. not (one_of_kinds identifier_name_kinds k)) ks ≡ true → ((k : Kind) → one_of_kinds ks k ≡ true → NoneIs text s k) → (y : Lexeme) → Lex text s y → one_of_kinds ks y.kind ≡ false
+none_of : {text : List ℕ} {s : ℕ} (ks : List Kind) → every_kind (λ k. not (one_of_kinds escapable_kinds k)) ks ≡ true → ((k : Kind) → one_of_kinds ks k ≡ true → NoneIs text s k) → (y : Lexeme) → Lex text s y → one_of_kinds ks y.kind ≡ false
 none_of ks c n y l = go (one_of_kinds ks y.kind) refl
   where
     go : (b : Bool) → one_of_kinds ks y.kind ≡ b → b ≡ false
@@ -184,6 +184,28 @@ name_taken text f p q (Ok id) a r m =
 name_taken text f p q (Err Fatal) a r m = absurd m
 name_taken text f p q (Err NoMemory) a r m = tt
 
+-- ---- private names
+
+-- none stands here
+pub no_private_name : {text : List ℕ} {f : Flags} {p : Parser} → At text f p → (p.token.kind ≡ PrivateIdentifier → ⊥) → Underived text (at PrivateName f) p.prev_token_end
+unfolding rule rule_of covers apart
+no_private_name a n = fails_by (fails_node inside_full (fails_at a _ (PrivateIdentifier ∷ []) refl (other_kind PrivateIdentifier _ n)))
+
+private_of : (text : List ℕ) (f : Flags) (p q : Parser) → At text f p → p.token.kind ≡ PrivateIdentifier → (s : Moved text f p q) → Path text f (after (at PrivateName f)) (rule (at PrivateName f)) p nothing q (tree (label_here private_identifier no_op p q) end)
+unfolding rule rule_of
+private_of text f p q a r s =
+    noded a (record { at = s.at; further = s.further; pass = _; walked = walked_one s; verdict = clean s.kept (record { reach = 0; near = omega arith; goes = passes_test a a_private (ap (one_of_kinds signs) r) s (read_as s.lexeme s.tells (ap is_read_kind r)) (subst (λ k. same_kind PrivateIdentifier k ≡ true) (sym r ∙ s.tells.kind) refl) }) })
+  where
+    a_private : Look
+    a_private k w e = same_kind PrivateIdentifier k
+
+pub private_taken : (text : List ℕ) (f : Flags) (p q : Parser) (id : NodeId) → At text f p → p.token.kind ≡ PrivateIdentifier → TakesLeaf node.PrivateIdentifier op.None p q id → Numbered text f (at PrivateName f) p q id
+private_taken text f p q id a r m =
+    let t = m text f a in
+    let l : plain_label node.PrivateIdentifier op.None p.token.span ≡ label_here private_identifier no_op p t.mid = ap (λ (v : ℕ). record { kind = private_identifier; op = no_op; flags = 0; span = record { from = p.token.span.start; to = v } }) (t.moved.tells.end ∙ t.moved.ends) in
+    let ks : Keeps p.nodes t.mid.nodes = subst (λ (ns : List Node). Keeps p.nodes ns) (sym t.moved.nodes) (Keeps-refl p.nodes) in
+    by_path (subst (λ (v : Label). Path text f (after (at PrivateName f)) (rule (at PrivateName f)) p nothing t.mid (tree v end)) (sym l) (private_of text f p t.mid a r t.moved)) t.moved.same t.made.stays (λ y i. refl) refl (leaf_held t.made ks) (Keeps-trans ks (Keeps-made t.made.made)) (ap (λ (v : Label). v.span) l) (one_lies t.made)
+
 -- no template begins with a word
 heads_no_words : apart (λ k w e. one_of_kinds heads k) read_words ≡ true
 unfolding apart
@@ -211,6 +233,10 @@ no_name {text} {f} {p} a r = fails_by (fails_node inside_full (fails_lexeme any_
     go : (b : Bool) → p.cut ≡ b → (y : Lexeme) → Lex text p.prev_token_end y → is_word y.kind ≡ true → ⊥
     go true c y l h = not_both angles any_word no_angles y.kind y.newline y.escaped (angled a c y l) h
     go false c y l h = false≢true (sym r ∙ subst (λ k. one_of_kinds identifier_name_kinds k ≡ true) (sym (told_plain a c y (no_other_word y h) l).kind) (covered (λ k w e. reads k w e && is_word k) read_words words_read y.kind y.newline y.escaped (and_from _ _ l.1 h)))
+
+-- where one stands no name or word does
+pub no_name_at_private : {text : List ℕ} {f : Flags} {p : Parser} → At text f p → p.token.kind ≡ PrivateIdentifier → Underived text (at IdentifierName f) p.prev_token_end
+no_name_at_private a e = no_name a (ap (one_of_kinds identifier_name_kinds) e)
 
 -- ---- what was taken
 
@@ -287,6 +313,7 @@ taken_back {text} {f} {C} {A} {k} {p} {e} {q} {w} {id} a h l x =
 link_row : (c : LinkForm) (o : Bool) (from to : ℕ) (cs : Slots) → same_row after_expression (row_of (link_label c o from to) cs) ≡ true
 link_row by_call o from to cs = refl
 link_row by_name o from to cs = refl
+link_row by_private o from to cs = refl
 link_row by_index o from to cs = refl
 
 pub link_taken : {text : List ℕ} {f : Flags} {C D : Label → Slots → (Lexemes → Lexemes) → ℕ → Type 0} {A : Type 0} {o p w : Parser} {left id : NodeId} {start : ℕ} (x : Taken text f o p left C A) → start ≡ o.token.span.start → (y : Linked text f start left p w id)
@@ -300,47 +327,44 @@ link_taken {o = o} {p = p} {w = w} {left = left} {id = id} x e y good bad =
 all_signs : {text : List ℕ} {f : Flags} {p : Parser} → At text f p → (c : LinkForm) (o : Bool) → StandsHere p (sign_of c o) true → AllAre text p.prev_token_end (sign_of c o)
 all_signs a by_call true s = stands_there a s.0 refl
 all_signs a by_name true s = stands_there a s.0 refl
+all_signs a by_private true s = stands_there a s.0 refl
 all_signs a by_index true s = stands_there a s.0 refl
 all_signs a by_call false s = stands_there a s.0 refl
 all_signs a by_name false s = stands_there a s.0 refl
+all_signs a by_private false s = stands_there a s.0 refl
 all_signs a by_index false s = stands_there a s.0 refl
 
--- without `?.` it tells the link
-decides : (c d : LinkForm) (o : Bool) → sign_of c false ≡ sign_of d o → (c ≡ d) × (o ≡ false)
-decides by_call by_call false e = (refl, refl)
-decides by_name by_name false e = (refl, refl)
-decides by_index by_index false e = (refl, refl)
-decides by_call by_name false e = absurd (cc)
-decides by_call by_index false e = absurd (cc)
-decides by_name by_call false e = absurd (cc)
-decides by_name by_index false e = absurd (cc)
-decides by_index by_call false e = absurd (cc)
-decides by_index by_name false e = absurd (cc)
-decides by_call by_call true e = absurd (cc)
-decides by_call by_name true e = absurd (cc)
-decides by_call by_index true e = absurd (cc)
-decides by_name by_call true e = absurd (cc)
-decides by_name by_name true e = absurd (cc)
-decides by_name by_index true e = absurd (cc)
-decides by_index by_call true e = absurd (cc)
-decides by_index by_name true e = absurd (cc)
-decides by_index by_index true e = absurd (cc)
+-- the sign `?.` is that of no other link
+not_optional : (d : LinkForm) → sign_of d false ≡ QuestionDot → ⊥
+not_optional by_call e = cc
+not_optional by_name e = cc
+not_optional by_private e = cc
+not_optional by_index e = cc
 
 optional_here : (p : Parser) (c : LinkForm) (o : Bool) → StandsHere p QuestionDot true → StandsHere p (sign_of c o) true → o ≡ true
 optional_here p c true s z = refl
-optional_here p by_call false s z = absurd (let e : LParen ≡ QuestionDot = sym z.0 ∙ s.0 in cc)
-optional_here p by_name false s z = absurd (let e : Dot ≡ QuestionDot = sym z.0 ∙ s.0 in cc)
-optional_here p by_index false s z = absurd (let e : LBrack ≡ QuestionDot = sym z.0 ∙ s.0 in cc)
+optional_here p c false s z = absurd (not_optional c (sym z.0 ∙ s.0))
+
+-- where the sign of one without it stands, the other has none
+plain_too : (c d : LinkForm) (o : Bool) → sign_of c false ≡ sign_of d o → o ≡ false
+plain_too c d false e = refl
+plain_too c d true e = absurd (not_optional c e)
 
 call_here : (p : Parser) (c : LinkForm) (o : Bool) → StandsHere p LParen true → StandsHere p (sign_of c o) true → (by_call ≡ c) × (o ≡ false)
-call_here p c o s z = decides by_call c o (sym s.0 ∙ z.0)
+call_here p by_call false s z = (refl, refl)
+call_here p c true s z = absurd (let e : LParen ≡ QuestionDot = sym s.0 ∙ z.0 in cc)
+call_here p by_name false s z = absurd (let e : LParen ≡ Dot = sym s.0 ∙ z.0 in cc)
+call_here p by_private false s z = absurd (let e : LParen ≡ Dot = sym s.0 ∙ z.0 in cc)
+call_here p by_index false s z = absurd (let e : LParen ≡ LBrack = sym s.0 ∙ z.0 in cc)
 
 -- of those that go on with a member or a call none has a `?.`
 of_member : (c : LinkForm) (o : Bool) → admits base.Member c o ≡ true → (admits base.Member c false ≡ true) × (o ≡ false)
 of_member by_name false e = (refl, refl)
+of_member by_private false e = (refl, refl)
 of_member by_index false e = (refl, refl)
 of_member by_call o e = absurd (false≢true e)
 of_member by_name true e = absurd (false≢true e)
+of_member by_private true e = absurd (false≢true e)
 of_member by_index true e = absurd (false≢true e)
 
 of_call : (c : LinkForm) (o : Bool) → admits base.Call c o ≡ true → o ≡ false
@@ -348,14 +372,32 @@ of_call c false e = refl
 of_call c true e = absurd (false≢true e)
 
 -- a link of the same sign is one of these too
-alike : (b : LinkBase) (c d : LinkForm) (o : Bool) → admits b c false ≡ true → sign_of c false ≡ sign_of d o → (admits b d false ≡ true) × (o ≡ false)
-alike b c d o h e = let z = decides c d o e in (subst (λ (v : LinkForm). admits b v false ≡ true) z.0 h, z.1)
+same_sign : (c d : LinkForm) → admits base.Member c false ≡ true → sign_of c false ≡ sign_of d false → admits base.Member d false ≡ true
+same_sign c by_name h e = refl
+same_sign c by_private h e = refl
+same_sign c by_index h e = refl
+same_sign by_call by_call h e = h
+same_sign by_name by_call h e = absurd (cc)
+same_sign by_private by_call h e = absurd (cc)
+same_sign by_index by_call h e = absurd (cc)
+
+alike : (c d : LinkForm) (o : Bool) → admits base.Member c false ≡ true → sign_of c false ≡ sign_of d o → (admits base.Member d false ≡ true) × (o ≡ false)
+alike c d false h e = (same_sign c d h e, refl)
+alike c d true h e = absurd (not_optional c e)
 
 pub member_form : {p : Parser} (c : LinkForm) (o : Bool) → LinkHere p base.Member true → StandsHere p (sign_of c o) true → (admits base.Member c false ≡ true) × (o ≡ false)
-member_form {p} c o (a_link d e s h) z = let i = of_member d e h in alike base.Member d c o i.0 (sym (subst (λ (v : Bool). p.token.kind ≡ sign_of d v) i.1 s.0) ∙ z.0)
+member_form {p} c o (a_link d e s h) z = let i = of_member d e h in alike d c o i.0 (sym (subst (λ (v : Bool). p.token.kind ≡ sign_of d v) i.1 s.0) ∙ z.0)
 
 call_form : {p : Parser} (c : LinkForm) (o : Bool) → LinkHere p base.Call true → StandsHere p (sign_of c o) true → o ≡ false
-call_form {p} c o (a_link d e s h) z = let i = of_call d e h in (decides d c o (sym (subst (λ (v : Bool). p.token.kind ≡ sign_of d v) i s.0) ∙ z.0)).1
+call_form {p} c o (a_link d e s h) z = let i = of_call d e h in plain_too d c o (sym (subst (λ (v : Bool). p.token.kind ≡ sign_of d v) i s.0) ∙ z.0)
+
+-- if one link can't be read, none can
+pub none_of_links : {text : List ℕ} {f : Flags} {s : ℕ} (c : LinkForm) (o : Bool) → OnlyLink text f s c o → NoLink text f s c o → (c' : LinkForm) (o' : Bool) → NoLink text f s c' o'
+none_of_links {text} {f} {s} c o u n c' o' = go (u c' o')
+  where
+    go : ((c' ≡ c) × (o' ≡ o)) ⊎ NoLink text f s c' o' → NoLink text f s c' o'
+    go (inl z) = subst (λ (v : LinkForm). NoLink text f s v o') (sym z.0) (subst (λ (v : Bool). NoLink text f s c v) (sym z.1) n)
+    go (inr z) = z
 
 -- ---- members
 
@@ -378,22 +420,25 @@ member_init {f = f} a s u x = retake (taken x x.answer.row) (λ l cs pass c. (me
 pub no_head : {text : List ℕ} {f : Flags} {p : Parser} → At text f p → StandsHere p New false → StandsHere p super_kind false → Underived text (at Primary f) p.prev_token_end → NoMember text f p.prev_token_end
 no_head {f = f} a s u n = (no_member f (stands_not a refl s) (stands_not a refl u) n, none_other a s u)
 
-member_good : {text : List ℕ} {f : Flags} (o p : Parser) (c : LinkForm) (d : Bool) → (admits base.Member c false ≡ true) × (d ≡ false) → AllAre text p.prev_token_end (sign_of c d) → {l : Label} {cs : Slots} {pass more : Lexemes → Lexemes} {h : Slots → Slots} {s'' : ℕ} → MemberSoFar text f o.prev_token_end o.token.span.start l cs pass p.prev_token_end → p.prev_token_end ≤ s'' → Stretch text (plain full) (chained f c d).part p.prev_token_end nothing s'' h more → MemberSoFar text f o.prev_token_end o.token.span.start (link_label c d o.token.span.start s'') (tree l cs (h end)) (λ ls. pass (more ls)) s''
-member_good {f = f} o p c false e z u i y = (member_step f c e.0 u.0 z i y, u.1)
-member_good o p c true e z u i y = absurd (false≢true (sym e.1))
+member_good : {text : List ℕ} {f : Flags} (o p : Parser) (c : LinkForm) (d : Bool) → (admits base.Member c false ≡ true) × (d ≡ false) → AllAre text p.prev_token_end (sign_of c d) → OnlyLink text f p.prev_token_end c d → {l : Label} {cs : Slots} {pass more : Lexemes → Lexemes} {h : Slots → Slots} {s'' : ℕ} → MemberSoFar text f o.prev_token_end o.token.span.start l cs pass p.prev_token_end → p.prev_token_end ≤ s'' → Stretch text (plain full) (chained f c d).part p.prev_token_end nothing s'' h more → MemberSoFar text f o.prev_token_end o.token.span.start (link_label c d o.token.span.start s'') (tree l cs (h end)) (λ ls. pass (more ls)) s''
+member_good {f = f} o p c false e z n u i y = (member_step f c e.0 u.0 z n i y, u.1)
+member_good o p c true e z n u i y = absurd (false≢true (sym e.1))
 
-member_bad : {text : List ℕ} {f : Flags} (o p : Parser) (c : LinkForm) (d : Bool) → (admits base.Member c false ≡ true) × (d ≡ false) → AllAre text p.prev_token_end (sign_of c d) → {l : Label} {cs : Slots} {pass : Lexemes → Lexemes} → MemberSoFar text f o.prev_token_end o.token.span.start l cs pass p.prev_token_end → NoLink text f p.prev_token_end c d → NoMember text f o.prev_token_end
+member_bad : {text : List ℕ} {f : Flags} (o p : Parser) (c : LinkForm) (d : Bool) → (admits base.Member c false ≡ true) × (d ≡ false) → AllAre text p.prev_token_end (sign_of c d) → {l : Label} {cs : Slots} {pass : Lexemes → Lexemes} → MemberSoFar text f o.prev_token_end o.token.span.start l cs pass p.prev_token_end → ((c : LinkForm) (d : Bool) → NoLink text f p.prev_token_end c d) → NoMember text f o.prev_token_end
 member_bad {f = f} o p c false e z u n = (member_step_fails f c e.0 u.0 z n, u.1)
 member_bad o p c true e z u n = absurd (false≢true (sym e.1))
 
 pub member_linked : {text : List ℕ} {f : Flags} {o p w : Parser} {left id : NodeId} {start : ℕ} → start ≡ o.token.span.start → (x : Membered text f o p left) → LinkHere p base.Member true → Linked text f start left p w id → Membered text f o w id
-member_linked {text} {f} {o} {p} e x k y = link_taken x e y (λ pass c i z. member_good o p y.form y.optional (member_form y.form y.optional k y.sign) (all_signs x.at y.form y.optional y.sign) c i z) (λ c n. member_bad o p y.form y.optional (member_form y.form y.optional k y.sign) (all_signs x.at y.form y.optional y.sign) c n)
+member_linked {text} {f} {o} {p} e x k y =
+    let form = member_form y.form y.optional k y.sign in
+    let signs = all_signs x.at y.form y.optional y.sign in
+    link_taken x e y (λ pass c i z. member_good o p y.form y.optional form signs y.only c i z) (λ c n. member_bad o p y.form y.optional form signs c (none_of_links y.form y.optional y.only n))
 
 pub member_stops : {text : List ℕ} {f : Flags} {o p : Parser} {left : NodeId} (w : Parser) (e : Stop) (x : Membered text f o p left) → LinkHere p base.Member true → Stops p w e ((c : LinkForm) (d : Bool) → NoLink text f p.prev_token_end c d) → Stops o w e (NoMember text f o.prev_token_end)
 member_stops {text} {f} {o} {p} w e x k z = stops_behind w e x.same (λ g. grown_behind x.verdict g) (λ n. either_way x.verdict (λ c. at_link k c n) (λ n. n)) z
   where
     at_link : LinkHere p base.Member true → {l : Label} {cs : Slots} {pass : Lexemes → Lexemes} → MemberSoFar text f o.prev_token_end o.token.span.start l cs pass p.prev_token_end → ((c : LinkForm) (d : Bool) → NoLink text f p.prev_token_end c d) → NoMember text f o.prev_token_end
-    at_link (a_link c d s h) u n = member_bad o p c d (of_member c d h) (all_signs x.at c d s) u (n c d)
+    at_link (a_link c d s h) u n = member_bad o p c d (of_member c d h) (all_signs x.at c d s) u n
 
 pub member_closed : {text : List ℕ} {f : Flags} {o p : Parser} {id : NodeId} → (x : Membered text f o p id) → GoesOn base.Member p false → HeadOutcome text f o p (Ok id)
 member_closed {text} {f} {o} {p} x (no_link g, n) =
@@ -624,14 +669,6 @@ Called text f o p id = Taken text f o p id (λ l cs pass s'. CallSoFar text f o.
 abbrev pub CalleeTaken : List ℕ → Flags → Parser → Parser → NodeId → Type 0
 CalleeTaken text f o p id = Taken text f o p id (λ l cs pass s'. Callee text f o.prev_token_end l cs pass s') (NoLhs text f o.prev_token_end)
 
--- if one link can't be read, none can
-pub none_of_links : {text : List ℕ} {f : Flags} {s : ℕ} (c : LinkForm) (o : Bool) → OnlyLink text f s c o → NoLink text f s c o → (c' : LinkForm) (o' : Bool) → NoLink text f s c' o'
-none_of_links {text} {f} {s} c o u n c' o' = go (u c' o')
-  where
-    go : ((c' ≡ c) × (o' ≡ o)) ⊎ NoLink text f s c' o' → NoLink text f s c' o'
-    go (inl z) = subst (λ (v : LinkForm). NoLink text f s v o') (sym z.0) (subst (λ (v : Bool). NoLink text f s c v) (sym z.1) n)
-    go (inr z) = z
-
 pub head_closed : {text : List ℕ} {f : Flags} {o p : Parser} {id : NodeId} → HeadTaken text f o p id → NoAccess text p → StandsHere p LParen false → CalleeOutcome text f o p (Ok id)
 head_closed {f = f} x n s = (retake x (λ l cs pass c. a_head c) (λ z. no_lhs_here f z), n, (λ y l e. stands_not x.at refl s y l e (read_plain y l e refl)))
 
@@ -650,6 +687,7 @@ module _ {text : List ℕ} {f : Flags} {o p : Parser} {left : NodeId} (a : At te
   first_good by_call false e (a_new n c u b) i y = never_new b
   first_good by_call false e (a_super n b w z) i y = (super_begin f n w i (begins_here a) y, record { no_new = no_new_by f n b; no_member = member_before f n })
   first_good by_name d e c i y = absurd (let z : by_call ≡ by_name = e.0 in cc)
+  first_good by_private d e c i y = absurd (let z : by_call ≡ by_private = e.0 in cc)
   first_good by_index d e c i y = absurd (let z : by_call ≡ by_index = e.0 in cc)
   first_good by_call true e c i y = absurd (false≢true (sym e.1))
 
@@ -671,22 +709,22 @@ module _ {text : List ℕ} {f : Flags} {o p : Parser} {left : NodeId} (a : At te
   call_first_stops w e z = stops_behind w e x.same (λ g. grown_behind x.verdict g) (λ n. either_way x.verdict (λ c. no_first_call c (n by_call false)) (λ n. no_lhs_here f n)) z
 
 module _ {text : List ℕ} {f : Flags} {o p : Parser} {left : NodeId} (x : Called text f o p left) (k : LinkHere p base.Call true) where
-  call_good : (c : LinkForm) (d : Bool) → d ≡ false → StandsHere p (sign_of c d) true → {l : Label} {cs : Slots} {pass more : Lexemes → Lexemes} {h : Slots → Slots} {s'' : ℕ} → CallSoFar text f o.prev_token_end o.token.span.start l cs pass p.prev_token_end → p.prev_token_end ≤ s'' → Stretch text (plain full) (chained f c d).part p.prev_token_end nothing s'' h more → CallSoFar text f o.prev_token_end o.token.span.start (link_label c d o.token.span.start s'') (tree l cs (h end)) (λ ls. pass (more ls)) s''
-  call_good c false e s u i y = (call_step f c u.0 (all_signs x.at c false s) i y, u.1)
-  call_good c true e s u i y = absurd (false≢true (sym e))
+  call_good : (c : LinkForm) (d : Bool) → d ≡ false → StandsHere p (sign_of c d) true → OnlyLink text f p.prev_token_end c d → {l : Label} {cs : Slots} {pass more : Lexemes → Lexemes} {h : Slots → Slots} {s'' : ℕ} → CallSoFar text f o.prev_token_end o.token.span.start l cs pass p.prev_token_end → p.prev_token_end ≤ s'' → Stretch text (plain full) (chained f c d).part p.prev_token_end nothing s'' h more → CallSoFar text f o.prev_token_end o.token.span.start (link_label c d o.token.span.start s'') (tree l cs (h end)) (λ ls. pass (more ls)) s''
+  call_good c false e s n u i y = (call_step f c u.0 (all_signs x.at c false s) n i y, u.1)
+  call_good c true e s n u i y = absurd (false≢true (sym e))
 
-  call_bad : (c : LinkForm) (d : Bool) → d ≡ false → StandsHere p (sign_of c d) true → {l : Label} {cs : Slots} {pass : Lexemes → Lexemes} → CallSoFar text f o.prev_token_end o.token.span.start l cs pass p.prev_token_end → NoLink text f p.prev_token_end c d → NoLhs text f o.prev_token_end
+  call_bad : (c : LinkForm) (d : Bool) → d ≡ false → StandsHere p (sign_of c d) true → {l : Label} {cs : Slots} {pass : Lexemes → Lexemes} → CallSoFar text f o.prev_token_end o.token.span.start l cs pass p.prev_token_end → ((c : LinkForm) (d : Bool) → NoLink text f p.prev_token_end c d) → NoLhs text f o.prev_token_end
   call_bad c false e s u n = no_lhs f u.1.no_new (call_step_fails f c (λ l cs vs y e. call_heads f l cs vs y e) u.0 (all_signs x.at c false s) n) (no_first f (base_none f u.1.no_member (call_step_fails f c (λ l cs vs y e. chain_heads f l cs vs y e) u.0 (all_signs x.at c false s) n)))
   call_bad c true e s u n = absurd (false≢true (sym e))
 
   pub call_linked : {w : Parser} {id : NodeId} {start : ℕ} → start ≡ o.token.span.start → Linked text f start left p w id → Called text f o w id
-  call_linked e y = link_taken x e y (λ pass c i z. call_good y.form y.optional (call_form y.form y.optional k y.sign) y.sign c i z) (λ c n. call_bad y.form y.optional (call_form y.form y.optional k y.sign) y.sign c n)
+  call_linked e y = link_taken x e y (λ pass c i z. call_good y.form y.optional (call_form y.form y.optional k y.sign) y.sign y.only c i z) (λ c n. call_bad y.form y.optional (call_form y.form y.optional k y.sign) y.sign c (none_of_links y.form y.optional y.only n))
 
   pub call_stops : (w : Parser) (e : Stop) → Stops p w e ((c : LinkForm) (d : Bool) → NoLink text f p.prev_token_end c d) → Stops o w e (NoLhs text f o.prev_token_end)
   call_stops w e z = stops_behind w e x.same (λ g. grown_behind x.verdict g) (λ n. either_way x.verdict (λ u. at_link k u n) (λ n. n)) z
     where
       at_link : LinkHere p base.Call true → {l : Label} {cs : Slots} {pass : Lexemes → Lexemes} → CallSoFar text f o.prev_token_end o.token.span.start l cs pass p.prev_token_end → ((c : LinkForm) (d : Bool) → NoLink text f p.prev_token_end c d) → NoLhs text f o.prev_token_end
-      at_link (a_link c d s e) u n = call_bad c d (of_call c d e) s u (n c d)
+      at_link (a_link c d s e) u n = call_bad c d (of_call c d e) s u n
 
 module _ {text : List ℕ} {f : Flags} {o p : Parser} {left : NodeId} (x : Called text f o p left) (h : one_of_kinds heads p.token.kind ≡ true) where
   no_call_tagged : {l : Label} {cs : Slots} {pass : Lexemes → Lexemes} → CallSoFar text f o.prev_token_end o.token.span.start l cs pass p.prev_token_end → Fails rule (Lex text) (plain full) end (such (at Template f) always) p.prev_token_end → NoLhs text f o.prev_token_end
@@ -821,52 +859,59 @@ module _ {text : List ℕ} (f : Flags) where
   pub not_sign : (c : LinkForm) (o : Bool) (k : Kind) {s : ℕ} → (k ≡ sign_of c o → ⊥) → AllAre text s k → NoLink text f s c o
   not_sign by_call true k n z = fails_here firsts (λ y l h. n (sym (z y l).0 ∙ sym (kind_of_same QuestionDot y.kind (and_parts _ _ h).0)))
   not_sign by_name true k n z = fails_here firsts (λ y l h. n (sym (z y l).0 ∙ sym (kind_of_same QuestionDot y.kind (and_parts _ _ h).0)))
+  not_sign by_private true k n z = fails_here firsts (λ y l h. n (sym (z y l).0 ∙ sym (kind_of_same QuestionDot y.kind (and_parts _ _ h).0)))
   not_sign by_index true k n z = fails_here firsts (λ y l h. n (sym (z y l).0 ∙ sym (kind_of_same QuestionDot y.kind (and_parts _ _ h).0)))
   not_sign by_call false k n z = fails_here firsts (λ y l h. n (sym (z y l).0 ∙ sym (kind_of_same LParen y.kind (and_parts _ _ h).0)))
   not_sign by_name false k n z = fails_here firsts (λ y l h. n (sym (z y l).0 ∙ sym (kind_of_same Dot y.kind (and_parts _ _ h).0)))
+  not_sign by_private false k n z = fails_here firsts (λ y l h. n (sym (z y l).0 ∙ sym (kind_of_same Dot y.kind (and_parts _ _ h).0)))
   not_sign by_index false k n z = fails_here firsts (λ y l h. n (sym (z y l).0 ∙ sym (kind_of_same LBrack y.kind (and_parts _ _ h).0)))
 
   paren_only : {s : ℕ} → AllAre text s LParen → OnlyLink text f s by_call false
   paren_only z by_call false = inl (refl, refl)
   paren_only z by_name false = inr (not_sign by_name false LParen (λ e. cc) z)
+  paren_only z by_private false = inr (not_sign by_private false LParen (λ e. cc) z)
   paren_only z by_index false = inr (not_sign by_index false LParen (λ e. cc) z)
-  paren_only z by_call true = inr (not_sign by_call true LParen (λ e. cc) z)
-  paren_only z by_name true = inr (not_sign by_name true LParen (λ e. cc) z)
-  paren_only z by_index true = inr (not_sign by_index true LParen (λ e. cc) z)
+  paren_only z c true = inr (not_sign c true LParen (λ e. cc) z)
 
-  dot_only : {s : ℕ} → AllAre text s Dot → OnlyLink text f s by_name false
-  dot_only z by_name false = inl (refl, refl)
-  dot_only z by_call false = inr (not_sign by_call false Dot (λ e. cc) z)
-  dot_only z by_index false = inr (not_sign by_index false Dot (λ e. cc) z)
-  dot_only z by_call true = inr (not_sign by_call true Dot (λ e. cc) z)
-  dot_only z by_name true = inr (not_sign by_name true Dot (λ e. cc) z)
-  dot_only z by_index true = inr (not_sign by_index true Dot (λ e. cc) z)
+  -- of a dot the name behind it tells the link
+  dot_only : (private : Bool) {s : ℕ} → NoLink text f s (named_form (not private)) false → AllAre text s Dot → OnlyLink text f s (named_form private) false
+  dot_only true n z by_private false = inl (refl, refl)
+  dot_only true n z by_name false = inr n
+  dot_only false n z by_name false = inl (refl, refl)
+  dot_only false n z by_private false = inr n
+  dot_only private n z by_call false = inr (not_sign by_call false Dot (λ e. cc) z)
+  dot_only private n z by_index false = inr (not_sign by_index false Dot (λ e. cc) z)
+  dot_only private n z c true = inr (not_sign c true Dot (λ e. cc) z)
 
   bracket_only : {s : ℕ} → AllAre text s LBrack → OnlyLink text f s by_index false
-  bracket_only z by_index false = inl (refl, refl)
   bracket_only z by_call false = inr (not_sign by_call false LBrack (λ e. cc) z)
   bracket_only z by_name false = inr (not_sign by_name false LBrack (λ e. cc) z)
-  bracket_only z by_call true = inr (not_sign by_call true LBrack (λ e. cc) z)
-  bracket_only z by_name true = inr (not_sign by_name true LBrack (λ e. cc) z)
-  bracket_only z by_index true = inr (not_sign by_index true LBrack (λ e. cc) z)
+  bracket_only z by_private false = inr (not_sign by_private false LBrack (λ e. cc) z)
+  bracket_only z by_index false = inl (refl, refl)
+  bracket_only z c true = inr (not_sign c true LBrack (λ e. cc) z)
 
   chain_only : (c : LinkForm) {s : ℕ} → ((d : LinkForm) → (d ≡ c → ⊥) → NoLink text f s d true) → AllAre text s QuestionDot → OnlyLink text f s c true
   chain_only by_call n z by_call true = inl (refl, refl)
-  chain_only by_name n z by_name true = inl (refl, refl)
-  chain_only by_index n z by_index true = inl (refl, refl)
   chain_only by_call n z by_name true = inr (n by_name (λ e. cc))
+  chain_only by_call n z by_private true = inr (n by_private (λ e. cc))
   chain_only by_call n z by_index true = inr (n by_index (λ e. cc))
   chain_only by_name n z by_call true = inr (n by_call (λ e. cc))
+  chain_only by_name n z by_name true = inl (refl, refl)
+  chain_only by_name n z by_private true = inr (n by_private (λ e. cc))
   chain_only by_name n z by_index true = inr (n by_index (λ e. cc))
+  chain_only by_private n z by_call true = inr (n by_call (λ e. cc))
+  chain_only by_private n z by_name true = inr (n by_name (λ e. cc))
+  chain_only by_private n z by_private true = inl (refl, refl)
+  chain_only by_private n z by_index true = inr (n by_index (λ e. cc))
   chain_only by_index n z by_call true = inr (n by_call (λ e. cc))
   chain_only by_index n z by_name true = inr (n by_name (λ e. cc))
-  chain_only c n z by_call false = inr (not_sign by_call false QuestionDot (λ e. cc) z)
-  chain_only c n z by_name false = inr (not_sign by_name false QuestionDot (λ e. cc) z)
-  chain_only c n z by_index false = inr (not_sign by_index false QuestionDot (λ e. cc) z)
+  chain_only by_index n z by_private true = inr (n by_private (λ e. cc))
+  chain_only by_index n z by_index true = inl (refl, refl)
+  chain_only c n z d false = inr (not_sign d false QuestionDot (λ e. not_optional d (sym e)) z)
 
 -- a name as such a part
-part_name : {text : List ℕ} {f : Flags} {mid v : Parser} {left name : NodeId} → Numbered text f (at IdentifierName f) mid v name → Partway text f (symbol IdentifierName f) nothing mid v (Some left ∷ []) (Some left ∷ Some name ∷ [])
-part_name {text} {f} {mid} {v} {left} {name} x = record {
+part_name : {text : List ℕ} {f : Flags} {n : Symbol} {mid v : Parser} {left name : NodeId} → Within (plain full) (after n) → Numbered text f n mid v name → Partway text f (such n always) nothing mid v (Some left ∷ []) (Some left ∷ Some name ∷ [])
+part_name {left = left} {name} w x = record {
   at = x.answer.at;
   same = x.answer.same;
   further = x.answer.further;
@@ -874,7 +919,7 @@ part_name {text} {f} {mid} {v} {left} {name} x = record {
   puts = λ us. refl;
   pass = x.answer.pass;
   walked = x.answer.walked;
-  verdict = verdict_of x.answer.verdict (λ y. record { reach = y.reach; near = y.near; goes = weaken y.goes (λ ts y e. (refl, refl)) }) (λ z. weaken_fails z (λ ts y e. (refl, refl)));
+  verdict = verdict_of x.answer.verdict (λ y. record { reach = y.reach; near = y.near; goes = weaken y.goes (λ ts y e. w ts y e) }) (λ z. weaken_fails z (λ ts y e. w ts y e));
   holds = λ lo us h. HoldsAll-next name x.keeps h x.holds;
   keeps = x.keeps;
 }
@@ -932,11 +977,13 @@ module _ {text : List ℕ} {f : Flags} {p : Parser} (a : At text f p) where
     abbrev NotBehind : LinkForm → Type 0
     NotBehind by_call = Fails rule (Lex text) (plain full) end (args f) mid.prev_token_end
     NotBehind by_name = Underived text (at IdentifierName f) mid.prev_token_end
+    NotBehind by_private = Underived text (at PrivateName f) mid.prev_token_end
     NotBehind by_index = Fails rule (Lex text) (plain full) end (indexed f) mid.prev_token_end
 
     lacks : (c : LinkForm) → NotBehind c → NoLink text f p.prev_token_end c true
     lacks by_call n = skips a QuestionDot s.0 s.1 refl m ▹✗ n
     lacks by_name n = skips a QuestionDot s.0 s.1 refl m ▹✗ weaken_fails n (λ ts y e. (refl, refl))
+    lacks by_private n = skips a QuestionDot s.0 s.1 refl m ▹✗ weaken_fails n (λ ts y e. (refl, refl))
     lacks by_index n = skips a QuestionDot s.0 s.1 refl m ▹✗ n
 
     -- the sign is passed before it
@@ -957,6 +1004,7 @@ module _ {text : List ℕ} {f : Flags} {p : Parser} (a : At text f p) where
       none_behind : (d : LinkForm) → NotBehind d
       none_behind by_call = no_arguments_here f (λ y l e. no_sign LParen refl y l e)
       none_behind by_name = no_name m.at (head_word mid.token.kind h)
+      none_behind by_private = no_private_name m.at (λ e. false≢true (ap (one_of_kinds heads) (sym e) ∙ h))
       none_behind by_index = no_index_here (λ y l e. no_sign LBrack refl y l e)
 
       no_link_at_all : (c : LinkForm) (o : Bool) → NoLink text f p.prev_token_end c o
@@ -986,6 +1034,7 @@ module _ {text : List ℕ} {f : Flags} {p : Parser} (a : At text f p) where
       parens_alone : (d : LinkForm) → (d ≡ by_call → ⊥) → NotBehind d
       parens_alone by_call n = absurd (n refl)
       parens_alone by_name n = no_word {k = LParen} refl m.at t
+      parens_alone by_private n = no_private_name m.at (λ e. let z : LParen ≡ PrivateIdentifier = sym t.0 ∙ e in cc)
       parens_alone by_index n = no_index_here (λ y l e w. let z : LParen ≡ LBrack = sym (stands_there m.at t.0 refl y l).0 ∙ e in cc)
 
       pub optional_call : {q : Parser} {id left : NodeId} {start : ℕ} → WithArguments node.CallExpression true start left mid q id → Linked text f start left p q id
@@ -998,6 +1047,7 @@ module _ {text : List ℕ} {f : Flags} {p : Parser} (a : At text f p) where
       brackets_alone : (d : LinkForm) → (d ≡ by_index → ⊥) → NotBehind d
       brackets_alone by_index n = absurd (n refl)
       brackets_alone by_name n = no_word {k = LBrack} refl m.at t
+      brackets_alone by_private n = no_private_name m.at (λ e. let z : LBrack ≡ PrivateIdentifier = sym t.0 ∙ e in cc)
       brackets_alone by_call n = no_arguments_here f (λ y l e w. let z : LBrack ≡ LParen = sym (stands_there m.at t.0 refl y l).0 ∙ e in cc)
 
       pub optional_index : {q : Parser} {id left : NodeId} {start : ℕ} → WithIndex true start left mid q id → Linked text f start left p q id
@@ -1007,24 +1057,55 @@ module _ {text : List ℕ} {f : Flags} {p : Parser} (a : At text f p) where
       no_optional_index q e z = no_links q e by_index brackets_alone z
 
     module _ (t : StandsHere mid LParen false) (u : StandsHere mid LBrack false) where
-      name_alone : (d : LinkForm) → (d ≡ by_name → ⊥) → NotBehind d
-      name_alone by_name n = absurd (n refl)
-      name_alone by_call n = no_arguments_here f (stands_not m.at refl t)
-      name_alone by_index n = no_index_here (stands_not m.at refl u)
+      -- one of the two names at the most stands there
+      name_alone : (private : Bool) → Underived text (member_name (not private) f) mid.prev_token_end → (d : LinkForm) → (d ≡ named_form private → ⊥) → NotBehind d
+      name_alone true o by_private n = absurd (n refl)
+      name_alone true o by_name n = o
+      name_alone false o by_name n = absurd (n refl)
+      name_alone false o by_private n = o
+      name_alone private o by_call n = no_arguments_here f (stands_not m.at refl t)
+      name_alone private o by_index n = no_index_here (stands_not m.at refl u)
 
-      pub optional_name : {v q : Parser} {id left name : NodeId} {start : ℕ} → Numbered text f (at IdentifierName f) mid v name → MadeHere (link_label by_name true start v.prev_token_end) (Some left ∷ Some name ∷ []) v q id → Linked text f start left p q id
-      optional_name {v} x y = record { form = by_name; optional = true; sign = s; only = one_link by_name name_alone; behind = v; children = _; part = behind_sign (part_name x); made = y }
+      behind_named : (private : Bool) {v : Parser} {left name : NodeId} → Numbered text f (member_name private f) mid v name → Partway text f (chained f (named_form private) true).part nothing p v (Some left ∷ []) (Some left ∷ Some name ∷ [])
+      behind_named true x = behind_sign (part_name (λ ts y e. (refl, refl)) x)
+      behind_named false x = behind_sign (part_name (λ ts y e. (refl, refl)) x)
 
-      pub no_optional_name : (q : Parser) (e : Stop) → Stops mid q e (Underived text (at IdentifierName f) mid.prev_token_end) → Stops p q e ((c : LinkForm) (o : Bool) → NoLink text f p.prev_token_end c o)
-      no_optional_name q e z = no_links q e by_name name_alone z
+      optional_name : {q : Parser} {id left : NodeId} {start : ℕ} → WithName true start left mid q id → Linked text f start left p q id
+      optional_name y = record { form = named_form y.private; optional = true; sign = s; only = one_link (named_form y.private) (name_alone y.private (y.other text f m.at)); behind = y.behind; children = _; part = behind_named y.private (y.read text f m.at); made = y.made }
+
+      pub no_optional_name : (q : Parser) (e : Stop) → Stops mid q e (NoNames text f mid.prev_token_end) → Stops p q e ((c : LinkForm) (o : Bool) → NoLink text f p.prev_token_end c o)
+      no_optional_name q e z = stops_behind q e m.same (λ g. grown_then m.kept g) (λ n. none_of_links by_name true (one_link by_name (name_alone false (n true))) (lacks by_name (n false))) z
+
+      pub optional_name_outcome : (start : ℕ) (left : NodeId) (q : Parser) (r : Result NodeId Stop) → MakesWithName true start left mid q r → LinkOutcome text f start left p q r
+      optional_name_outcome start left q (Ok id) y = optional_name y
+      optional_name_outcome start left q (Err e) y = no_optional_name q e (y text f m.at)
 
   -- behind `.`
   module _ (s : StandsHere p Dot true) {mid : Parser} (m : Moved text f p mid) where
-    pub name_link : {v q : Parser} {id left name : NodeId} {start : ℕ} → Numbered text f (at IdentifierName f) mid v name → MadeHere (link_label by_name false start v.prev_token_end) (Some left ∷ Some name ∷ []) v q id → Linked text f start left p q id
-    name_link {v} x y = record { form = by_name; optional = false; sign = s; only = dot_only f (stands_there a s.0 refl); behind = v; children = _; part = parts (part_sign Dot a s.0 s.1 refl m) (part_name x); made = y }
+    lacks_name : (private : Bool) → Underived text (member_name private f) mid.prev_token_end → NoLink text f p.prev_token_end (named_form private) false
+    lacks_name true n = skips a Dot s.0 s.1 refl m ▹✗ weaken_fails n (λ ts y e. (refl, refl))
+    lacks_name false n = skips a Dot s.0 s.1 refl m ▹✗ weaken_fails n (λ ts y e. (refl, refl))
 
-    pub no_name_link : (q : Parser) (e : Stop) → Stops mid q e (Underived text (at IdentifierName f) mid.prev_token_end) → Stops p q e ((c : LinkForm) (o : Bool) → NoLink text f p.prev_token_end c o)
-    no_name_link q e z = stops_behind q e m.same (λ g. grown_then m.kept g) (λ n. none_of_links by_name false (dot_only f (stands_there a s.0 refl)) (skips a Dot s.0 s.1 refl m ▹✗ weaken_fails n (λ ts y e. (refl, refl)))) z
+    one_name : (private : Bool) → Underived text (member_name (not private) f) mid.prev_token_end → OnlyLink text f p.prev_token_end (named_form private) false
+    one_name private n = dot_only f private (lacks_name (not private) n) (stands_there a s.0 refl)
+
+    dot_named : (private : Bool) {v : Parser} {left name : NodeId} → Numbered text f (member_name private f) mid v name → Partway text f (chained f (named_form private) false).part nothing p v (Some left ∷ []) (Some left ∷ Some name ∷ [])
+    dot_named true x = parts (part_sign Dot a s.0 s.1 refl m) (part_name (λ ts y e. (refl, refl)) x)
+    dot_named false x = parts (part_sign Dot a s.0 s.1 refl m) (part_name (λ ts y e. (refl, refl)) x)
+
+    named_sign : (private : Bool) → StandsHere p (sign_of (named_form private) false) true
+    named_sign true = s
+    named_sign false = s
+
+    name_link : {q : Parser} {id left : NodeId} {start : ℕ} → WithName false start left mid q id → Linked text f start left p q id
+    name_link y = record { form = named_form y.private; optional = false; sign = named_sign y.private; only = one_name y.private (y.other text f m.at); behind = y.behind; children = _; part = dot_named y.private (y.read text f m.at); made = y.made }
+
+    no_name_link : (q : Parser) (e : Stop) → Stops mid q e (NoNames text f mid.prev_token_end) → Stops p q e ((c : LinkForm) (o : Bool) → NoLink text f p.prev_token_end c o)
+    no_name_link q e z = stops_behind q e m.same (λ g. grown_then m.kept g) (λ n. none_of_links by_name false (one_name false (n true)) (lacks_name false (n false))) z
+
+    pub name_outcome : (start : ℕ) (left : NodeId) (q : Parser) (r : Result NodeId Stop) → MakesWithName false start left mid q r → LinkOutcome text f start left p q r
+    name_outcome start left q (Ok id) y = name_link y
+    name_outcome start left q (Err e) y = no_name_link q e (y text f m.at)
 
 -- ---- what the loops keep
 
@@ -1107,9 +1188,11 @@ call_sign s = a_link by_call false s refl
 
 pub member_too : {p : Parser} → LinkHere p base.Member true → LinkHere p base.Call true
 member_too (a_link by_name false s e) = a_link by_name false s refl
+member_too (a_link by_private false s e) = a_link by_private false s refl
 member_too (a_link by_index false s e) = a_link by_index false s refl
 member_too (a_link by_call o s e) = absurd (false≢true e)
 member_too (a_link by_name true s e) = absurd (false≢true e)
+member_too (a_link by_private true s e) = absurd (false≢true e)
 member_too (a_link by_index true s e) = absurd (false≢true e)
 
 -- neither a template nor `?.`
@@ -1151,6 +1234,7 @@ dot_left (a_link c true s e) n i = absurd (false≢true e)
 dot_left (a_link by_call false s e) n i = absurd (n s.0 s.1)
 dot_left (a_link by_index false s e) n i = absurd (i s.0 s.1)
 dot_left (a_link by_name false s e) n i = s
+dot_left (a_link by_private false s e) n i = s
 
 pub start_loop : {start : ℕ} {p : Parser} → Standing p → start ≤ p.prev_token_end → LinkLoop start p p (Unit {0})
 start_loop a b = record { at = a; before = b; later = omega arith; goes = tt }
@@ -1192,9 +1276,11 @@ module _ {p : Parser} (d : StandsHere p Dot false) (i : StandsHere p LBrack fals
     where
       go : (c : LinkForm) (o : Bool) → admits base.Member c o ≡ true → StandsHere p (sign_of c o) false
       go by_name false e = d
+      go by_private false e = d
       go by_index false e = i
       go by_call o e = absurd (false≢true e)
       go by_name true e = absurd (false≢true e)
+      go by_private true e = absurd (false≢true e)
       go by_index true e = absurd (false≢true e)
 
   pub call_or_none : (b : Bool) → StandsHere p LParen b → LinkHere p base.Call b
@@ -1203,6 +1289,7 @@ module _ {p : Parser} (d : StandsHere p Dot false) (i : StandsHere p LBrack fals
     where
       go : (c : LinkForm) (o : Bool) → admits base.Call c o ≡ true → StandsHere p (sign_of c o) false
       go by_name false e = d
+      go by_private false e = d
       go by_index false e = i
       go by_call false e = s
       go c true e = absurd (false≢true e)
@@ -1213,9 +1300,11 @@ module _ {p : Parser} (d : StandsHere p Dot false) (i : StandsHere p LBrack fals
     where
       go : (c : LinkForm) (o : Bool) → StandsHere p (sign_of c o) false
       go by_name false = d
+      go by_private false = d
       go by_index false = i
       go by_call false = s
       go by_name true = z
+      go by_private true = z
       go by_index true = z
       go by_call true = z
 

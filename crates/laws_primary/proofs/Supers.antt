@@ -1,10 +1,12 @@
 -- SuperProperty and SuperCall (ECMA-262, 13.3): what begins with `super`, and what is told of this word where it stands alone or behind `new`.
-use Rattle.std.proofs.Common.{ℕ, ◌≡◌, ◌≤◌, ◌<◌, inl, inr, List, [], length, Bool, true, false, ◌&&◌, IsCharBoundary, refl, sym, ap, subst, arith, ◌∙◌}
+use Rattle.std.proofs.Common.{ℕ, ◌≡◌, ◌≤◌, ◌<◌, inl, inr, List, [], length, Bool, true, false, not, None, ◌&&◌, IsCharBoundary, refl, sym, ap, subst, arith, ◌∙◌}
 use Rattle.std.specs.Prelude.{Result, Ok, Err}
-use Rattle.std.proofs.lemmas.Bool.{false≢true, and_parts}
+use Rattle.std.proofs.lemmas.Bool.{false≢true, and_from, and_parts}
 use Rattle.js_base.specs.Kinds.{same_kind, one_of_kinds}
 use Rattle.js_base.specs.KindSets.{binding_identifier_kinds}
 use Rattle.js_base.specs.declared.diagnostic.Diagnostic.{Diagnostic}
+use Rattle.js_base.specs.declared.diagnostic.DiagnosticKind.{DiagnosticKind}
+use Rattle.js_base.specs.declared.diagnostic.DiagnosticKind.TheVariants as fault
 use Rattle.js_base.specs.declared.kind.Kind.{Kind}
 use Rattle.js_base.specs.declared.kind.Kind.TheVariants.{Dot, LBrack, LParen, New, Super as super_kind, RAngle}
 use Rattle.js_base.specs.declared.source_type.SourceType.{SourceType}
@@ -13,7 +15,8 @@ use Rattle.js_grammar.specs.Trees.{Label, Slots, end, tree, no_op, super_express
 use Rattle.js_grammar.specs.Grammar.{Lexemes, next, nothing}
 use Rattle.js_grammar.specs.LexicalFaults.{Reached}
 use Rattle.js_grammar.specs.Lexed.{NextLexeme, all_faults}
-use Rattle.js_grammar.specs.Marks.{EdgeOf, Mark, a_lexeme, the_end, the_start}
+use Rattle.js_grammar.specs.Settings.{Goal}
+use Rattle.js_grammar.specs.Marks.{EdgeOf, Mark, StandsAt, a_lexeme, the_end, the_start}
 use Rattle.js_grammar.specs.Parsing.{plain, full}
 use Rattle.js_grammar.specs.Productions.{Flags, at, Primary}
 use Rattle.js_grammar.specs.Table.{rule, rule_of}
@@ -28,15 +31,15 @@ use Rattle.laws_shared.specs.js_tree.declared.op.Op.TheVariants as op
 use Rattle.laws_shared.specs.js_tree.Labels.{kind_of}
 use Rattle.laws_shared.specs.js_tree.Nodes.{Node, node_at}
 use Rattle.laws_shared.specs.js_tree.Holding.{Holds, Keeps, Stands, stands}
-use Rattle.laws_shared.proofs.js_tree.HoldingLemmas.{Keeps-made, Keeps-refl, Keeps-trans}
+use Rattle.laws_shared.proofs.js_tree.HoldingLemmas.{HoldsAll-one, Keeps-made, Keeps-refl, Keeps-trans}
 use Rattle.laws_shared.specs.js_cursor.Moves.{Enters, KeepsDiagnostic, Leaves, is_last}
 use Rattle.laws_shared.specs.js_cursor.Parsers.{Parser}
 use Rattle.laws_shared.specs.js_cursor.Places.{goal}
 use Rattle.laws_shared.specs.js_cursor.declared.stop.Stop.{Stop}
-use Rattle.laws_primary.specs.Members.{access_kinds, HeadOutcome, LinkForm, LinkHere, LinkOutcome, Linked, MemberSoFar, NoBareNew, NoLink, NoMember, NoOther, NoSuperCall, OnlyLink, SuperWord, Taken, WithArguments, a_link, a_super, admits, by_call, by_index, by_name, chained, is_super_word, link_label, no_link, MemberOutcome}
-use Rattle.laws_primary.specs.Supers.{ChecksCallee, ChecksSuper, SuperTaken, alone_at, callee_from}
+use Rattle.laws_primary.specs.Members.{access_kinds, HeadOutcome, LinkForm, LinkHere, LinkOutcome, Linked, MemberSoFar, NoBareNew, NoLink, NoMember, NoOther, NoSuperCall, OnlyLink, SuperWord, Taken, WithArguments, a_link, a_super, admits, by_call, by_index, by_name, by_private, chained, is_super_word, link_label, no_link, node_of}
+use Rattle.laws_primary.specs.Supers.{ChecksCallee, ChecksMember, ChecksSuper, PropertyOutcome, PropertyTaken, SuperTaken, alone_at, callee_from, is_private_member, is_private_node, private_from}
 use Rattle.laws_primary.specs.declared.forms.LinkBase.TheVariants as base
-use Rattle.laws_primary.proofs.Links.{member_super, no_member_super}
+use Rattle.laws_primary.proofs.Links.{member_super, no_member_super, other_link}
 use Rattle.laws_primary.proofs.Members.{Membered, NoneOf, NotSuper, UnlessSuper, at_callee, begun_at, callee_taken, lexeme_there, link_taken, member_form, new_with_arguments, no_bare_new, none_behind_new, none_of_links, not_sign, retake}
 use Rattle.laws_primary.proofs.Operands.{primary_fails, primary_kinds}
 use Rattle.laws_shared.specs.Answers.{Stops, Stretch, Underived, Verdict, clean, unclean}
@@ -48,11 +51,12 @@ use Rattle.laws_shared.specs.States.{At, Same}
 use Rattle.laws_shared.proofs.Edges.{last_edge}
 use Rattle.laws_shared.proofs.Giving.{kept_one}
 use Rattle.laws_shared.proofs.Here.{begins_here, found, uncut}
-use Rattle.laws_shared.proofs.MadeNodes.{leaf_held, made_lies}
+use Rattle.laws_shared.proofs.MadeNodes.{leaf_held, made_lies, node_held}
 use Rattle.laws_shared.proofs.Moving.{beside_nodes, same_both, same_with, stops_behind}
 use Rattle.laws_shared.proofs.NameKinds.{no_listed_name}
 use Rattle.laws_shared.proofs.Paths.{label_here, noding, passes, walked_one, walked_to}
 use Rattle.laws_shared.proofs.Signs.{none_seen, NoneIs, stands_not, stands_there}
+use Rattle.laws_shared.specs.Told.{unrelated_at}
 use Rattle.laws_shared.proofs.Told.{told_at, told_same}
 use Rattle.laws_shared.proofs.Verdicts.{either_way, grown_then, verdict_of}
 use Rattle.laws_shared.proofs.Verdicts.{after as grown_behind}
@@ -146,10 +150,18 @@ module _ {text : List ℕ} {f : Flags} {p q : Parser} (a : At text f p) (s : Sta
       go (inl (n, k)) y = leaf_taken (told_at k m.at) (same_both m.same (told_same k refl)) (ap (λ (v : Parser). v.nodes) k.is ∙ m.nodes) (ap spot k.is) (ap (λ (v : Parser). v.prev_token_end) k.is) (unclean (grown_then m.kept (kept_one k)) (none_behind n)) y
       go (inr (n, i)) y = leaf_taken m.at m.same m.nodes refl refl (clean m.kept (the_word, n)) (subst (λ (v : Parser). MadeHere (plain_label node.Super op.None p.token.span) [] v w id) i y)
 
+-- a node tells its tree's root
+pub root_is : {ns : List Node} {lo hi : ℕ} {id : NodeId} {l : Label} {cs : Slots} → Holds ns lo hi id.0 l cs → kind_of (node_at ns id).kind ≡ l.kind
+root_is h = go h.stands
+  where
+    go : {ns : List Node} {id : NodeId} {l : Label} {cs : Slots} {rs : List ℕ} → Stands ns id.0 l cs rs → kind_of (node_at ns id).kind ≡ l.kind
+    go (stands i o u) = refl
+
 -- ---- what stands behind it
 
 neither : {p : Parser} → LinkHere p base.Call true → LinkHere p base.Member false → StandsHere p LParen false → ⊥
 neither (a_link by_name false s e) (no_link g) n = g by_name false refl s.0 s.1
+neither (a_link by_private false s e) (no_link g) n = g by_private false refl s.0 s.1
 neither (a_link by_index false s e) (no_link g) n = g by_index false refl s.0 s.1
 neither (a_link by_call false s e) g n = n s.0 s.1
 neither (a_link c true s e) g n = absurd (false≢true e)
@@ -167,8 +179,8 @@ module _ {text : List ℕ} {f : Flags} {o p : Parser} {word : NodeId} (a : At te
       )
 
   -- something was told of it
-  pub super_alone : LinkHere p base.Member false → StandsHere p LParen false → Membered text f o p word
-  super_alone g n = retake x (λ l cs pass c. absurd (neither c.1 g n)) (λ z. z)
+  pub super_alone : LinkHere p base.Member false → StandsHere p LParen false → PropertyTaken text f o p word
+  super_alone g n = (retake x (λ l cs pass c. absurd (neither c.1 g n)) (λ z. z), λ e. either_way x.verdict (λ c. absurd (neither c.1 g n)) (λ z. z))
 
   module _ (k : LinkHere p base.Member true) (u : StandsHere p LParen false) where
     beside_member : {l : Label} {cs : Slots} {pass : Lexemes → Lexemes} → SuperWord text f o.prev_token_end l cs pass p.prev_token_end → NoOther text f o.prev_token_end
@@ -177,17 +189,30 @@ module _ {text : List ℕ} {f : Flags} {o p : Parser} {word : NodeId} (a : At te
     no_property : {l : Label} {cs : Slots} {pass : Lexemes → Lexemes} → SuperWord text f o.prev_token_end l cs pass p.prev_token_end → ((c : LinkForm) (d : Bool) → NoLink text f p.prev_token_end c d) → NoMember text f o.prev_token_end
     no_property w n = (no_member_super f (no_new_here a s) (no_primary_here a s) w (n by_name false) (n by_index false), beside_member w)
 
-    property_good : (c : LinkForm) (d : Bool) → (admits base.Member c false ≡ true) × (d ≡ false) → OnlyLink text f p.prev_token_end c d → {l : Label} {cs : Slots} {pass more : Lexemes → Lexemes} {h : Slots → Slots} {s'' : ℕ} → SuperWord text f o.prev_token_end l cs pass p.prev_token_end → p.prev_token_end ≤ s'' → Stretch text (plain full) (chained f c d).part p.prev_token_end nothing s'' h more → MemberSoFar text f o.prev_token_end o.token.span.start (link_label c d o.token.span.start s'') (tree l cs (h end)) (λ ls. pass (more ls)) s''
-    property_good c false e z w i y = (member_super f (no_new_here a s) (no_primary_here a s) w c e.0 z i (begins_here a) y, beside_member w)
-    property_good c true e z w i y = absurd (false≢true (sym e.1))
+    property_good : (c : LinkForm) (d : Bool) → (admits base.Member c false ≡ true) × (d ≡ false) → OnlyLink text f p.prev_token_end c d → {l : Label} {cs : Slots} {pass more : Lexemes → Lexemes} {h : Slots → Slots} {s'' : ℕ} → SuperWord text f o.prev_token_end l cs pass p.prev_token_end → p.prev_token_end ≤ s'' → Stretch text (plain full) (chained f c d).part p.prev_token_end nothing s'' h more → is_private_member (node_of c) ≡ false → MemberSoFar text f o.prev_token_end o.token.span.start (link_label c d o.token.span.start s'') (tree l cs (h end)) (λ ls. pass (more ls)) s''
+    property_good c false e z w i y n = (member_super f (no_new_here a s) (no_primary_here a s) w c (and_from _ _ e.0 (ap not n)) z i (begins_here a) y, beside_member w)
+    property_good c true e z w i y n = absurd (false≢true (sym e.1))
 
-    pub property_taken : {w : Parser} {id : NodeId} {start : ℕ} → start ≡ o.token.span.start → Linked text f start word p w id → Membered text f o w id
-    property_taken e y = link_taken x e y (λ pass c i z. property_good y.form y.optional (member_form y.form y.optional k y.sign) y.only c.0 i z) (λ c n. no_property c.0 (none_of_links y.form y.optional y.only n))
+    -- a private name stands there
+    no_private_property : (c : LinkForm) (d : Bool) → (admits base.Member c false ≡ true) × (d ≡ false) → OnlyLink text f p.prev_token_end c d → is_private_member (node_of c) ≡ true → {l : Label} {cs : Slots} {pass : Lexemes → Lexemes} → SuperWord text f o.prev_token_end l cs pass p.prev_token_end → NoMember text f o.prev_token_end
+    no_private_property by_private false e z n w = (no_member_super f (no_new_here a s) (no_primary_here a s) w (other_link f false by_name by_private (λ i. cc) z) (other_link f false by_index by_private (λ i. cc) z), beside_member w)
+    no_private_property by_name d e z n w = absurd (false≢true n)
+    no_private_property by_call d e z n w = absurd (false≢true n)
+    no_private_property by_index d e z n w = absurd (false≢true n)
+    no_private_property c true e z n w = absurd (false≢true (sym e.1))
+
+    property_taken : {w : Parser} {id : NodeId} {start : ℕ} → start ≡ o.token.span.start → Linked text f start word p w id → PropertyTaken text f o w id
+    property_taken {w} {id} e y =
+        let form = member_form y.form y.optional k y.sign in
+        let root : kind_of (node_at w.nodes id).kind ≡ node_of y.form = root_is (node_held y.made (y.part.holds (length o.nodes) (tree x.label x.slots end) (HoldsAll-one word x.holds))) in (
+          link_taken x e y (λ pass c i z n. property_good y.form y.optional form y.only c.0 i z (ap is_private_member (sym root) ∙ n)) (λ c n. no_property c.0 (none_of_links y.form y.optional y.only n)),
+          λ n. either_way x.verdict (λ c. no_private_property y.form y.optional form y.only (ap is_private_member (sym root) ∙ n) c.0) (λ z. z),
+        )
 
     pub property_stops : (w : Parser) (e : Stop) → Stops p w e ((c : LinkForm) (d : Bool) → NoLink text f p.prev_token_end c d) → Stops o w e (NoMember text f o.prev_token_end)
     property_stops w e z = stops_behind w e x.same (λ g. grown_behind x.verdict g) (λ n. either_way x.verdict (λ c. no_property c.0 n) (λ n. n)) z
 
-    pub property_outcome : {start : ℕ} → start ≡ o.token.span.start → (w : Parser) (r : Result NodeId Stop) → LinkOutcome text f start word p w r → MemberOutcome text f o w r
+    pub property_outcome : {start : ℕ} → start ≡ o.token.span.start → (w : Parser) (r : Result NodeId Stop) → LinkOutcome text f start word p w r → PropertyOutcome text f o w r
     property_outcome e w (Ok id) y = property_taken e y
     property_outcome e w (Err i) y = property_stops w i y
 
@@ -223,12 +248,13 @@ module _ {text : List ℕ} {f : Flags} {o p q : Parser} {id : NodeId} {word : Bo
       go (inl (i, k)) = (told_taken x.0 k refl (n i), subst (λ (v : ℕ). NoneOf text v access_kinds) (sym (ap (λ (z : Parser). z.prev_token_end) k.is)) x.1)
       go (inr (i, e)) = subst (λ (z : Parser). HeadOutcome text f o z (Ok id)) (sym e) x
 
--- the node of the callee tells its tree's root
-pub root_is : {ns : List Node} {lo hi : ℕ} {id : NodeId} {l : Label} {cs : Slots} → Holds ns lo hi id.0 l cs → kind_of (node_at ns id).kind ≡ l.kind
-root_is h = go h.stands
+-- a private name behind the word was told, or none stood there
+pub checked_property : {text : List ℕ} {f : Flags} {o p q : Parser} {id : NodeId} {start : ℕ} → ChecksMember (is_private_node p id) start p q → PropertyTaken text f o p id → Membered text f o q id
+checked_property {text} {f} {o} {p} {q} {id} {start} c x = go c
   where
-    go : {ns : List Node} {id : NodeId} {l : Label} {cs : Slots} {rs : List ℕ} → Stands ns id.0 l cs rs → kind_of (node_at ns id).kind ≡ l.kind
-    go (stands i o u) = refl
+    go : ChecksMember (is_private_node p id) start p q → Membered text f o q id
+    go (inl (i, k)) = told_taken x.0 k refl (x.1 i)
+    go (inr (i, e)) = subst (λ (z : Parser). Membered text f o z id) (sym e) (retake x.0 (λ l cs pass y. y i) (λ z. z))
 
 pub node_there : {ns : List Node} {lo hi : ℕ} {id : NodeId} {l : Label} {cs : Slots} → Holds ns lo hi id.0 l cs → id.0 < length ns
 node_there h = go h.stands
@@ -236,9 +262,9 @@ node_there h = go h.stands
     go : {ns : List Node} {id : NodeId} {l : Label} {cs : Slots} {rs : List ℕ} → Stands ns id.0 l cs rs → id.0 < length ns
     go (stands i o u) = o
 
--- what is told of `super` and its arguments has its mark
-callee_marked : {text : List ℕ} {f : Flags} {p v : Parser} {start : ℕ} → At text f p → StandsHere p super_kind true → At text f v → EdgeOf (goal v) text v.prev_token_end → start ≡ p.token.span.start → p.token.span.start < v.prev_token_end → Mark (goal v) v.text (callee_from start v.prev_token_end)
-callee_marked {text} {f} {p} {v} {start} a s b e i l =
+-- what is told of `super` and what stands behind it has its mark
+word_marked : {text : List ℕ} {f : Flags} {p v : Parser} {start : ℕ} (k : DiagnosticKind) → ((g : Goal) (t : List ℕ) (s : Span) → EdgeOf g t s.start × EdgeOf g t s.end → StandsAt k g t s None None) → At text f p → StandsHere p super_kind true → At text f v → EdgeOf (goal v) text v.prev_token_end → start ≡ p.token.span.start → p.token.span.start < v.prev_token_end → Mark (goal v) v.text (unrelated_at k (record { start = start; end = v.prev_token_end }))
+word_marked {text} {f} {p} {v} {start} k t a s b e i l =
     let y = found a (uncut a (ap (same_kind RAngle) s.0)) (ap is_last s.0) in
     let r : Reached text p.prev_token_end = subst (λ (t : List ℕ). Reached t p.prev_token_end) a.text_is a.at.reached in
     let h : EdgeOf (goal v) text start = the_start (a_lexeme r y.1) (sym y.2.start ∙ sym i) in
@@ -247,8 +273,14 @@ callee_marked {text} {f} {p} {v} {start} a s b e i l =
       within = b.at.between.0;
       begins_between = subst (λ (t : List ℕ). IsCharBoundary t start) (a.text_is ∙ sym b.text_is) (subst (λ (n : ℕ). IsCharBoundary p.text n) (sym i) a.at.lies.starts_whole);
       ends_between = b.at.between;
-      stands = ((subst (λ (t : List ℕ). EdgeOf (goal v) t start) (sym b.text_is) h, subst (λ (t : List ℕ). EdgeOf (goal v) t v.prev_token_end) (sym b.text_is) e), (refl, refl));
+      stands = t (goal v) v.text (record { start = start; end = v.prev_token_end }) (subst (λ (t : List ℕ). EdgeOf (goal v) t start) (sym b.text_is) h, subst (λ (t : List ℕ). EdgeOf (goal v) t v.prev_token_end) (sym b.text_is) e);
     }
+
+-- of a private name
+pub private_marked : {text : List ℕ} {f : Flags} {o q : Parser} {id : NodeId} {start : ℕ} → At text f o → StandsHere o super_kind true → start ≡ o.token.span.start → PropertyTaken text f o q id → Mark (goal q) q.text (private_from start q.prev_token_end)
+private_marked {text} {o = o} {q} a s e x =
+    let r : Reached text o.prev_token_end = subst (λ (t : List ℕ). Reached t o.prev_token_end) a.text_is a.at.reached in
+    word_marked fault.SuperPrivate (λ g t s z. (z, (refl, refl))) a s x.0.at (last_edge x.0.walked r (let d = x.0.further in let b = a.behind in omega arith)) e x.0.further
 
 -- behind it the callee was read
 module _ {text : List ℕ} {f : Flags} {p q : Parser} (a : At text f p) (s : StandsHere p New true) (m : Moved text f p q) (t : StandsHere q Dot false) {levels : ℕ} {e r w : Parser} {callee : NodeId} (h : Enters levels q e) (l : Leaves levels r w) (x : HeadOutcome text f e r (Ok callee)) where
@@ -275,7 +307,7 @@ module _ {text : List ℕ} {f : Flags} {p q : Parser} (a : At text f p) (s : Sta
     edge_marked : {v : Parser} {pass : Lexemes → Lexemes} {start : ℕ} → At text f v → Walked text (spot p) (spot v) pass → start ≡ q.token.span.start → q.token.span.start < v.prev_token_end → word ≡ true → Mark (goal v) v.text (callee_from start v.prev_token_end)
     edge_marked {v} c k o u j =
         let r : Reached text p.prev_token_end = subst (λ (t : List ℕ). Reached t p.prev_token_end) a.text_is a.at.reached in
-        callee_marked m.at (subst (λ (g : Bool). StandsHere q super_kind g) (both j).0 b) c (last_edge k r (let d = m.further in let g = a.behind in let n = m.at.behind in omega arith)) o u
+        word_marked fault.NewSuper (λ g t s z. (z, (refl, refl))) m.at (subst (λ (g : Bool). StandsHere q super_kind g) (both j).0 b) c (last_edge k r (let d = m.further in let g = a.behind in let n = m.at.behind in omega arith)) o u
 
     -- arguments were read
     module _ (u : StandsHere w LParen true) {start : ℕ} {v : Parser} {id : NodeId} (o : start ≡ p.token.span.start) (y : WithArguments node.NewExpression false start callee w v id) where

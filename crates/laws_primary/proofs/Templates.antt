@@ -9,7 +9,6 @@ use Rattle.js_base.specs.declared.kind.Kind.{Kind}
 use Rattle.js_base.specs.declared.kind.Kind.TheVariants.{Dot, LBrack, LParen, NoSubstitutionTemplate, PrivateIdentifier, QuestionDot, RAngle, RCurly, RegExp, TemplateHead, TemplateMiddle, TemplateTail, Undetermined}
 use Rattle.js_base.specs.declared.span.Span.{Span}
 use Rattle.js_base.specs.Kinds.{same_kind, one_of_kinds}
-use Rattle.js_base.specs.KindSets.{identifier_name_kinds}
 use Rattle.js_base.specs.Spans.{LiesIn}
 use Rattle.js_base.specs.Texts.{words}
 use Rattle.js_base.proofs.KindLemmas.{kind_of_same}
@@ -69,7 +68,7 @@ use Rattle.laws_shared.proofs.Classes.{unexpected_ends}
 use Rattle.laws_shared.proofs.Giving.{kept_one}
 use Rattle.laws_shared.proofs.Here.{alike, begins_here, found, kind_here, plain_token, uncut, unsettled}
 use Rattle.laws_shared.proofs.Slashes.{tail_goal}
-use Rattle.laws_shared.proofs.Escapes.{no_word_among, read_listed, read_plain}
+use Rattle.laws_shared.proofs.Escapes.{escapable_kinds, no_word_among, read_listed, read_plain}
 use Rattle.laws_shared.proofs.Parts.{part_called, part_path, part_path_fails}
 use Rattle.laws_shared.proofs.Parts.{parts as parts_joined}
 use Rattle.laws_primary.proofs.Operands.{behind_primary, by_path}
@@ -82,7 +81,7 @@ use Rattle.laws_shared.proofs.Signs.{closing_there, span_is}
 use Rattle.laws_shared.proofs.Told.{told_at, told_same}
 use Rattle.laws_shared.proofs.Verdicts.{either_way, grown_then, verdict_of, ending}
 use Rattle.laws_shared.proofs.Verdicts.{after as grown_behind}
-use Rattle.laws_primary.specs.Members.{LinkForm, NoLink, Taken, by_call, by_index, by_name}
+use Rattle.laws_primary.specs.Members.{LinkForm, NoLink, Taken, by_call, by_index, by_name, by_private}
 use Rattle.laws_primary.specs.Templates.{BeginsPart, NoTail, PartAt, PartBegun, PartTaken, Tagged, TakesPart, TellsTemplate, TemplateOutcome, TemplateTaken, Templated, element_label, heads, inside_end, left_of, literal, parts, tagged_label, tail_of, LastIs, last_parts}
 use Rattle.laws_primary.specs.declared.forms.PassedPart.{PassedPart}
 use Rattle.laws_primary.proofs.PartInsides.{IsInside, part_inside}
@@ -447,7 +446,7 @@ no_brace {f = f} {p} a n = fails_at a {X = plain full} (tail_of f) (RCurly ∷ t
         second false c h = h
 
 -- one part, over its lexeme
-part_reads : {text : List ℕ} {X : Test} {s from : ℕ} {y : Lexeme} (fl close : ℕ) (k : Kind) → Lex text s y → y.kind ≡ k → one_of_kinds identifier_name_kinds k ≡ false → ((z : Lexeme) → Lex text s z → z.from ≡ from) → Reads rule (Lex text) X end (part fl close k) s y.to (tree (record { kind = template_element; op = no_op; flags = fl; span = record { from = from + 1; to = y.to - close } }) end) (passing y)
+part_reads : {text : List ℕ} {X : Test} {s from : ℕ} {y : Lexeme} (fl close : ℕ) (k : Kind) → Lex text s y → y.kind ≡ k → one_of_kinds escapable_kinds k ≡ false → ((z : Lexeme) → Lex text s z → z.from ≡ from) → Reads rule (Lex text) X end (part fl close k) s y.to (tree (record { kind = template_element; op = no_op; flags = fl; span = record { from = from + 1; to = y.to - close } }) end) (passing y)
 part_reads {text} {X} {s} {from} {y} fl close k l e n b =
     makes_by (record { kind = template_element; op = no_op; flags = fl; span = record { from = from + 1; to = y.to - close } }) inside_full
     (reads_lexeme (is k) l (and_from _ _ (subst (λ (v : Kind). same_kind k v ≡ true) (sym e) (same_self k)) (ap not (read_plain y l e n))) (λ z m t. alike m l (sym (ap goal_for (kind_of_same k z.kind (and_parts (same_kind k z.kind) (not z.escaped) t).0)) ∙ sym (ap goal_for e))))
@@ -497,9 +496,11 @@ no_links_here {text} f {s} c o z = go c o
     go : (c : LinkForm) (o : Bool) → NoLink text f s c o
     go by_call true = fails_here firsts (λ y l h. no_link QuestionDot refl y l h)
     go by_name true = fails_here firsts (λ y l h. no_link QuestionDot refl y l h)
+    go by_private true = fails_here firsts (λ y l h. no_link QuestionDot refl y l h)
     go by_index true = fails_here firsts (λ y l h. no_link QuestionDot refl y l h)
     go by_call false = fails_here firsts (λ y l h. no_link LParen refl y l h)
     go by_name false = fails_here firsts (λ y l h. no_link Dot refl y l h)
+    go by_private false = fails_here firsts (λ y l h. no_link Dot refl y l h)
     go by_index false = fails_here firsts (λ y l h. no_link LBrack refl y l h)
 
 -- ---- the first part

@@ -5,14 +5,15 @@ use Rattle.js_base.specs.declared.diagnostic.Diagnostic.{Diagnostic}
 use Rattle.js_base.specs.declared.diagnostic.DiagnosticKind.TheVariants.{InvalidNewOptionalChain, IdentifierExpectedAfterQuestionDot}
 use Rattle.js_base.specs.declared.span.Span.{Span}
 use Rattle.js_base.specs.declared.kind.Kind.{Kind}
-use Rattle.js_base.specs.declared.kind.Kind.TheVariants.{New, Dot, QuestionDot, LParen, LBrack, NoSubstitutionTemplate, RBrack, TemplateHead}
+use Rattle.js_base.specs.declared.kind.Kind.TheVariants.{New, Dot, QuestionDot, LParen, LBrack, NoSubstitutionTemplate, PrivateIdentifier, RBrack, TemplateHead}
+use Rattle.js_base.specs.KindSets.{identifier_name_kinds}
 use Rattle.js_base.specs.Kinds.{one_of_kinds}
-use Rattle.js_grammar.specs.Trees.{NodeKind as TreeKind, Slots, end, tree, Label, no_op, static_member_expression, computed_member_expression, call_expression, new_expression, super_expression}
+use Rattle.js_grammar.specs.Trees.{NodeKind as TreeKind, Slots, end, tree, Label, no_op, static_member_expression, computed_member_expression, private_field_expression, call_expression, new_expression, super_expression}
 use Rattle.js_grammar.specs.Grammar.{Lexeme, Lexemes, is, such, nothing, ◌▸◌}
 use Rattle.js_grammar.specs.Follow.{row_of, after}
 use Rattle.js_grammar.specs.Insertion.{after_expression}
 use Rattle.js_grammar.specs.Parsing.{Test, Fails, always, plain, full}
-use Rattle.js_grammar.specs.Productions.{G, Flags, Symbol, at, mk, tok, optional_flag, plus_in, Member, Call, Links, Super, LeftHandSide, IdentifierName, Expression}
+use Rattle.js_grammar.specs.Productions.{G, Flags, Symbol, at, mk, tok, optional_flag, plus_in, Member, Call, Links, Super, LeftHandSide, IdentifierName, PrivateName, Expression}
 use Rattle.js_grammar.specs.Productions.{New as new_symbol, sym as symbol}
 use Rattle.js_grammar.specs.Table.{rule, args}
 use Rattle.js_grammar.specs.RightEdges.{same_row}
@@ -31,7 +32,7 @@ use Rattle.laws_shared.specs.js_tree.declared.kind.NodeKind.TheVariants.{V8Intri
 use Rattle.laws_shared.specs.js_tree.Labels.{kind_of}
 use Rattle.laws_primary.specs.declared.forms.LinkBase.{LinkBase}
 use Rattle.laws_primary.specs.declared.forms.LinkBase.TheVariants.{Member as OfMember, Call as OfCall, Chain as OfChain}
-use Rattle.laws_shared.specs.Answers.{Verdict, Stretch, Underived, Outcome, Stops}
+use Rattle.laws_shared.specs.Answers.{Verdict, Stretch, Underived, Numbered, Outcome, Stops}
 
 -- what is told of a `?.` behind what `new` stands before
 abbrev pub TellsChain : Span → Diagnostic → Type 0
@@ -137,18 +138,20 @@ GoesOnMember start left p q r = (text : List ℕ) (f : Flags) (o : Parser) → s
 
 -- what a link has behind its sign
 pub data LinkForm : Type 0 where
-  by_name by_call by_index : LinkForm
+  by_name by_private by_call by_index : LinkForm
 
 -- an expression in brackets
 abbrev pub indexed : Flags → G
 indexed f = tok LBrack ▸ symbol Expression (plus_in f) ▸ tok RBrack
 
--- the part behind what a link hangs on: a name, arguments or an expression in brackets, with `?.` or not
+-- the part behind what a link hangs on: a name, a private name, arguments or an expression in brackets, with `?.` or not
 abbrev pub chained : Flags → LinkForm → Bool → Link Symbol
 chained f by_call true = link call_expression no_op optional_flag (tok QuestionDot ▸ args f)
 chained f by_call false = link call_expression no_op 0 (args f)
 chained f by_name true = link static_member_expression no_op optional_flag (tok QuestionDot ▸ symbol IdentifierName f)
 chained f by_name false = link static_member_expression no_op 0 (tok Dot ▸ symbol IdentifierName f)
+chained f by_private true = link private_field_expression no_op optional_flag (tok QuestionDot ▸ symbol PrivateName f)
+chained f by_private false = link private_field_expression no_op 0 (tok Dot ▸ symbol PrivateName f)
 chained f by_index true = link computed_member_expression no_op optional_flag (tok QuestionDot ▸ indexed f)
 chained f by_index false = link computed_member_expression no_op 0 (indexed f)
 
@@ -157,12 +160,14 @@ abbrev pub sign_of : LinkForm → Bool → Kind
 sign_of c true = QuestionDot
 sign_of by_call false = LParen
 sign_of by_name false = Dot
+sign_of by_private false = Dot
 sign_of by_index false = LBrack
 
 -- the node that it makes
 abbrev pub node_of : LinkForm → TreeKind
 node_of by_call = call_expression
 node_of by_name = static_member_expression
+node_of by_private = private_field_expression
 node_of by_index = computed_member_expression
 
 abbrev pub link_label : LinkForm → Bool → ℕ → ℕ → Label
@@ -235,6 +240,34 @@ pub record WithIndex (optional : Bool) (start : ℕ) (left : NodeId) (p q : Pars
 abbrev pub MakesWithIndex : Bool → ℕ → NodeId → Parser → Parser → Result NodeId Stop → Type 0
 MakesWithIndex optional start left p q (Ok id) = WithIndex optional start left p q id
 MakesWithIndex optional start left p q (Err e) = (text : List ℕ) (f : Flags) → At text f p → Stops p q e (Fails rule (Lex text) (plain full) end (indexed f) p.prev_token_end)
+
+-- what stands behind a sign as a name of a member: a name or a word, or a private name
+abbrev pub member_name_kinds : List Kind
+member_name_kinds = PrivateIdentifier ∷ identifier_name_kinds
+
+-- a link of such a name
+abbrev pub named_form : Bool → LinkForm
+named_form private = cond private by_private by_name
+
+abbrev pub member_name : Bool → Flags → Symbol
+member_name private f = cond private (at PrivateName f) (at IdentifierName f)
+
+-- neither stands here
+abbrev pub NoNames : List ℕ → Flags → ℕ → Type 0
+NoNames text f s = (private : Bool) → Underived text (member_name private f) s
+
+-- what a node of a name and what stands before was made of
+pub record WithName (optional : Bool) (start : ℕ) (left : NodeId) (p q : Parser) (id : NodeId) : Type 0 where
+  pub private : Bool
+  pub behind : Parser
+  pub name : NodeId
+  pub read : (text : List ℕ) (f : Flags) → At text f p → Numbered text f (member_name private f) p behind name
+  pub other : (text : List ℕ) (f : Flags) → At text f p → Underived text (member_name (not private) f) p.prev_token_end
+  pub made : MadeHere (link_label (named_form private) optional start behind.prev_token_end) (Some left ∷ Some name ∷ []) behind q id
+
+abbrev pub MakesWithName : Bool → ℕ → NodeId → Parser → Parser → Result NodeId Stop → Type 0
+MakesWithName optional start left p q (Ok id) = WithName optional start left p q id
+MakesWithName optional start left p q (Err e) = (text : List ℕ) (f : Flags) → At text f p → Stops p q e (NoNames text f p.prev_token_end)
 
 -- ---- calls and chains
 

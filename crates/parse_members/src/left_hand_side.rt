@@ -1,7 +1,7 @@
 //! Members, `new`, calls and optional chains (ECMA-262, section 13.3).
 
 ghost use Rattle.std.specs.Prelude.{◌≡◌, ◌≤◌, ◌∷◌, [], Some, IfOk, cond, true, false};
-ghost use Rattle.parse_members.specs.Prelude.{Answers, at, CallsMember, CanNest, ChainsCallee, Dot, flagged_label, GivesUp, goal, GoesOn, GoesOnMember, Heads, identifier_name_kinds, is_textual, LBrack, LeftHandSide, LinkHere, LParen, MadeHere, MakesWithArguments, MakesWithIndex, Mark, no_link_behind, number_of, one_of_kinds, optional_flag, QuestionDot, ReadsChainLink, ReadsLink, room, Standing, StandsHere, TellsChain};
+ghost use Rattle.parse_members.specs.Prelude.{Answers, at, CallsMember, CanNest, ChainsCallee, Dot, flagged_label, GivesUp, goal, GoesOn, GoesOnMember, Heads, is_textual, LBrack, LeftHandSide, LinkHere, LParen, MadeHere, MakesWithArguments, MakesWithIndex, MakesWithName, Mark, member_name_kinds, no_link_behind, number_of, one_of_kinds, optional_flag, QuestionDot, ReadsChainLink, ReadsLink, room, Standing, StandsHere, TellsChain};
 ghost use Rattle.parse_primary.specs.laws_primary.Members as members;
 ghost use Rattle.parse_primary.specs.laws_primary.declared.forms.LinkBase.TheVariants as base;
 
@@ -11,7 +11,7 @@ use crate::super_word::{check_new_callee, is_super_alone, parse_super_member};
 use js_base::{DiagnosticKind, Kind, NoMemory, Span};
 use parse_primary::arguments::parse_call_arguments;
 use parse_primary::forms::LinkBase;
-use parse_primary::leaf::parse_identifier_name;
+use parse_primary::leaf::{parse_identifier_name, parse_private_name};
 use parse_primary::template::{begins_template, parse_chained_template, parse_tagged_template};
 use parse_shared::context::expression_with_in;
 use parse_shared::diagnostics::diagnostic_at;
@@ -275,15 +275,13 @@ fn parse_optional_link<C: ParserConfig, N: Nested<C>>(
     if lacks_link(p.cur_kind()) {
         return Err(refuse_optional_link(p, sign));
     }
-    let name = parse_identifier_name(p)?;
-    let node = make_member(p, start, NodeKind::StaticMemberExpression, true, left, name)?;
-    Ok(node)
+    parse_member_name(p, start, true, left)
 }
 
 /// Whether no optional link goes on with this behind its `?.`: it is no word and no private name, begins no arguments, no
 /// brackets and no template, and is a lexeme.
 fn lacks_link(kind: Kind) -> bool
-    ensures { result ≡ true → one_of_kinds identifier_name_kinds kind ≡ false }
+    ensures { result ≡ true → one_of_kinds member_name_kinds kind ≡ false }
 {
     !kind.is_identifier_name()
         && !matches!(
@@ -308,7 +306,7 @@ fn refuse_optional_link<C: ParserConfig>(p: &mut ParserImpl<'_, C>, sign: Span) 
     p.set_fatal_error(diagnostic_at(kind, sign))
 }
 
-/// `.` and a name, behind what was read.
+/// `.` and a name or a private name, behind what was read.
 fn parse_named_link<C: ParserConfig>(
     p: &mut ParserImpl<'_, C>,
     start: u32,
@@ -320,15 +318,30 @@ fn parse_named_link<C: ParserConfig>(
     ensures { ReadsLink start left p.old p.new result }
 {
     advance(p)?;
+    parse_member_name(p, start, false, left)
+}
+
+/// A name or a private name, and the node of what stands before and this.
+#[inline(never)]
+fn parse_member_name<C: ParserConfig>(
+    p: &mut ParserImpl<'_, C>,
+    start: u32,
+    optional: bool,
+    left: NodeId,
+) -> Result<NodeId, Stop>
+    requires at { Standing p.old }
+    requires start { start ≤ p.old.prev_token_end }
+    ensures { MakesWithName optional start left p.old p.new result }
+{
+    if p.at(Kind::PrivateIdentifier) {
+        let kind = NodeKind::PrivateFieldExpression;
+        let name = parse_private_name(p)?;
+        let node = make_member(p, start, kind, optional, left, name)?;
+        return Ok(node);
+    }
+    let kind = NodeKind::StaticMemberExpression;
     let name = parse_identifier_name(p)?;
-    let node = make_member(
-        p,
-        start,
-        NodeKind::StaticMemberExpression,
-        false,
-        left,
-        name,
-    )?;
+    let node = make_member(p, start, kind, optional, left, name)?;
     Ok(node)
 }
 

@@ -1,7 +1,7 @@
 //! What begins with `super` (ECMA-262, section 13.3).
 
 ghost use Rattle.std.specs.Prelude.{◌≡◌, ◌<◌, ◌≤◌, ◌&&◌, IfOk, false, length, true};
-ghost use Rattle.parse_members.specs.Prelude.{alone_at, callee_from, CanNest, ChecksCallee, ChecksSuper, goal, GoesOnSuper, Heads, is_super_word, IsAt, kind_of, LParen, Mark, node_at, room, Standing, StandsHere, Super, TakesSuper};
+ghost use Rattle.parse_members.specs.Prelude.{alone_at, callee_from, CanNest, ChecksCallee, ChecksMember, ChecksSuper, goal, GoesOnSuper, Heads, is_private_node, is_super_word, IsAt, kind_of, LParen, Mark, node_at, private_from, room, Standing, StandsHere, Super, TakesSuper};
 
 use crate::left_hand_side::{link_here, parse_link, parse_member_expression_rest};
 use js_base::{DiagnosticKind, Kind, NoMemory, Span};
@@ -29,6 +29,7 @@ pub(crate) fn parse_super_member<C: ParserConfig, N: Nested<C>>(
         return Ok(word);
     }
     let member = parse_super_property(p, nested, start, word)?;
+    check_super_member(p, start, member)?;
     parse_member_expression_rest(p, nested, start, member)
 }
 
@@ -75,6 +76,25 @@ fn parse_super_property<C: ParserConfig, N: Nested<C>>(
         return Ok(word);
     }
     parse_link(p, nested, start, word)
+}
+
+/// Tells of a private name as a member of `super`, which began at a place. Reading goes on.
+fn check_super_member<C: ParserConfig>(
+    p: &mut ParserImpl<'_, C>,
+    start: u32,
+    node: NodeId,
+) -> Result<(), NoMemory>
+    requires at { IsAt p.old }
+    requires start { start ≤ p.old.prev_token_end }
+    requires made { node.0 < length p.old.nodes }
+    requires mark { is_private_node p.old node ≡ true → Mark (goal p.old) p.old.text (private_from start p.old.prev_token_end) }
+    ensures { IfOk result (λ _. ChecksMember (is_private_node p.old node) start p.old p.new) }
+{
+    if matches!(p.ast.kind(node), NodeKind::PrivateFieldExpression) {
+        let span = p.end_span(start);
+        p.error(diagnostic_at(DiagnosticKind::SuperPrivate, span))?;
+    }
+    Ok(())
 }
 
 /// Whether what was read is the word `super` alone, by whether this word began it.

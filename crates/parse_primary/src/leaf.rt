@@ -1,13 +1,13 @@
 //! Operands of one lexeme, and the end of parentheses (ECMA-262, sections 12.7, 12.9 and 13.2).
 
 ghost use Rattle.std.specs.Prelude.{◌≡◌, true, false, MatchResult};
-ghost use Rattle.parse_primary.specs.Prelude.{Answers, at, identifier_name_kinds, IdentifierName, is_name_node, is_textual, IsWholeHere, node_of_number, one_of_kinds, OnlyMemory, op_of_number, Opened, Passes, RParen, Standing, Str, TakesLeaf};
+ghost use Rattle.parse_primary.specs.Prelude.{Answers, at, identifier_name_kinds, IdentifierName, is_name_node, is_textual, IsWholeHere, node_of_number, one_of_kinds, OnlyMemory, op_of_number, Opened, Passes, PrivateIdentifier, RParen, Standing, Str, TakesLeaf};
 ghost use Rattle.laws_primary.specs.js_tree.declared.kind.NodeKind.TheVariants as node;
 ghost use Rattle.laws_primary.specs.js_tree.declared.op.Op.TheVariants as op;
 
 use js_base::{Kind, Span};
 use parse_shared::lexemes::advance;
-use parse_shared::nodes::{make_leaf, make_name, make_string};
+use parse_shared::nodes::{make_leaf, make_name, make_private_name, make_string};
 use parse_shared::{BigintBase, NodeId, NodeKind, NumberBase, Op, ParserConfig, ParserImpl, Stop};
 
 /// An IdentifierName: a name or a word, with escapes or without (ECMA-262, section 12.7).
@@ -20,6 +20,19 @@ pub fn parse_identifier_name<C: ParserConfig>(p: &mut ParserImpl<'_, C>) -> Resu
         return Err(p.set_unexpected());
     }
     parse_name(p, NodeKind::IdentifierName)
+}
+
+/// The PrivateIdentifier that stands here: `#` and a name, with escapes or without (ECMA-262, section 12.7).
+/// Reads: PrivateName.
+pub fn parse_private_name<C: ParserConfig>(p: &mut ParserImpl<'_, C>) -> Result<NodeId, Stop>
+    requires at { Standing p.old }
+    requires private { p.old.token.kind ≡ PrivateIdentifier }
+    ensures { MatchResult result (λ id. TakesLeaf node.PrivateIdentifier op.None p.old p.new id) OnlyMemory }
+{
+    let token = p.cur_token();
+    advance(p)?;
+    let node = make_private_name(p, token)?;
+    Ok(node)
 }
 
 /// A node of one lexeme, which is no name and no string.

@@ -11,7 +11,7 @@ pub use Rattle.laws_shared.specs.Lexemes.{escaped_word, keyword_kind, may_name, 
 pub use Rattle.laws_shared.specs.Methods.{ReadsWhole, parameters_of}
 pub use Rattle.laws_shared.specs.Moves.{IsCompleted, IsWholeHere, MadeHere, Moves, OperatorHere, plain_label}
 pub use Rattle.laws_shared.specs.Nesting.{CanNest, room}
-pub use Rattle.laws_shared.specs.NodeTexts.{IsKept, SpellsName, is_name_node, is_textual, spelled_at}
+pub use Rattle.laws_shared.specs.NodeTexts.{IsKept, IsKeptPrivate, SpellsName, SpellsPrivate, behind_sign, is_name_node, is_textual, spelled_at}
 pub use Rattle.laws_shared.specs.Operators.{power_of}
 pub use Rattle.laws_shared.specs.Stands.{EndsOperand, NameHere, NameUnder, ReadsHere, StandsHere}
 pub use Rattle.laws_shared.specs.Statements.{EndsStatement, NoEnd, link_kinds}

@@ -1,7 +1,7 @@
 //! Nodes without flags, made at a parser's place.
 
 ghost use Rattle.std.specs.Prelude.{◌≡◌, ◌∷◌, [], true, false, Some, IfOk, chars, slice_range};
-ghost use Rattle.parse_shared.specs.Prelude.{is_name_node, is_textual, IsKept, MadeHere, name_text, number_of, plain_label, spelled_at, SpellsName, Str, string_kind};
+ghost use Rattle.parse_shared.specs.Prelude.{behind_sign, is_name_node, is_textual, IsKept, IsKeptPrivate, MadeHere, name_text, number_of, plain_label, spelled_at, SpellsName, SpellsPrivate, Str, string_kind};
 ghost use Rattle.laws_shared.specs.js_tree.declared.kind.NodeKind.TheVariants as node;
 ghost use Rattle.laws_shared.specs.js_tree.declared.op.Op.TheVariants as op;
 
@@ -97,6 +97,48 @@ fn plain_name<C: ParserConfig>(_p: &ParserImpl<'_, C>, _token: Token) -> Option<
     ensures { IsKept result (spelled_at _p.now.text _token) }
 {
     None
+}
+
+/// The node of a private name, by its token: with an escape in it the node keeps what the name behind its `#` spells
+/// (ECMA-262, section 12.7.1).
+#[inline(never)]
+pub fn make_private_name<C: ParserConfig>(
+    p: &mut ParserImpl<'_, C>,
+    token: Token,
+) -> Result<NodeId, NoMemory>
+    requires { SpellsPrivate p.old.text token }
+    ensures { IfOk result (λ id. MadeHere (plain_label node.PrivateIdentifier op.None token.span) [] p.old p.new id) }
+{
+    let name = private_name(p, token)?;
+    let kind = NodeKind::PrivateIdentifier;
+    p.ast.leaf(kind, token.span(), Op::None, no_flags(), name)
+}
+
+/// What is kept of a private name: the name behind its `#`, where an escape stands in it.
+fn private_name<C: ParserConfig>(
+    p: &ParserImpl<'_, C>,
+    token: Token,
+) -> Result<Option<Text>, NoMemory>
+    requires { SpellsPrivate p.now.text token }
+    ensures { IfOk result (λ name. IsKeptPrivate name (spelled_at p.now.text token)) }
+{
+    if token.escaped() {
+        let name = decoded_private_name(p, token)?;
+        return Ok(Some(name));
+    }
+    Ok(None)
+}
+
+/// The name that a private name spells behind its `#`.
+fn decoded_private_name<C: ParserConfig>(
+    p: &ParserImpl<'_, C>,
+    token: Token,
+) -> Result<Text, NoMemory>
+    requires { SpellsPrivate p.now.text token }
+    ensures { IfOk result (λ name. Some name ≡ name_text (behind_sign p.now.text token)) }
+{
+    let name = &p.source_text[token.start() as usize + 1..token.end() as usize];
+    decode_name(p.alloc, name)
 }
 
 /// The node of a string literal at a span (ECMA-262, section 12.9.4).
