@@ -23,6 +23,8 @@ pub mod OnePlace
 pub mod OpenBrackets
 pub mod Operations
 pub mod ParenthesizedFronts
+mod PrivateLoops
+pub mod PrivateOperands
 pub mod Refusals
 pub mod Sequences
 pub mod SlashedHeads

@@ -36,7 +36,8 @@ use Rattle.laws_shared.specs.Moves.{Moved, Tightness, MadeHere, operation_label}
 use Rattle.laws_shared.specs.Operators.{power_of}
 use Rattle.laws_shared.specs.Answers.{Grown, Verdict, Stretch, Underived, Numbered, beside}
 use Rattle.laws_shared.proofs.Here.{told_plain, begins_here, found, plain_token, slash_here}
-use Rattle.laws_shared.proofs.Paths.{skips, read_of, walked_both, walked_one, walked_to, walked_from}
+use Rattle.laws_shared.proofs.Signs.{other_kind}
+use Rattle.laws_shared.proofs.Paths.{not_here, skips, read_of, walked_both, walked_one, walked_to, walked_from}
 use Rattle.laws_shared.proofs.Tight.{stops_by_power, power_listed, Level, level_of, operator_read, plain_is_none, plain_lex, plain_so, power_anywhere}
 use Rattle.laws_shared.proofs.Verdicts.{verdict_of, either_way, and_then, behind_none, grown_then}
 use Rattle.laws_shared.proofs.Verdicts.{after as grown_behind}
@@ -67,12 +68,15 @@ pub record Operand (text : List ℕ) (f : Flags) (m : ℕ) (p q : Parser) (id : 
   pub holds : Holds q.nodes (length p.nodes) (length q.nodes) id.0 label slots
   pub keeps : Keeps p.nodes q.nodes
 
--- no `#` is read
-no_hash : {text : List ℕ} {s : ℕ} (y : Lexeme) → Lex text s y → y.kind ≡ PrivateIdentifier → ⊥
-no_hash y l e = false≢true (subst (λ (k : Kind). is_read_kind k ≡ true) e l.1)
+-- no private name stands there
+abbrev pub NoPrivate : List ℕ → ℕ → Type 0
+NoPrivate text s = (y : Lexeme) → Lex text s y → y.kind ≡ PrivateIdentifier → ⊥
+
+pub no_private : {text : List ℕ} {f : Flags} {p : Parser} → At text f p → (p.token.kind ≡ PrivateIdentifier → ⊥) → NoPrivate text p.prev_token_end
+no_private {p = p} a n y l e = not_here a (PrivateIdentifier ∷ []) refl (other_kind PrivateIdentifier p.token.kind n) y l (ap (one_of_kinds (PrivateIdentifier ∷ [])) e)
 
 -- the rows of operands
-level_rows : (f : Flags) (q : ℕ) (r : Row) → may_end (level_at f q).name r ≡ of_operand r
+pub level_rows : (f : Flags) (q : ℕ) (r : Row) → may_end (level_at f q).name r ≡ of_operand r
 level_rows f zero r = refl
 level_rows f (suc zero) r = refl
 level_rows f (suc (suc zero)) r = refl
@@ -90,7 +94,7 @@ none_listed : {k : Kind} {ks : List Kind} → OneOf k ks → ks ≡ [] → ⊥
 none_listed head e = cc
 none_listed (later i) e = cc
 
-looser_or : (n m t : ℕ) (b : Bool) → n ≤ m → (nat_lt t n || b) ≡ true → (nat_lt t m || b) ≡ true
+pub looser_or : (n m t : ℕ) (b : Bool) → n ≤ m → (nat_lt t n || b) ≡ true → (nat_lt t m || b) ≡ true
 looser_or n m t true h e = or_right (nat_lt t m) true refl
 looser_or n m t false h e = go (nat_lt t n) refl e
   where
@@ -99,15 +103,15 @@ looser_or n m t false h e = go (nat_lt t n) refl e
     go false q z = absurd (false≢true z)
 
 module _ {text : List ℕ} {f : Flags} where
-  pub fails_at_level : {s : ℕ} (m : ℕ) → m ≤ 10 → Underived text (at Exponent f) s → Underived text (level_at f m) s
-  fails_at_level {s} m h x = go m h
+  pub fails_at_level : {s : ℕ} (m : ℕ) → m ≤ 10 → NoPrivate text s → Underived text (at Exponent f) s → Underived text (level_at f m) s
+  fails_at_level {s} m h u x = go m h
     where
       go : (m : ℕ) → m ≤ 10 → Underived text (level_at f m) s
       go (suc (suc (suc (suc (suc (suc (suc (suc (suc (suc n)))))))))) h = x
-      go m h = loop_start_fails f {m = m} (omega arith) no_hash x
+      go m h = loop_start_fails f {m = m} (omega arith) u x
 
-  pub operand_init : {p q : Parser} {id : NodeId} {m : ℕ} → m ≤ 10 → At text f p → Numbered text f (at Exponent f) p q id → Operand text f m p q id
-  operand_init {p} {q} {id} {m} h a x = record {
+  pub operand_init : {p q : Parser} {id : NodeId} {m : ℕ} → m ≤ 10 → At text f p → NoPrivate text p.prev_token_end → Numbered text f (at Exponent f) p q id → Operand text f m p q id
+  operand_init {p} {q} {id} {m} h a u x = record {
     at = x.answer.at;
     same = x.answer.same;
     further = x.answer.further;
@@ -118,7 +122,7 @@ module _ {text : List ℕ} {f : Flags} where
     walked = x.answer.walked;
     cap = 10;
     low = omega arith;
-    verdict = verdict_of x.answer.verdict (λ y. record { reach = y.reach; near = y.near; around = loop_start f h no_hash y.goes (begins_here a) }) (λ n. fails_at_level m h n);
+    verdict = verdict_of x.answer.verdict (λ y. record { reach = y.reach; near = y.near; around = loop_start f h u y.goes (begins_here a) }) (λ n. fails_at_level m h u n);
     stops = λ y l. wider y (x.answer.stops y l);
     loose = λ y l. x.answer.stops y l;
     holds = x.holds;

@@ -4,6 +4,7 @@
 pub mod assignment;
 pub mod closed_operand;
 pub mod operators;
+mod private_in;
 pub mod sequence;
 pub mod unary;
 pub mod update;

@@ -4,13 +4,14 @@ ghost use Rattle.std.specs.Prelude.{ℕ, ◌≡◌, ◌≤◌, ◌-◌, ◌||◌
 ghost use Rattle.parse_operators.specs.Prelude.{Answers, at, begins_by_unary, CanNest, ChecksBase, ChecksMixed, Exponent, goal, Holds, IsAt, Label, level_at, Lex, Lexeme, logical_expression, logical_kind, MadeHere, Mark, mixed_at, of, operation_label, power_of, Question2, reads_await, room, Short, Slots, Standing, Stood, unary_base};
 ghost use Rattle.laws_operators.specs.Coalescing as coalescing;
 
+use crate::private_in::{make_private_in, parse_private_operand};
 use crate::unary::{begins_await, parse_unary_expression_or_higher};
 use js_base::{
     BinaryOperator, Diagnostic, DiagnosticKind, Kind, LogicalOperator, NoMemory,
     map_binary_operator, map_logical_operator,
 };
 use parse_shared::diagnostics::kept_so_far;
-use parse_shared::lexemes::{OR, advance, operator_here, reads_here};
+use parse_shared::lexemes::{OR, SHIFT, advance, operator_here, reads_here};
 use parse_shared::nested::Nested;
 use parse_shared::nodes::make_two;
 use parse_shared::{NodeId, NodeKind, Op, ParserAstBuilder, ParserConfig, ParserImpl, Stop};
@@ -123,7 +124,7 @@ fn make_coalesce<C: ParserConfig>(
 }
 
 /// Operands, and operators between them that bind at least as tight as `least`, grouped to the left (ECMA-262, sections
-/// 13.6 to 13.13).
+/// 13.6 to 13.13). A private name before `in` is an operand where `least` lets a comparison stand.
 /// Reads: Or, And, BitOr, BitXor, BitAnd, Equality, Relational, Shift, Additive, Multiply.
 pub fn parse_operators<C: ParserConfig, N: Nested<C>>(
     p: &mut ParserImpl<'_, C>,
@@ -137,7 +138,13 @@ pub fn parse_operators<C: ParserConfig, N: Nested<C>>(
     ensures { Answers (λ f. level_at f (least - 5)) p.old p.new result }
 {
     let start = p.cur_start();
-    let mut left = parse_exponentiation_expression(p, nested)?;
+    let mut left = if p.at(Kind::PrivateIdentifier) {
+        let name = parse_private_operand(p, least)?;
+        let right = parse_operators(p, nested, SHIFT)?;
+        make_private_in(p, start, name, right)?
+    } else {
+        parse_exponentiation_expression(p, nested)?
+    };
     'operators: loop {
         let power = operator_here(p)?;
         if power < least {
