@@ -6,7 +6,7 @@ use Rattle.js_base.specs.declared.kind.Kind.{Kind}
 use Rattle.js_base.specs.declared.kind.Kind.TheVariants.{Arrow, Async, In, LBrack, LCurly, LParen, Of, Question, RAngle, Yield}
 use Rattle.js_base.specs.declared.token.Token.{Token}
 use Rattle.js_base.specs.Kinds.{same_kind, one_of_kinds}
-use Rattle.js_base.specs.KindSets.{binding_identifier_kinds, identifier_name_kinds}
+use Rattle.js_base.specs.KindSets.{binding_identifier_kinds}
 use Rattle.js_base.proofs.KindLemmas.{kind_of_same}
 use Rattle.js_grammar.specs.Trees.{Label, Slots, end, tree}
 use Rattle.js_grammar.specs.Grammar.{Lexeme, Lexemes, Look, here, is, next, seen, alt, such, Takes, is_seq, is_lexeme, is_look, is_left, is_right, is_such, is_node, ◌▸◌}
@@ -48,7 +48,7 @@ use Rattle.laws_shared.proofs.Moving.{same_both}
 use Rattle.laws_shared.proofs.NameKinds.{name_apart, name_read, name_whole}
 use Rattle.laws_shared.proofs.Paths.{fails_at, read_of, walked_both, walked_one}
 use Rattle.laws_shared.proofs.Signs.{other_kind}
-use Rattle.laws_shared.proofs.Escapes.{read_as, read_plain, plain_or_escapable}
+use Rattle.laws_shared.proofs.Escapes.{escapable_kinds, read_as, read_plain, plain_or_escapable}
 use Rattle.laws_shared.proofs.Verdicts.{grown_then}
 use Rattle.laws_patterns.proofs.laws_primary.Operands.{name_signless}
 use Rattle.laws_patterns.proofs.laws_primary.AsyncWords.{given_behind}
@@ -86,7 +86,7 @@ one_passed (the_last {x = x} {ls = ls} m) = (x, ls, refl)
 one_passed (and_more {x = x} {ls = ls} m o) = (x, ls, refl)
 
 abbrev a_head_there : Look
-a_head_there k w e = begins_head k w e && (not w && (not e || one_of_kinds identifier_name_kinds k))
+a_head_there k w e = begins_head k w e && (not w && (not e || one_of_kinds escapable_kinds k))
 
 -- an operand doesn't end before a head on its line
 head_binds : (b : Bool) → covers a_head_there (λ k w e. not (looser 2 b after_expression k w e)) ≡ true

@@ -3,7 +3,7 @@ use Rattle.std.proofs.Common.{ℕ, ◌≡◌, inl, Bool, true, false, not, cond,
 use Rattle.std.specs.Prelude.{MatchResult, Option, Result, Ok, Err}
 use Rattle.std.proofs.lemmas.Bool.{false≢true, and_right}
 use Rattle.js_base.specs.declared.kind.Kind.{Kind}
-use Rattle.js_base.specs.declared.kind.Kind.TheVariants.{Arrow, Async, Await, Comma, Decimal, Dot, Function, Ident, LBrack, LParen, New, Question, Question2, QuestionDot, RAngle, RBrack, RParen, Semicolon, Star2, Str, Super, Yield}
+use Rattle.js_base.specs.declared.kind.Kind.TheVariants.{Arrow, Async, Await, Comma, Decimal, Dot, Function, Ident, LBrack, LParen, New, PrivateIdentifier, Question, Question2, QuestionDot, RAngle, RBrack, RParen, Semicolon, Star2, Str, Super, Yield}
 use Rattle.js_base.specs.KindSets.{number_kinds, binding_identifier_kinds}
 use Rattle.js_base.specs.Contexts.{await_flag, has_flag, yield_flag}
 use Rattle.js_base.specs.Kinds.{same_kind, one_of_kinds}
@@ -30,7 +30,7 @@ use Rattle.laws_shared.proofs.Here.{kind_here, uncut, unsettled}
 use Rattle.laws_shared.proofs.Moving.{same_itself}
 use Rattle.laws_shared.proofs.Phrases.{unary_result}
 use Rattle.laws_shared.proofs.Signs.{plain_sign}
-use Rattle.laws_patterns.specs.laws_primary.Members.{LinkForm, by_call, by_index, by_name, no_link, sign_of}
+use Rattle.laws_patterns.specs.laws_primary.Members.{LinkForm, by_call, by_index, by_name, by_private, no_link, sign_of}
 use Rattle.laws_patterns.specs.laws_primary.Numbers.{node_of_number, op_of_number}
 use Rattle.laws_patterns.specs.laws_primary.Templates.{heads}
 use Rattle.laws_patterns.proofs.laws_primary.Members.{head_closed, lhs_callee, member_closed, member_init}
@@ -45,7 +45,7 @@ use Rattle.laws_operators.proofs.ClosingSigns.{sign_at}
 use Rattle.laws_operators.proofs.CoalesceOperands.{operands_init, short_answer}
 use Rattle.laws_operators.proofs.Conditionals.{no_assign_here, test_alone}
 use Rattle.laws_operators.proofs.Exponents.{power_alone}
-use Rattle.laws_operators.proofs.Operations.{operand_init, operands_answer}
+use Rattle.laws_operators.proofs.Operations.{no_private, operand_init, operands_answer}
 use Rattle.laws_operators.proofs.Refusals.{none_behind}
 use Rattle.laws_operators.proofs.Updates.{left_alone}
 
@@ -91,6 +91,7 @@ module _ {p q : Parser} {id : NodeId} (t : LexemeTaken p q id) (c : one_of_kinds
   no_link_sign l true = other_sign QuestionDot refl
   no_link_sign by_call false = other_sign LParen refl
   no_link_sign by_name false = other_sign Dot refl
+  no_link_sign by_private false = other_sign Dot refl
   no_link_sign by_index false = other_sign LBrack refl
 
   module _ {text : List ℕ} {f : Flags} (a : At text f p) where
@@ -124,7 +125,7 @@ module _ {p q : Parser} {id : NodeId} (t : LexemeTaken p q id) (c : one_of_kinds
     loose_behind = record { at = power_taken.answer.at; same = same_itself; nodes = refl; kept = refl; place = refl; spot_is = refl; start = refl; uncut = whole_behind; is = none_binds q.token.escaped }
 
     operators_taken : Numbered text f (level_at f 0) p q id
-    operators_taken = operands_answer (operand_init {m = 0} (omega arith) a power_taken) loose_behind (omega arith) (omega arith)
+    operators_taken = operands_answer (operand_init {m = 0} (omega arith) a (no_private a (taken_kind (λ k. k ≡ PrivateIdentifier → ⊥) (λ e. cc) (λ e. cc) (λ e. cc) t)) power_taken) loose_behind (omega arith) (omega arith)
 
     short_taken : Numbered text f (at Short f) p q id
     short_taken = short_answer (operands_init operators_taken) (other_kind Question2 refl)

@@ -4,7 +4,7 @@ use Rattle.std.specs.Prelude.{Ok, Err}
 use Rattle.std.proofs.lemmas.Bool.{false≢true}
 use Rattle.js_base.specs.declared.diagnostic.DiagnosticKind.TheVariants.{ExpectToken}
 use Rattle.js_base.specs.declared.kind.Kind.{Kind}
-use Rattle.js_base.specs.declared.kind.Kind.TheVariants.{Arrow, Dot3, LParen, New, RAngle, RCurly, RParen, Slash, SlashEq, Super, Await}
+use Rattle.js_base.specs.declared.kind.Kind.TheVariants.{Arrow, Dot3, LParen, New, PrivateIdentifier, RAngle, RCurly, RParen, Slash, SlashEq, Super, Await}
 use Rattle.js_base.specs.declared.token.Token.{Token}
 use Rattle.js_base.specs.Kinds.{same_kind, one_of_kinds}
 use Rattle.js_grammar.specs.Trees.{Slots, end, parenthesized_expression}
@@ -51,10 +51,7 @@ use Rattle.laws_operators.specs.Rests.{update_kinds}
 use Rattle.laws_operators.proofs.Arrows.{certain_head, from_unmoved, no_head_no_line, no_parameters, unarrowed, unassigned}
 use Rattle.laws_operators.proofs.Coalescing.{no_short}
 use Rattle.laws_operators.proofs.Exponents.{power_none}
-use Rattle.laws_operators.proofs.NotedClosings.{noted_false, noted_true}
-use Rattle.laws_operators.proofs.NotedHeads.{there_too}
-use Rattle.laws_operators.proofs.Operations.{fails_at_level}
-use Rattle.laws_operators.proofs.SlashedHeads.{only_no_operand}
+use Rattle.laws_operators.proofs.Operations.{fails_at_level, no_private}
 use Rattle.laws_operators.proofs.Updates.{nothing_read}
 
 -- nothing that may begin what is due behind a parenthesis stands there
@@ -97,7 +94,7 @@ module _ {text : List ℕ} {f : Flags} {p : Parser} (a : At text f p) (k : p.tok
 
     pub no_operand_begins : Underived text (at Short f) p.prev_token_end
     unfolding covers
-    no_operand_begins = no_short f (fails_at_level 0 (omega arith) (power_none text f p.prev_token_end (lift_fails (at Unary f) (at Update f) refl refl text p.prev_token_end no_unary no_update)))
+    no_operand_begins = no_short f (fails_at_level 0 (omega arith) (no_private a (λ e. let q : LParen ≡ PrivateIdentifier = sym k ∙ e in absurd (cc))) (power_none text f p.prev_token_end (lift_fails (at Unary f) (at Update f) refl refl text p.prev_token_end no_unary no_update)))
 
 -- ---- no head
 

@@ -7,6 +7,7 @@ use Rattle.js_base.specs.declared.kind.Kind.TheVariants.{PrivateIdentifier, Eof,
 use Rattle.js_base.specs.Kinds.{one_of_kinds}
 use Rattle.js_grammar.proofs.FirstClaims.{firsts}
 use Rattle.js_grammar.proofs.First.{starts}
+use Rattle.js_grammar.proofs.Looks.{apart}
 use Rattle.js_grammar.specs.Trees.{Label, Slots, end, tree}
 use Rattle.js_grammar.specs.Grammar.{Lexeme, Lexemes, next, seen, seq, such, nothing}
 use Rattle.js_grammar.specs.Insertion.{Row}
@@ -73,6 +74,7 @@ abbrev pub NoPrivate : List ℕ → ℕ → Type 0
 NoPrivate text s = (y : Lexeme) → Lex text s y → y.kind ≡ PrivateIdentifier → ⊥
 
 pub no_private : {text : List ℕ} {f : Flags} {p : Parser} → At text f p → (p.token.kind ≡ PrivateIdentifier → ⊥) → NoPrivate text p.prev_token_end
+unfolding apart
 no_private {p = p} a n y l e = not_here a (PrivateIdentifier ∷ []) refl (other_kind PrivateIdentifier p.token.kind n) y l (ap (one_of_kinds (PrivateIdentifier ∷ [])) e)
 
 -- the rows of operands

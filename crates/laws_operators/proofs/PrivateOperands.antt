@@ -1,6 +1,7 @@
 -- A private name before `in`, as an operand: it is read where nothing else can be, and fails where it may not stand.
 use Rattle.std.proofs.Common.{ℕ, zero, suc, ◌≡◌, ◌<◌, ◌≤◌, ◌+◌, ◌-◌, ◌⊎◌, inl, inr, max, Bool, true, false, ◌||◌, IsTrue, List, [], ◌∷◌, Some, Option, length, refl, sym, ap, subst, arith, ◌∙◌}
-use Rattle.std.specs.Prelude.{None, Err}
+use Rattle.std.specs.Prelude.{◌↔◌, None, Err}
+use Rattle.js_base.specs.Contexts.{has_flag, in_flag}
 use Rattle.std.proofs.lemmas.Bool.{false≢true}
 use Rattle.js_base.specs.declared.diagnostic.Diagnostic.{Diagnostic}
 use Rattle.js_base.specs.declared.diagnostic.DiagnosticKind.{DiagnosticKind}
@@ -9,6 +10,7 @@ use Rattle.js_base.specs.declared.kind.Kind.{Kind}
 use Rattle.js_base.specs.declared.kind.Kind.TheVariants.{In, PrivateIdentifier, RAngle}
 use Rattle.js_base.specs.declared.span.Span.{Span}
 use Rattle.js_base.specs.Kinds.{same_kind}
+use Rattle.js_base.specs.Texts.{words}
 use Rattle.js_grammar.specs.Trees.{Label, Slots, Span as TreeSpan, end, tree, private_in_expression, of}
 use Rattle.js_grammar.specs.Grammar.{Lexeme, Lexemes, Look, here, seen, exact, such, nothing, never, Takes, when, is_such, is_seq, is_lexeme, is_when, ◌▸◌}
 use Rattle.js_grammar.specs.Follow.{after, edge_of, follow, looser, row_of, tight, widest}
@@ -26,7 +28,7 @@ use Rattle.js_grammar.proofs.Calculus.{Inside, On, ◌▹◌, fails_never, fails
 use Rattle.js_grammar.proofs.First.{starts}
 use Rattle.js_grammar.proofs.FirstClaims.{firsts}
 use Rattle.js_grammar.proofs.FirstRules.{fails_here}
-use Rattle.js_grammar.proofs.Looks.{apart, not_both}
+use Rattle.js_grammar.proofs.Looks.{apart, covers, not_both}
 use Rattle.js_grammar.proofs.OperatorEdges.{level_looser, tighter_level}
 use Rattle.js_grammar.proofs.OperatorLoops.{operand_follow}
 use Rattle.js_grammar.proofs.Operators.{levels, levels_lawful}
@@ -133,7 +135,7 @@ module _ {text : List ℕ} {f : Flags} {p : Parser} (a : At text f p) (h : p.tok
 
   -- what fails before a comparison's operators, or fails anyhow
   abbrev Foot' : ℕ → ℕ → G → Type 0
-  Foot' m c g = Unread firsts {Lex = Lex text} {w = levels f} {m = m} {X = after (level_at f m)} p.prev_token_end c g
+  Foot' m c g = Unread firsts (Lex text) (levels f) m (after (level_at f m)) p.prev_token_end c g
 
   anyhow : {m c : ℕ} {g : G} → Fails rule (Lex text) (plain full) end g p.prev_token_end → Foot' m c g
   anyhow n = record { test = plain full; fails = n; within = λ ts y e. (refl, refl); follows = record { goes = λ q x i ts y t. (refl, refl) } }
@@ -168,11 +170,25 @@ module _ {text : List ℕ} {f : Flags} {p : Parser} (a : At text f p) (h : p.tok
   pub private_misplaced : (m : ℕ) → m ≤ 10 → (m ≤ 6 → f.in_ ≡ false) → Underived text (level_at f m) p.prev_token_end
   private_misplaced m i n = private_fails m i (λ j. no_in f.in_ (n j))
     where
+      never_when : {g : G} {ks ts vs : Slots} {i k : ℕ} {ls rest : Lexemes} → Takes rule (when false g) ks ts i ls vs k rest → ⊥
+      never_when (is_when c d) = false≢true c
+
       no_in : (b : Bool) → b ≡ false → Fails rule (Lex text) (after (at Shift f)) end (when b (op private_in_expression In (private_slots f))) p.prev_token_end
       no_in b e = subst (λ (v : Bool). Fails rule (Lex text) (after (at Shift f)) end (when v (op private_in_expression In (private_slots f))) p.prev_token_end) (sym e) (record { no = λ ts vs k ls rest l d x. never_when d })
 
-      never_when : {g : G} {ks ts vs : Slots} {i k : ℕ} {ls rest : Lexemes} → Takes rule (when false g) ks ts i ls vs k rest → ⊥
-      never_when (is_when c d) = false≢true c
+  -- by what the parser's context says
+  abbrev pub Compares : ℕ → Bool → Type 0
+  Compares least b = IsTrue b ↔ ((least ≤ 11) × (has_flag in_flag p.ctx ≡ true))
+
+  pub misplaced_at : (least : ℕ) → 5 ≤ least → least ≤ 15 → {b : Bool} → Compares least b → b ≡ false → Underived text (level_at f (least - 5)) p.prev_token_end
+  misplaced_at least l h {b} c n = private_misplaced (least - 5) (omega arith) (λ j. sym (ap (λ (g : Flags). g.in_) a.flags_are) ∙ go (has_flag in_flag p.ctx) refl (omega arith))
+    where
+      go : (i : Bool) → has_flag in_flag p.ctx ≡ i → least ≤ 11 → has_flag in_flag p.ctx ≡ false
+      go true e j = absurd (false≢true (sym n ∙ c.1 (j, e)))
+      go false e j = e
+
+  pub allowed_at : (least : ℕ) {b : Bool} → Compares least b → b ≡ true → (least - 5 ≤ 6) × (f.in_ ≡ true)
+  allowed_at least c t = let z = c.0 t in let j = z.0 in (omega arith, sym (ap (λ (g : Flags). g.in_) a.flags_are) ∙ z.1)
 
   -- the name was read
   module _ {q : Parser} {name : NodeId} (x : Numbered text f (at PrivateName f) p q name) where
@@ -206,7 +222,7 @@ module _ {text : List ℕ} {f : Flags} {p : Parser} (a : At text f p) (h : p.tok
         forward : p.token.span.start < v.prev_token_end
         forward = operand_path.further
 
-        slots : Slots
+        abbrev slots : Slots
         slots = tree x.answer.label x.answer.slots (tree y.answer.label y.answer.slots end)
 
         row : of_operand (row_of (private_in_label p.token.span.start v.prev_token_end) slots) ≡ true

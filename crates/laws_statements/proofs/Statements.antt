@@ -12,7 +12,7 @@ use Rattle.js_base.specs.declared.kind.Kind.TheVariants as kind
 use Rattle.js_base.specs.declared.span.Span.{Span}
 use Rattle.js_base.specs.Contexts.{has_flag, in_flag}
 use Rattle.js_base.specs.Kinds.{same_kind, one_of_kinds}
-use Rattle.js_base.specs.KindSets.{binding_identifier_kinds, identifier_name_kinds}
+use Rattle.js_base.specs.KindSets.{binding_identifier_kinds}
 use Rattle.js_base.proofs.KindLemmas.{kind_of_same}
 use Rattle.js_base.specs.Texts.{words}
 use Rattle.js_grammar.specs.Words.{'let', 'const', 'async', 'function', 'class'}
@@ -63,7 +63,7 @@ use Rattle.laws_shared.proofs.Signs.{closing_there, other_kind}
 use Rattle.laws_shared.proofs.Dead.{live, lives}
 use Rattle.laws_shared.proofs.MadeNodes.{leaf_held, one_held, one_lies, LabelLies, from_start}
 use Rattle.laws_shared.proofs.Paths.{begins_by, reads, Path, ◌⟼◌, ◌⟶◌, ◌⟶✗◌, at_kind, not_here, fails_at, last_token, noded, noded_by, by_symbol_as, label_here}
-use Rattle.laws_shared.proofs.Escapes.{read_plain, keyword_plain, plain_or_escapable}
+use Rattle.laws_shared.proofs.Escapes.{escapable_kinds, read_plain, keyword_plain, plain_or_escapable}
 use Rattle.laws_shared.proofs.Tight.{plain_so}
 use Rattle.laws_statements.proofs.Strings.{name_node, name_expression}
 use Rattle.laws_shared.proofs.Giving.{fails_at_word}
@@ -82,7 +82,7 @@ a ⟝ b = record { at = a.at; further = a.further; pass = a.pass; walked = a.wal
 
 -- what goes on with no expression on a new line, and is no semicolon and no link: before it one may be left out
 abbrev on_a_line : Row → Look
-on_a_line r k w e = (not e || one_of_kinds identifier_name_kinds k) && ((looser 1 true r k w e || beside k w e) && (w && (not (one_of_kinds link_kinds k) && not (same_kind Semicolon k))))
+on_a_line r k w e = (not e || one_of_kinds escapable_kinds k) && ((looser 1 true r k w e || beside k w e) && (w && (not (one_of_kinds link_kinds k) && not (same_kind Semicolon k))))
 
 line_omits : (r : Row) → covers (on_a_line r) (may_omit (goes_on r)) ≡ true
 unfolding covers

@@ -7,7 +7,7 @@ use Rattle.js_base.specs.declared.kind.Kind.{Kind}
 use Rattle.js_base.specs.declared.kind.Kind.TheVariants.{Comma, Eq, LBrack, LCurly, Undetermined}
 use Rattle.js_base.specs.declared.span.Span.{Span}
 use Rattle.js_base.specs.Kinds.{same_kind, one_of_kinds}
-use Rattle.js_base.specs.KindSets.{binding_identifier_kinds, identifier_name_kinds}
+use Rattle.js_base.specs.KindSets.{binding_identifier_kinds}
 use Rattle.js_base.proofs.KindLemmas.{kind_of_same}
 use Rattle.js_grammar.specs.Trees.{Label, Slots, end, hole, tree, no_op, variable_declarator}
 use Rattle.js_grammar.specs.Grammar.{Lexeme, Lexemes, next, here, Look, seen, is, never, such, nothing, empty_slot, Takes, is_nothing, is_lexeme, is_such, is_seq, is_left, is_right, is_empty_slot, is_node, ◌▸◌}
@@ -36,7 +36,7 @@ use Rattle.js_base.specs.declared.diagnostic.DiagnosticKind.{DiagnosticKind}
 use Rattle.js_base.specs.declared.diagnostic.DiagnosticClass.TheVariants.{Early}
 use Rattle.js_base.specs.Diagnostics.{class_of}
 use Rattle.parse_shared.specs.js_cursor.Moves.{KeepsDiagnostic}
-use Rattle.parse_shared.proofs.laws_shared.Escapes.{plain_or_escapable}
+use Rattle.parse_shared.proofs.laws_shared.Escapes.{escapable_kinds, plain_or_escapable}
 use Rattle.parse_shared.specs.laws_shared.Answers.{Grown, Verdict, Stretch, Underived, Answer, Numbered, Stops, beside, unclean}
 use Rattle.parse_shared.specs.laws_shared.Lexemes.{Lex, Walked, spot, Plain}
 use Rattle.parse_shared.specs.laws_shared.Moves.{Moved, MadeHere, plain_label}
@@ -137,7 +137,7 @@ comma_behind_name = refl
 
 -- what no expression goes on with
 abbrev ends_value : Row → Look
-ends_value r k w e = (not e || one_of_kinds identifier_name_kinds k) && (looser 1 true r k w e || beside k w e)
+ends_value r k w e = (not e || one_of_kinds escapable_kinds k) && (looser 1 true r k w e || beside k w e)
 
 value_stops : (r : Row) → covers (ends_value r) (stops_row r) ≡ true
 unfolding covers

@@ -1,5 +1,5 @@
 -- The names by which the contracts of this crate speak: each definition stands where its line says.
-pub use Rattle.js_base.specs.Contexts.{reads_await}
+pub use Rattle.js_base.specs.Contexts.{has_flag, in_flag, reads_await}
 pub use Rattle.js_base.specs.Kinds.{one_of_kinds, same_kind}
 pub use Rattle.js_base.specs.declared.kind.Kind.TheVariants.{Colon, Comma, Eq, PrivateIdentifier, Question2, Star}
 pub use Rattle.js_base.specs.part_text.Characters.{one_of}

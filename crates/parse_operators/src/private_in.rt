@@ -1,7 +1,7 @@
 //! A private name before `in` (ECMA-262, section 13.10).
 
-ghost use Rattle.std.specs.Prelude.{◌≡◌, ◌≤◌, ◌-◌, ◌∷◌, [], Some, IfOk, true};
-ghost use Rattle.parse_operators.specs.Prelude.{GivesUp, MadeHere, PrivateIdentifier, private_in_label, Standing, TakesPrivate, tells_private, unrelated_at};
+ghost use Rattle.std.specs.Prelude.{◌≡◌, ◌≤◌, ◌-◌, ◌↔◌, ◌∷◌, [], Some, IfOk, IsTrue, true};
+ghost use Rattle.parse_operators.specs.Prelude.{GivesUp, has_flag, in_flag, MadeHere, PrivateIdentifier, private_in_label, Standing, TakesPrivate, tells_private, unrelated_at};
 
 use js_base::{BinaryOperator, DiagnosticKind, Kind, NoMemory};
 use parse_primary::leaf::parse_private_name;
@@ -24,7 +24,7 @@ pub(crate) fn parse_private_operand<C: ParserConfig>(
     requires high { least ≤ 15 }
     ensures { TakesPrivate (least - 5) p.old p.new result }
 {
-    if least > RELATIONAL || !p.ctx.has_in() {
+    if !takes_comparison(p, least) {
         return Err(refuse_private_name(p, DiagnosticKind::UnexpectedPrivateIdentifier));
     }
     let name = parse_private_name(p)?;
@@ -33,6 +33,13 @@ pub(crate) fn parse_private_operand<C: ParserConfig>(
         return Err(refuse_private_name(p, DiagnosticKind::PrivateInPrivate));
     }
     Ok(name)
+}
+
+/// Whether `in` is an operator here that binds at least as tight as `least`.
+fn takes_comparison<C: ParserConfig>(p: &ParserImpl<'_, C>, least: u8) -> bool
+    ensures { IsTrue result ↔ (least ≤ 11) × (has_flag in_flag p.now.ctx ≡ true) }
+{
+    least <= RELATIONAL && p.ctx.has_in()
 }
 
 /// Gives up at a private name.

@@ -149,6 +149,7 @@ fn is_name(kind: NodeKind) -> bool {
             | NodeKind::BindingIdentifier
             | NodeKind::LabelIdentifier
             | NodeKind::IdentifierName
+            | NodeKind::PrivateIdentifier
     )
 }
 

@@ -1,18 +1,30 @@
-use Rattle.std.proofs.Common.{arith, ap, inl, sym, ◌∙◌, subst, refl}
+use Rattle.std.proofs.Common.{ℕ, ◌≡◌, Bool, true, false, ◌||◌, List, arith, ap, sym, ◌∙◌, subst, refl}
+use Rattle.std.proofs.lemmas.Bool.{false≢true}
+use Rattle.js_grammar.specs.Productions.{Flags}
+use Rattle.parse_shared.specs.js_cursor.Parsers.{Parser}
+use Rattle.parse_shared.specs.laws_shared.States.{At}
 use Rattle.parse_shared.specs.laws_shared.Moves.{unpassable}
-use Rattle.std.proofs.lemmas.Result.{err_from_is_err_and}
-use Rattle.js_base.specs.declared.kind.Kind.TheVariants.{LBrack, LParen, RAngle}
+use Rattle.js_base.specs.declared.kind.Kind.TheVariants.{LBrack, LParen, PrivateIdentifier, RAngle}
 use Rattle.js_base.specs.Kinds.{one_of_kinds, same_kind}
-use Rattle.js_base.specs.KindSets.{identifier_name_kinds}
+use Rattle.parse_primary.specs.laws_primary.Members.{NoNames, member_name_kinds}
 use Rattle.js_base.specs.declared.token.Token.{Token}
 use Rattle.parse_shared.proofs.laws_shared.Giving.{gives_up}
 use Rattle.parse_shared.proofs.laws_shared.Here.{uncut}
 use Rattle.parse_shared.proofs.laws_shared.Moving.{standing}
 use Rattle.parse_shared.proofs.laws_shared.Nesting.{nested_room, nests_later}
-use Rattle.parse_primary.proofs.laws_primary.Members.{link_is, link_marked, no_name, no_optional_name, optional_name, optional_outcome, optional_tagged, stands_so, optional_index_outcome}
+use Rattle.parse_primary.proofs.laws_primary.Members.{link_is, link_marked, no_name, no_optional_name, no_private_name, optional_name_outcome, optional_outcome, optional_tagged, stands_so, optional_index_outcome}
 use Rattle.parse_primary.specs.laws_primary.Templates.{heads}
 use Rattle.parse_members.proofs.left_hand_side.parse_optional_link.Goals as goal
 use Rattle.parse_shared.specs.laws_shared.Classes.{EndsParse}
+
+-- neither a name, a word nor a private name stands here
+no_member_name : {text : List ℕ} {f : Flags} {p : Parser} → At text f p → one_of_kinds member_name_kinds p.token.kind ≡ false → NoNames text f p.prev_token_end
+no_member_name a n true = no_private_name a (λ e. false≢true (sym n ∙ ap (one_of_kinds member_name_kinds) e))
+no_member_name {p = p} a n false = no_name a (or_false (same_kind PrivateIdentifier p.token.kind) n)
+  where
+    or_false : (b : Bool) {c : Bool} → (b || c) ≡ false → c ≡ false
+    or_false true h = absurd (false≢true (sym h))
+    or_false false h = h
 
 pub advance-requires-clause-whole : goal.advance-requires-clause-whole
 advance-requires-clause-whole t c = (uncut c.requires.at (ap (same_kind RAngle) c.requires.sign.0), ap unpassable c.requires.sign.0)
@@ -64,25 +76,16 @@ returns-then-begins_template t c = λ text f a.
     let m = c.in_ok-advance.ensures text f a in
     optional_tagged a c.requires.sign m (ap (one_of_kinds heads) (sym c.cur_kind.ensures) ∙ (sym c.begins_template.ensures ∙ c.if-begins_template.true)) _ _ _ c.parse_chained_template.result (c.parse_chained_template.ensures.read text f m.at)
 
-pub parse_identifier_name-requires : goal.parse_identifier_name-requires
-parse_identifier_name-requires t c = standing (c.in_ok-advance.ensures _ _ c.requires.at).at
+pub parse_member_name-requires-clause-at : goal.parse_member_name-requires-clause-at
+parse_member_name-requires-clause-at t c = standing (c.in_ok-advance.ensures _ _ c.requires.at).at
 
-pub returns-in_err-name : goal.returns-in_err-name
-returns-in_err-name t c = λ text f a.
-    let p = err_from_is_err_and c.from_residual-in_err-name.result c.from_residual-in_err-name.ensures.1 in
-    let m = c.in_ok-advance.ensures text f a in
-    rw (p.1, p.2) (no_optional_name a c.requires.sign m (stands_so c.advance.new.p LParen c.if-stands.false c.stands.ensures) (stands_so c.advance.new.p LBrack c.if-stands-2.false c.stands-2.ensures) _ _ (c.in_err-name.ensures text f m.at))
-
-pub make_member-requires-clause-start : goal.make_member-requires-clause-start
-make_member-requires-clause-start t c =
-    let m = c.in_ok-advance.ensures _ _ c.requires.at in
-    let x = (c.in_ok-name.ensures _ _ m.at).answer in
-    let a = m.further in let b = x.further in let d = m.at.behind in let e = c.requires.at.behind in let s = c.requires.start in omega arith
+pub parse_member_name-requires-clause-start : goal.parse_member_name-requires-clause-start
+parse_member_name-requires-clause-start t c = let m = (c.in_ok-advance.ensures _ _ c.requires.at).further in let b = c.requires.at.behind in let s = c.requires.start in omega arith
 
 pub returns : goal.returns
 returns t c = λ text f a.
     let m = c.in_ok-advance.ensures text f a in
-    inl (optional_name a c.requires.sign m (stands_so c.advance.new.p LParen c.if-stands.false c.stands.ensures) (stands_so c.advance.new.p LBrack c.if-stands-2.false c.stands-2.ensures) (c.in_ok-name.ensures text f m.at) c.in_ok-node.ensures)
+    link_is text f _ _ _ _ c.parse_member_name.result (optional_name_outcome a c.requires.sign m (stands_so c.advance.new.p LParen c.if-stands.false c.stands.ensures) (stands_so c.advance.new.p LBrack c.if-stands-2.false c.stands-2.ensures) _ _ _ c.parse_member_name.result c.parse_member_name.ensures)
 
 pub refuse_optional_link-requires-clause-at : goal.refuse_optional_link-requires-clause-at
 refuse_optional_link-requires-clause-at t c = standing (c.in_ok-advance.ensures _ _ c.requires.at).at
@@ -93,4 +96,4 @@ refuse_optional_link-requires-clause-mark t c = link_marked _ c.requires.at c.re
 pub returns-then-lacks_link : goal.returns-then-lacks_link
 returns-then-lacks_link t c = λ text f a.
     let m = c.in_ok-advance.ensures text f a in
-    no_optional_name a c.requires.sign m (stands_so c.advance.new.p LParen c.if-stands.false c.stands.ensures) (stands_so c.advance.new.p LBrack c.if-stands-2.false c.stands-2.ensures) _ c.refuse_optional_link.result (gives_up _ _ _ c.refuse_optional_link.result m.at c.refuse_optional_link.ensures (λ d u. subst EndsParse (sym u) refl) (no_name m.at (ap (one_of_kinds identifier_name_kinds) (sym c.cur_kind-2.ensures) ∙ c.lacks_link.ensures c.if-lacks_link.true)))
+    no_optional_name a c.requires.sign m (stands_so c.advance.new.p LParen c.if-stands.false c.stands.ensures) (stands_so c.advance.new.p LBrack c.if-stands-2.false c.stands-2.ensures) _ c.refuse_optional_link.result (gives_up _ _ _ c.refuse_optional_link.result m.at c.refuse_optional_link.ensures (λ d u. subst EndsParse (sym u) refl) (no_member_name m.at (ap (one_of_kinds member_name_kinds) (sym c.cur_kind-2.ensures) ∙ c.lacks_link.ensures c.if-lacks_link.true)))
