@@ -78,6 +78,14 @@ fn parse_super_property<C: ParserConfig, N: Nested<C>>(
     parse_link(p, nested, start, word)
 }
 
+/// Whether a node is a member with a private name.
+fn is_private_member<C: ParserConfig>(p: &ParserImpl<'_, C>, node: NodeId) -> bool
+    requires { node.0 < length p.now.nodes }
+    ensures { result ≡ is_private_node p.now node }
+{
+    matches!(p.ast.kind(node), NodeKind::PrivateFieldExpression)
+}
+
 /// Tells of a private name as a member of `super`, which began at a place. Reading goes on.
 fn check_super_member<C: ParserConfig>(
     p: &mut ParserImpl<'_, C>,
@@ -90,7 +98,7 @@ fn check_super_member<C: ParserConfig>(
     requires mark { is_private_node p.old node ≡ true → Mark (goal p.old) p.old.text (private_from start p.old.prev_token_end) }
     ensures { IfOk result (λ _. ChecksMember (is_private_node p.old node) start p.old p.new) }
 {
-    if matches!(p.ast.kind(node), NodeKind::PrivateFieldExpression) {
+    if is_private_member(p, node) {
         let span = p.end_span(start);
         p.error(diagnostic_at(DiagnosticKind::SuperPrivate, span))?;
     }

@@ -31,9 +31,9 @@ returns-then-at g c = record {
 }
 
 pub returns-in_err-name-2 : goal.returns-in_err-name-2
-returns-in_err-name-2 g c = λ text f a.
+returns-in_err-name-2 g c =
     let p = err_from_is_err_and c.from_residual-in_err-name-2.result c.from_residual-in_err-name-2.ensures.1 in
-    rw (p.1, p.2) (stops_so _ _ _ (λ u. no_names a (λ k. false≢true (sym c.if-at.false ∙ c.at.ensures.1 k)) u) (c.in_err-name-2.ensures text f a))
+    rw (p.1, p.2) (λ text f a. stops_so _ _ _ (λ u. no_names a (λ k. false≢true (sym c.if-at.false ∙ c.at.ensures.1 k)) u) (c.in_err-name-2.ensures text f a))
 
 pub make_member-requires-2-clause-start : goal.make_member-requires-2-clause-start
 make_member-requires-2-clause-start g c =
