@@ -1,7 +1,7 @@
 -- Where parentheses close, and that no operand goes on over `=>` behind them (ECMA-262, 15.3).
-use Rattle.std.proofs.Common.{ℕ, ◌≡◌, Bool, true, false, not, cond, ◌||◌, List, [], ◌∷◌, ◌++◌, length, Some, None, refl, sym, ap, subst, arith, ◌∙◌}
-use Rattle.std.specs.Prelude.{IsCharBoundary, IsUtf8, Result, Ok, Err, IfOk}
-use Rattle.std.proofs.lemmas.Bool.{false≢true, eq-eqb}
+use Rattle.std.proofs.Common.{ℕ, ◌≡◌, Bool, true, false, not, ◌||◌, List, [], ◌∷◌, cond, nat_eq, None, Some, refl, sym, ap, subst, ◌∙◌}
+use Rattle.std.specs.Prelude.{IsCharBoundary, IsUtf8}
+use Rattle.std.proofs.lemmas.Bool.{false≢true}
 use Rattle.js_base.specs.declared.kind.Kind.{Kind}
 use Rattle.js_base.specs.declared.kind.Kind.TheVariants.{Arrow, LParen, LBrack, LCurly, RParen, RBrack, RCurly, TemplateHead, TemplateMiddle, TemplateTail, RAngle, Undetermined, Slash, SlashEq}
 use Rattle.js_base.specs.declared.diagnostic.Diagnostic.{Diagnostic}
@@ -68,14 +68,27 @@ square_opened st = opened_move LBrack 2 st square_opens
 pub curly_opened : (st : List ℕ) → move (bracket LCurly) st ≡ Some (3 ∷ st)
 curly_opened st = opened_move LCurly 3 st curly_opens
 
-pub round_closed : (st : List ℕ) → move (bracket RParen) st ≡ pop 1 st
+round_closed : (st : List ℕ) → move (bracket RParen) st ≡ pop 1 st
 round_closed st = closed_move RParen 1 st round_closes
 
-pub square_closed : (st : List ℕ) → move (bracket RBrack) st ≡ pop 2 st
+square_closed : (st : List ℕ) → move (bracket RBrack) st ≡ pop 2 st
 square_closed st = closed_move RBrack 2 st square_closes
 
-pub curly_closed : (st : List ℕ) → move (bracket RCurly) st ≡ pop 3 st
+curly_closed : (st : List ℕ) → move (bracket RCurly) st ≡ pop 3 st
 curly_closed st = closed_move RCurly 3 st curly_closes
+
+pop_same : (b : ℕ) (st : List ℕ) → nat_eq b b ≡ true → pop b (b ∷ st) ≡ Some st
+unfolding pop
+pop_same b st e = ap (λ (v : Bool). cond v (Some st) None) e
+
+pub closes_round : (st : List ℕ) → move (bracket RParen) (1 ∷ st) ≡ Some st
+closes_round st = round_closed (1 ∷ st) ∙ pop_same 1 st refl
+
+pub closes_square : (st : List ℕ) → move (bracket RBrack) (2 ∷ st) ≡ Some st
+closes_square st = square_closed (2 ∷ st) ∙ pop_same 2 st refl
+
+pub closes_curly : (st : List ℕ) → move (bracket RCurly) (3 ∷ st) ≡ Some st
+closes_curly st = curly_closed (3 ∷ st) ∙ pop_same 3 st refl
 
 pub no_bracket : (k : Kind) (st : List ℕ) → (k ≡ LParen → ⊥) → (k ≡ LBrack → ⊥) → (k ≡ LCurly → ⊥) → (k ≡ TemplateHead → ⊥) → (k ≡ RParen → ⊥) → (k ≡ RBrack → ⊥) → (k ≡ RCurly → ⊥) → (k ≡ TemplateTail → ⊥) → (k ≡ TemplateMiddle → ⊥) → move (bracket k) st ≡ Some st
 unfolding bracket

@@ -18,7 +18,7 @@ use Rattle.js_grammar.proofs.Calculus.{ends, here_at, part_fails}
 use Rattle.js_grammar.proofs.Looks.{apart, covered, covers, not_both}
 use Rattle.js_grammar.proofs.Finding.{contrary}
 use Rattle.laws_shared.specs.js_tree.declared.id.NodeId.{NodeId}
-use Rattle.laws_shared.specs.js_tree.Holding.{Made, stands}
+use Rattle.laws_shared.specs.js_tree.Holding.{Made}
 use Rattle.laws_shared.specs.js_tree.declared.kind.NodeKind.TheVariants.{ParenthesizedExpression}
 use Rattle.laws_shared.specs.js_tree.Labels.{kind_of}
 use Rattle.laws_shared.specs.js_tree.Nodes.{Node, empty_program, label, node_at}

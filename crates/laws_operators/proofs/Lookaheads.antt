@@ -1,6 +1,6 @@
 -- What the lexeme behind an opening parenthesis says of the head of an arrow function (ECMA-262, 15.3).
-use Rattle.std.proofs.Common.{ℕ, ◌≡◌, Bool, List, true, false, cond, IsTrue, None, Some, refl, sym, ap, subst, arith, ◌∙◌, Option}
-use Rattle.std.specs.Prelude.{Ok, Err}
+use Rattle.std.proofs.Common.{ℕ, ◌≡◌, Bool, List, Option, true, false, cond, IsTrue, None, Some, refl, sym, ap, subst, arith, ◌∙◌}
+use Rattle.std.specs.Prelude.{Result, Ok, Err}
 use Rattle.std.proofs.lemmas.Bool.{false≢true}
 use Rattle.js_base.specs.declared.diagnostic.DiagnosticKind.TheVariants.{ExpectToken}
 use Rattle.js_base.specs.declared.kind.Kind.{Kind}
@@ -51,7 +51,10 @@ use Rattle.laws_operators.specs.Rests.{update_kinds}
 use Rattle.laws_operators.proofs.Arrows.{certain_head, from_unmoved, no_head_no_line, no_parameters, unarrowed, unassigned}
 use Rattle.laws_operators.proofs.Coalescing.{no_short}
 use Rattle.laws_operators.proofs.Exponents.{power_none}
-use Rattle.laws_operators.proofs.Operations.{fails_at_level, no_private}
+use Rattle.laws_operators.proofs.NotedClosings.{noted_false, noted_true}
+use Rattle.laws_operators.proofs.NotedHeads.{there_too}
+use Rattle.laws_operators.proofs.Operations.{fails_at_level}
+use Rattle.laws_operators.proofs.SlashedHeads.{found_there, only_no_operand}
 use Rattle.laws_operators.proofs.Updates.{nothing_read}
 
 -- nothing that may begin what is due behind a parenthesis stands there
@@ -185,5 +188,6 @@ none_read k x = (x.0, λ text f a. no_head_no_line a k (x.1 text f f a))
 pub operand_there : {p q : Parser} → Standing p → Unmoved p q → NoOperandHere p → NoOperandHere q
 operand_there a u n = there_too (λ text f s. Underived text (at Short f) s) a u n
 
-pub stops_there : {p q : Parser} (w : Parser) (e : Stop) → Unmoved p q → NoOperandHere p → NoAssignment q w e × NoOperandHere q → SearchesPlainHead p w (Err e)
-stops_there w e u n x = ((λ text f a. from_unmoved text f (at Assignment f) w (Err e) u (x.0 text f (u.at text f a))), λ i. n)
+pub searches_there : {p q : Parser} (w : Parser) (r : Result (Option NodeId) Stop) → Unmoved p q → NoOperandHere p → SearchesPlainHead q w r → SearchesPlainHead p w r
+searches_there w (Ok found) u n x = found_there u w found x
+searches_there w (Err e) u n x = ((λ text f a. from_unmoved text f (at Assignment f) w (Err e) u (x.0 text f (u.at text f a))), λ i. n)

@@ -1,6 +1,6 @@
 -- It is noted whether `=>` stands behind parentheses: where it does no operand stands, where it doesn't no head (ECMA-262, 15.3).
-use Rattle.std.proofs.Common.{ℕ, ◌≡◌, ◌==◌, eqb-true, Bool, true, false, not, List, [], ◌∷◌, ◌++◌, length, refl, sym, ap, subst, ◌∙◌}
-use Rattle.std.specs.Prelude.{IsCharBoundary, Result, Ok, Err, IfOk, Some}
+use Rattle.std.proofs.Common.{ℕ, ◌≡◌, ◌==◌, eqb-true, Bool, true, false, not, List, [], ◌∷◌, ◌++◌, refl, sym, ap, subst, ◌∙◌}
+use Rattle.std.specs.Prelude.{IsCharBoundary, Result, Ok, Err, IfOk, OnOk, Some}
 use Rattle.std.proofs.lemmas.Bool.{false≢true, and_parts, eqb-false}
 use Rattle.js_base.specs.declared.kind.Kind.{Kind}
 use Rattle.js_base.specs.declared.kind.Kind.TheVariants.{Arrow, Eof, LParen, Undetermined}
@@ -19,17 +19,15 @@ use Rattle.js_grammar.proofs.Looks.{apart, covers}
 use Rattle.laws_shared.specs.Heads.{NoHead, NotedClosings, NotedHeads, OnlyArrow}
 use Rattle.laws_shared.specs.Lexemes.{Lex, other_goals}
 use Rattle.laws_shared.specs.States.{At, Standing}
-use Rattle.laws_shared.specs.js_cursor.Checkpoints.{GoesOn}
 use Rattle.laws_shared.specs.js_cursor.Notes.{AddsPlace, Notes, NotesClosing, is_place}
 use Rattle.laws_shared.specs.js_cursor.Parsers.{Parser}
 use Rattle.laws_shared.specs.js_lex.Reading.{GivesBehind, LexemeBehind}
 use Rattle.laws_shared.proofs.Here.{plainly}
-use Rattle.laws_shared.proofs.Moving.{standing}
 use Rattle.laws_shared.proofs.js_cursor.Changing.{notes_on}
 use Rattle.laws_operators.specs.Arrows.{Unmoved}
 use Rattle.laws_operators.specs.declared.forms.OpenBracket.{OpenBracket}
 use Rattle.laws_operators.specs.declared.forms.OpenedBracket.{OpenedBracket}
-use Rattle.laws_operators.specs.Closings.{ArrowTold, ByClosing, Closing, ClosesLast, LexemePassed, NoneCloses, NotesMore, StandOpen, Unclosed, none_stands, number_of, tells_whole}
+use Rattle.laws_operators.specs.Closings.{ArrowTold, ByClosing, Closing, ClosesLast, FindsClosing, NotesOne, LexemePassed, NoneCloses, NotesMore, StandOpen, Unclosed, none_stands, number_of, tells_whole}
 use Rattle.laws_operators.proofs.Arrows.{closed_arrow, unmoved}
 use Rattle.laws_operators.proofs.Closings.{closes_alike, none_behind, plain_between, settled_behind}
 use Rattle.laws_operators.proofs.NotedHeads.{state_noted}
@@ -151,13 +149,13 @@ module _ {p : Parser} {behind : ℕ} {t : Token} (a : Standing p) (b : IsCharBou
   lexeme_opens q (Err v) o old new w m i z e x = x
 
   -- it closes one
-  pub lexeme_closes : {E : Type 0} (q : Parser) (r : Result Bool E) (c : OpenBracket) (old new : List OpenedBracket) → tells_whole t.kind ≡ true → ((st : List ℕ) → move (bracket t.kind) (number_of c ∷ st) ≡ Some st) → StandOpen p.text behind old → IfOk r (λ on. ClosesLast c t.span.end p old q new on) → IfOk r (λ on. LexemePassed p t q new on)
-  lexeme_closes q (Ok true) c old new w m z (o, i, k, v, n, h, e) =
+  pub lexeme_closes : {E : Type 0} (q : Parser) (r : Result Bool E) (c : OpenBracket) (old new : List OpenedBracket) {end_ : ℕ} → end_ ≡ t.span.end → tells_whole t.kind ≡ true → ((st : List ℕ) → move (bracket t.kind) (number_of c ∷ st) ≡ Some st) → StandOpen p.text behind old → IfOk r (λ on. ClosesLast c end_ p old q new on) → IfOk r (λ on. LexemePassed p t q new on)
+  lexeme_closes q (Ok true) c old new d w m z (o, i, k, v, n, (h, e)) =
       let y = settled_behind g w in
-      let f = closes_one y.1 o (λ st. ap (λ (j : Kind). move (bracket j) (number_of o.bracket ∷ st)) (sym y.2.kind) ∙ (ap (λ (d : OpenBracket). move (bracket t.kind) (number_of d ∷ st)) k ∙ m st)) new (subst (λ (os : List OpenedBracket). StandOpen p.text behind os) i z) in
-      (more_one o.behind v e h (by_closing v f.1 (subst (λ (u : ℕ). ArrowTold p.text u v) y.2.end n)), subst (λ (u : ℕ). StandOpen p.text u new) (sym y.2.end) f.0, ends_between w)
-  lexeme_closes q (Ok false) c old new w m z e = more_none e
-  lexeme_closes q (Err v) c old new w m z e = e
+      let f = closes_one y.1 o (λ st. ap (λ (j : Kind). move (bracket j) (number_of o.bracket ∷ st)) (sym y.2.kind) ∙ (ap (λ (b : OpenBracket). move (bracket t.kind) (number_of b ∷ st)) k ∙ m st)) new (subst (λ (os : List OpenedBracket). StandOpen p.text behind os) i z) in
+      (more_one o.behind v e h (by_closing v f.1 (subst (λ (u : ℕ). ArrowTold p.text u v) (d ∙ y.2.end) n)), subst (λ (u : ℕ). StandOpen p.text u new) (sym y.2.end) f.0, ends_between w)
+  lexeme_closes q (Ok false) c old new d w m z e = more_none e
+  lexeme_closes q (Err v) c old new d w m z e = e
 
   -- it is no bracket
   pub lexeme_plain : {q : Parser} (os : List OpenedBracket) → tells_whole t.kind ≡ true → ((st : List ℕ) → move (bracket t.kind) st ≡ Some st) → StandOpen p.text behind os → q ≡ p → LexemePassed p t q os true
@@ -190,20 +188,41 @@ pub record Looking (o p : Parser) (place : ℕ) (os : List OpenedBracket) : Type
 pub looking_from : {p : Parser} {place : ℕ} {os : List OpenedBracket} → IsCharBoundary p.text place → os ≡ [] → Looking p p place os
 looking_from {p} {place} b e = record { more = more_none refl; stand = subst (λ (v : List OpenedBracket). StandOpen p.text place v) (sym e) tt; between = b }
 
-pub looking_ends : {o p r : Parser} {place : ℕ} {os : List OpenedBracket} (q : Parser) (t : Token) (new : List OpenedBracket) (b : Bool) → Looking o p place os → LexemePassed p t q new b → r ≡ record q { state = record q.state { looked = t.span.end } } → NotesMore o r
+pub looking_ends : {o p r : Parser} {place k : ℕ} {os : List OpenedBracket} (q : Parser) (t : Token) (new : List OpenedBracket) (b : Bool) → Looking o p place os → LexemePassed p t q new b → r ≡ record q { state = record q.state { looked = k } } → NotesMore o r
 looking_ends {p = p} q t new b h x i = more_both h.more (more_both (passed_more p q t new b x) (looked_on i))
 
-pub looking_on : {o p r : Parser} {place : ℕ} {os : List OpenedBracket} (q : Parser) (t : Token) (new : List OpenedBracket) → Looking o p place os → LexemePassed p t q new true → r ≡ record q { state = record q.state { looked = t.span.end } } → Looking o r t.span.end new
-looking_on {o} {p} {r} q t new h x i =
+pub looking_on : {o p r : Parser} {place k : ℕ} {os : List OpenedBracket} (q : Parser) (t : Token) (new : List OpenedBracket) → k ≡ t.span.end → Looking o p place os → LexemePassed p t q new true → r ≡ record q { state = record q.state { looked = k } } → Looking o r k new
+looking_on {o} {p} {r} {k = k} q t new d h x i =
     let e : r.text ≡ p.text = ap (λ (z : Parser). z.text) i ∙ ap (λ (z : Parser). z.text) x.0.is in
-    record { more = looking_ends q t new true h x i; stand = subst (λ (v : List ℕ). StandOpen v t.span.end new) (sym e) x.1; between = subst (λ (v : List ℕ). IsCharBoundary v t.span.end) (sym e) x.2 }
+    let s : StandOpen p.text k new = subst (λ (v : ℕ). StandOpen p.text v new) (sym d) x.1 in
+    let b : IsCharBoundary p.text k = subst (λ (v : ℕ). IsCharBoundary p.text v) (sym d) x.2 in
+    record { more = looking_ends q t new true h x i; stand = subst (λ (v : List ℕ). StandOpen v k new) (sym e) s; between = subst (λ (v : List ℕ). IsCharBoundary v k) (sym e) b }
 
 -- more and more is noted of brackets that don't close
 pub record Noting (o p : Parser) (os : List OpenedBracket) : Type 0 where
   pub more : NotesMore o p
   pub none : NoneCloses o.text os
 
-pub noting_on : {o p q : Parser} {os new : List OpenedBracket} (l : OpenedBracket) → os ≡ new ++ l ∷ [] → Noting o p os → NotesClosing l.behind false p.state q.state → q ≡ record p { state = q.state } → Noting o q new
-noting_on {o} {p} {q} {os} {new} l e n h i =
+pub noting_on : {o p q : Parser} {os new : List OpenedBracket} (l : OpenedBracket) → os ≡ new ++ l ∷ [] → Noting o p os → NotesOne l.behind false p q → Noting o q new
+noting_on {o} {p} {q} {os} {new} l e n (h, i) =
     let z = none_last new l (subst (λ (v : List OpenedBracket). NoneCloses o.text v) e n.none) in
     record { more = more_both n.more (more_one l.behind false i h (subst (λ (t : List ℕ). ByClosing t l.behind false) (sym (ap (λ (w : Parser). w.text) n.more.is)) (by_unclosed z.1))); none = z.0 }
+
+pub found_closing : (place : ℕ) (p q : Parser) (b : Bool) → NotesMore p q → (b ≡ true → is_place q.state.arrows place ≡ true) → FindsClosing place p q b
+found_closing place p q true m h = (m, h refl)
+found_closing place p q false m h = m
+
+-- ---- the same, of a parser seen as p
+
+one_seen : {p q : Parser} (place : ℕ) (b : Bool) → p ≡ q → (s : Notes) → NotesClosing place b p.state s → NotesOne place b q (record p { state = s })
+one_seen {p} place b v s h = subst (λ (z : Parser). NotesOne place b z (record p { state = s })) v (h, refl)
+
+pub one_seen_so : {E : Type 0} {p q : Parser} (place : ℕ) (b : Bool) (r : Result (Unit {0}) E) → p ≡ q → (s : Notes) → OnOk r (NotesClosing place b p.state s) → IfOk r (λ u. NotesOne place b q (record p { state = s }))
+one_seen_so place b (Ok u) v s h = one_seen place b v s h
+one_seen_so place b (Err e) v s h = tt
+
+pub looked_seen : {p q : Parser} {place : ℕ} → p ≡ q → (s : Notes) → s ≡ record p.state { looked = place } → record p { state = s } ≡ record q { state = record q.state { looked = place } }
+looked_seen {p} {place = place} v s e = ap (λ (x : Notes). record p { state = x }) e ∙ ap (λ (z : Parser). record z { state = record z.state { looked = place } }) v
+
+pub attempting_seen : {p q : Parser} {b : Bool} → p ≡ q → (s : Notes) → s ≡ record p.state { attempting = b } → record p { state = s } ≡ record q { state = record q.state { attempting = b } }
+attempting_seen {p} {b = b} v s e = ap (λ (x : Notes). record p { state = x }) e ∙ ap (λ (z : Parser). record z { state = record z.state { attempting = b } }) v

@@ -1,28 +1,25 @@
 -- Brackets that are open, lexeme by lexeme: where they close, and where they don't.
-use Rattle.std.proofs.Common.{ℕ, ◌+◌, ◌≡◌, ◌⊎◌, inl, inr, Bool, true, false, List, [], ◌∷◌, ◌++◌, length, drop, Some, None, refl, sym, ap, subst, arith, ◌∙◌}
+use Rattle.std.proofs.Common.{ℕ, ◌≡◌, List, [], ◌∷◌, ◌++◌, length, drop, Some, refl, sym, ap, subst, arith, ◌∙◌}
 use Rattle.std.specs.Prelude.{IsCharBoundary, IsUtf8, chars}
-use Rattle.std.proofs.lemmas.Bool.{false≢true}
 use Rattle.std.proofs.lemmas.Str.{chars-nil}
 use lib.Seq.{drop-length}
 use Rattle.js_base.specs.declared.kind.Kind.{Kind}
-use Rattle.js_base.specs.declared.kind.Kind.TheVariants.{Eof, Undetermined}
-use Rattle.js_base.specs.declared.token.Token.{Token}
-use Rattle.js_base.specs.Kinds.{same_kind, one_of_kinds}
+use Rattle.js_base.specs.declared.kind.Kind.TheVariants.{Eof}
+use Rattle.js_base.specs.Kinds.{one_of_kinds}
 use Rattle.js_grammar.specs.Brackets.{bracket, move}
 use Rattle.js_grammar.specs.Characters.{width}
-use Rattle.js_grammar.specs.Grammar.{Lexeme, Lexemes, next}
+use Rattle.js_grammar.specs.Grammar.{Lexeme, Lexemes}
 use Rattle.js_grammar.specs.Lexed.{Lexes}
-use Rattle.js_grammar.specs.Lexemes.{division, kind_in}
+use Rattle.js_grammar.specs.Lexemes.{kind_in}
 use Rattle.js_grammar.specs.Longest.{joined}
 use Rattle.js_grammar.proofs.Heads.{One, the_last, and_more}
-use Rattle.laws_shared.specs.js_lex.Reading.{Tells, GivesBehind, LexemeBehind}
 use Rattle.laws_shared.specs.Lexemes.{Lex, signs}
 use Rattle.laws_shared.proofs.Here.{plain_there}
 use Rattle.laws_shared.proofs.js_cursor.Moving.{empty_is_end}
 use Rattle.laws_shared.proofs.js_cursor.Plains.{at_end}
 use Rattle.laws_operators.specs.declared.forms.OpenedBracket.{OpenedBracket}
-use Rattle.laws_operators.specs.Closings.{number_of, Closing, closed, inside, Unclosed, text_ends, none_stands, further, tells_whole, Settled, OpenThere, StandOpen, NoneCloses, opened_behind}
-use Rattle.laws_operators.proofs.Closings.{settled_behind, one_is, none_left, plain_between}
+use Rattle.laws_operators.specs.Closings.{number_of, Closing, closed, inside, Unclosed, text_ends, none_stands, further, Settled, OpenThere, StandOpen, NoneCloses, opened_behind}
+use Rattle.laws_operators.proofs.Closings.{one_is, none_left}
 use Rattle.laws_operators.proofs.OnePlace.{one_told}
 
 -- ---- brackets that never all close

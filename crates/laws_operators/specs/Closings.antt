@@ -1,9 +1,9 @@
 -- Where the parentheses close that begin at a place, by lexemes of the plain lexical goal of which none begins with a slash.
-use Rattle.std.specs.Prelude.{ℕ, ◌≡◌, Bool, true, false, IsTrue, not, List, [], ◌∷◌, ◌++◌, Some, length, IsCharBoundary}
+use Rattle.std.specs.Prelude.{ℕ, ◌≡◌, Bool, true, false, not, List, [], ◌∷◌, ◌++◌, Some, length, IsCharBoundary}
 use Rattle.js_base.specs.declared.kind.Kind.{Kind}
 use Rattle.js_base.specs.declared.kind.Kind.TheVariants.{Arrow, RAngle, Undetermined}
 use Rattle.js_base.specs.Kinds.{one_of_kinds}
-use Rattle.js_grammar.specs.Brackets.{bracket, move, pop}
+use Rattle.js_grammar.specs.Brackets.{bracket, move}
 use Rattle.js_grammar.specs.Grammar.{Lexeme}
 use Rattle.js_grammar.specs.Lexemes.{division}
 use Rattle.js_base.specs.declared.token.Token.{Token}
@@ -62,6 +62,10 @@ abbrev pub ByClosing : List ℕ → ℕ → Bool → Type 0
 ByClosing text s true = (f : Flags) → OnlyArrow text f s
 ByClosing text s false = (f : Flags) → NoHead text f s
 
+-- it was noted of one place
+abbrev pub NotesOne : ℕ → Bool → Parser → Parser → Type 0
+NotesOne place b p q = NotesClosing place b p.state q.state × (q ≡ record p { state = q.state })
+
 -- nothing but what is noted of closings changed, and what is noted of them is so still
 pub record NotesMore (p q : Parser) : Type 0 where
   pub is : q ≡ record p { state = record p.state { arrows = q.state.arrows; others = q.state.others; looked = q.state.looked } }
@@ -94,7 +98,7 @@ LexemePassed p t q os false = NotesMore p q
 
 -- the bracket that was opened last is closed, and it is noted whether `=>` stands behind it; false: another one was opened last, or none
 abbrev pub ClosesLast : OpenBracket → ℕ → Parser → List OpenedBracket → Parser → List OpenedBracket → Bool → Type 0
-ClosesLast b e p old q new true = (o : OpenedBracket) × (old ≡ new ++ o ∷ []) × (o.bracket ≡ b) × (a : Bool) × ArrowTold p.text e a × NotesClosing o.behind a p.state q.state × (q ≡ record p { state = q.state })
+ClosesLast b e p old q new true = (o : OpenedBracket) × (old ≡ new ++ o ∷ []) × (o.bracket ≡ b) × (a : Bool) × ArrowTold p.text e a × NotesOne o.behind a p q
 ClosesLast b e p old q new false = q ≡ p
 
 -- it is noted that `=>` stands behind the parentheses that begin behind the place; false says nothing

@@ -1,5 +1,5 @@
 -- What the lexeme behind an opening parenthesis says of the head of an arrow function (ECMA-262, 15.3).
-use Rattle.std.specs.Prelude.{ℕ, ◌≡◌, Bool, ◌||◌, List, [], ◌∷◌, is_some}
+use Rattle.std.specs.Prelude.{ℕ, Bool, ◌||◌, List, [], ◌∷◌, is_some}
 use Rattle.js_base.specs.declared.kind.Kind.{Kind}
 use Rattle.js_base.specs.declared.kind.Kind.TheVariants.{LParen, New, This}
 use Rattle.js_base.specs.Kinds.{one_of_kinds}

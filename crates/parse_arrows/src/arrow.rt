@@ -5,6 +5,7 @@ ghost use Rattle.parse_arrows.specs.Prelude.{ArgumentsTold, Arrow, arrow_functio
 
 use crate::closing::is_arrow_behind_one;
 use crate::lookahead::is_parenthesized_head;
+use crate::notes::{is_arrow_noted, set_attempting};
 use js_base::{Context, DiagnosticKind, Kind, NoMemory, Span};
 use laws_operators::forms::{ArrowHead, HeadLookahead};
 use laws_operators::patterns::Patterns;
@@ -259,16 +260,28 @@ fn parse_head_at_parenthesis<C: ParserConfig, N: Patterns<C>>(
     ensures { SearchesPlainHead p.old p.new result }
 {
     match is_parenthesized_head(p)? {
-        HeadLookahead::Head => {
-            let parameters = parse_certain_head(p, nested)?;
-            Ok(Some(parameters))
-        }
+        HeadLookahead::Head => find_certain_head(p, nested),
         HeadLookahead::Maybe => {
             let found = attempt_head(p, nested, false)?;
             Ok(found)
         }
         HeadLookahead::NoHead => Ok(None),
     }
+}
+
+/// FormalParameters in parentheses and `=>` behind them, where nothing else can stand. Never None.
+fn find_certain_head<C: ParserConfig, N: Patterns<C>>(
+    p: &mut ParserImpl<'_, C>,
+    nested: &N,
+) -> Result<Option<NodeId>, Stop>
+    requires at { Standing p.old }
+    requires nests { CanNest (N.can nested.now) (room p.old) }
+    requires open { p.old.token.kind ≡ LParen }
+    requires certain { NoOperandHere p.old }
+    ensures { SearchesPlainHead p.old p.new result }
+{
+    let parameters = parse_certain_head(p, nested)?;
+    Ok(Some(parameters))
 }
 
 /// FormalParameters in parentheses and `=>` behind them, where nothing else can stand: what stops them is final.
@@ -336,9 +349,9 @@ fn attempt_parameters<C: ParserConfig, N: Patterns<C>>(
     ensures { MatchResult result (λ found. TriesHead is_async p.old p.new found) OnlyMemory }
 {
     let outer = p.state.is_attempting();
-    p.state.set_attempting(true);
+    set_attempting(p, true);
     let found = try_parse_head(p, nested, is_async)?;
-    p.state.set_attempting(outer);
+    set_attempting(p, outer);
     Ok(found)
 }
 
@@ -411,7 +424,7 @@ fn excludes_operand<C: ParserConfig>(
     if p.operand_failed(place) {
         return Ok(true);
     }
-    if matches!(p.state.arrow_behind(place), Some(true)) {
+    if is_arrow_noted(p, place) {
         return Ok(true);
     }
     if kept_so_far(p) != kept {

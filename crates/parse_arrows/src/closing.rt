@@ -3,6 +3,7 @@
 ghost use Rattle.std.specs.Prelude.{◌≡◌, true, false, [], ◌∷◌, ◌++◌, IfOk, IsCharBoundary};
 ghost use Rattle.parse_arrows.specs.Prelude.{ArrowTold, ClosesLast, FindsClosing, GivesBehind, LexemePassed, NoneCloses, NotesMore, Standing, StandOpen};
 
+use crate::notes::{is_arrow_noted, note_closing, set_looked};
 use js_base::{Kind, NoMemory, Token};
 use laws_operators::forms::{OpenBracket, OpenedBracket};
 use parse_shared::{ParserConfig, ParserImpl};
@@ -17,7 +18,7 @@ pub(crate) fn is_arrow_behind_one<C: ParserConfig>(
     ensures { IfOk result (λ found. FindsClosing place p.old p.new found) }
 {
     look_for_closings(p, place)?;
-    Ok(matches!(p.state.arrow_behind(place), Some(true)))
+    Ok(is_arrow_noted(p, place))
 }
 
 /// Notes of the brackets that begin behind a place, and of all inside, whether `=>` stands behind them. It goes on to where
@@ -31,13 +32,13 @@ pub(crate) fn look_for_closings<C: ParserConfig>(
     requires between { IsCharBoundary p.old.text start }
     ensures { IfOk result (λ _. NotesMore p.old p.new) }
 {
-    let mut open = Vec::new(p.alloc);
+    let mut brackets = Vec::new(p.alloc);
     let mut place = start;
     'lexemes: for _ in start..u32::MAX {
         let next = p.lexer.token_behind(place)?;
-        let goes_on = pass_lexeme(p, &mut open, place, next)?;
+        let goes_on = pass_lexeme(p, &mut brackets, place, next)?;
         place = next.span().end;
-        p.state.set_looked(place);
+        set_looked(p, place);
         if !goes_on {
             return Ok(());
         }
@@ -50,25 +51,25 @@ pub(crate) fn look_for_closings<C: ParserConfig>(
 /// is no more to look for.
 fn pass_lexeme<C: ParserConfig>(
     p: &mut ParserImpl<'_, C>,
-    open: &mut Vec<OpenedBracket>,
+    brackets: &mut Vec<OpenedBracket>,
     behind: u32,
     next: Token,
 ) -> Result<bool, NoMemory>
     requires at { Standing p.old }
     requires between { IsCharBoundary p.old.text behind }
     requires gives { GivesBehind p.old.text behind next }
-    requires open { StandOpen p.old.text behind open.old.items }
-    ensures { IfOk result (λ on. LexemePassed p.old next p.new open.new.items on) }
+    requires stand { StandOpen p.old.text behind brackets.old.items }
+    ensures { IfOk result (λ on. LexemePassed p.old next p.new brackets.new.items on) }
 {
     match next.kind() {
-        Kind::LParen => open_bracket(open, OpenBracket::Round, behind),
-        Kind::LBrack => open_bracket(open, OpenBracket::Square, behind),
-        Kind::LCurly => open_bracket(open, OpenBracket::Curly, behind),
-        Kind::RParen => close_bracket(p, open, OpenBracket::Round, next.span().end),
-        Kind::RBrack => close_bracket(p, open, OpenBracket::Square, next.span().end),
-        Kind::RCurly => close_bracket(p, open, OpenBracket::Curly, next.span().end),
-        Kind::Undetermined => note_unclosed(p, open),
-        Kind::Eof => note_unclosed(p, open),
+        Kind::LParen => open_bracket(brackets, OpenBracket::Round, behind),
+        Kind::LBrack => open_bracket(brackets, OpenBracket::Square, behind),
+        Kind::LCurly => open_bracket(brackets, OpenBracket::Curly, behind),
+        Kind::RParen => close_bracket(p, brackets, OpenBracket::Round, next.span().end),
+        Kind::RBrack => close_bracket(p, brackets, OpenBracket::Square, next.span().end),
+        Kind::RCurly => close_bracket(p, brackets, OpenBracket::Curly, next.span().end),
+        Kind::Undetermined => note_unclosed(p, brackets),
+        Kind::Eof => note_unclosed(p, brackets),
         Kind::RAngle => Ok(false),
         Kind::Slash | Kind::SlashEq => Ok(false),
         Kind::TemplateHead | Kind::TemplateMiddle | Kind::TemplateTail => Ok(false),
@@ -78,13 +79,13 @@ fn pass_lexeme<C: ParserConfig>(
 
 /// Opens a bracket behind a place.
 fn open_bracket(
-    open: &mut Vec<OpenedBracket>,
+    brackets: &mut Vec<OpenedBracket>,
     bracket: OpenBracket,
     behind: u32,
 ) -> Result<bool, NoMemory>
-    ensures items { IfOk result (λ on. (on ≡ true) × (open.new.items ≡ open.old.items ++ record { bracket = bracket; behind = behind } ∷ [])) }
+    ensures { IfOk result (λ on. (on ≡ true) × (brackets.new.items ≡ brackets.old.items ++ record { bracket = bracket; behind = behind } ∷ [])) }
 {
-    open.push(OpenedBracket { bracket, behind })?;
+    brackets.push(OpenedBracket { bracket, behind })?;
     Ok(true)
 }
 
@@ -92,35 +93,42 @@ fn open_bracket(
 /// ends. False: it isn't, or none is open.
 fn close_bracket<C: ParserConfig>(
     p: &mut ParserImpl<'_, C>,
-    open: &mut Vec<OpenedBracket>,
+    brackets: &mut Vec<OpenedBracket>,
     bracket: OpenBracket,
     end: u32,
 ) -> Result<bool, NoMemory>
     requires at { Standing p.old }
     requires between { IsCharBoundary p.old.text end }
-    ensures { IfOk result (λ on. ClosesLast bracket end p.old open.old.items p.new open.new.items on) }
+    ensures { IfOk result (λ on. ClosesLast bracket end p.old brackets.old.items p.new brackets.new.items on) }
 {
-    let Some(last) = open.pop() else {
+    let Some(last) = brackets.pop() else {
         return Ok(false);
     };
-    if last.bracket != bracket {
+    if !is_same(last.bracket, bracket) {
         return Ok(false);
     }
     let found = is_arrow_at(p, end)?;
-    p.state.note_closing(last.behind, found)?;
+    note_closing(p, last.behind, found)?;
     Ok(true)
+}
+
+/// Whether they are one bracket.
+fn is_same(last: OpenBracket, bracket: OpenBracket) -> bool
+    ensures { result ≡ true → last ≡ bracket }
+{
+    last == bracket
 }
 
 /// Notes of brackets, of which none closes, that no `=>` stands behind them.
 fn note_unclosed<C: ParserConfig>(
     p: &mut ParserImpl<'_, C>,
-    open: &mut Vec<OpenedBracket>,
+    brackets: &mut Vec<OpenedBracket>,
 ) -> Result<bool, NoMemory>
-    requires { NoneCloses p.old.text open.old.items }
+    requires { NoneCloses p.old.text brackets.old.items }
     ensures { IfOk result (λ on. (on ≡ false) × NotesMore p.old p.new) }
 {
-    'brackets: while let Some(last) = open.pop() {
-        p.state.note_closing(last.behind, false)?;
+    'brackets: while let Some(last) = brackets.pop() {
+        note_closing(p, last.behind, false)?;
     }
     Ok(false)
 }

@@ -4,3 +4,4 @@
 pub mod arrow;
 pub mod closing;
 pub mod lookahead;
+pub mod notes;

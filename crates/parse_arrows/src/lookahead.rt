@@ -1,9 +1,10 @@
 //! What the lexeme behind an opening parenthesis says of the head of an arrow function (ECMA-262, section 15.3).
 
-ghost use Rattle.std.specs.Prelude.{◌≡◌, IfOk, MatchResult};
-ghost use Rattle.parse_arrows.specs.Prelude.{begins_operand, LooksAhead, LParen, OnlyMemory, Standing};
+ghost use Rattle.std.specs.Prelude.{◌≡◌, IfOk, IsCharBoundary, MatchResult};
+ghost use Rattle.parse_arrows.specs.Prelude.{begins_operand, LooksAhead, LParen, NotesMore, OnlyMemory, Standing};
 
 use crate::closing::look_for_closings;
+use crate::notes::arrow_behind;
 use js_base::{Kind, NoMemory};
 use laws_operators::forms::HeadLookahead;
 use parse_shared::{ParserConfig, ParserImpl, Stop};
@@ -39,14 +40,24 @@ fn look_behind_closing<C: ParserConfig>(
     ensures { IfOk result (λ found. LooksAhead p.old p.new found) }
 {
     let place = p.prev_token_end();
-    if p.state.is_attempting() && p.state.looked() <= place {
-        look_for_closings(p, place)?;
-    }
-    match p.state.arrow_behind(place) {
+    look_through(p, place)?;
+    match arrow_behind(p, place) {
         Some(true) => Ok(HeadLookahead::Head),
         Some(false) => Ok(HeadLookahead::NoHead),
         None => Ok(HeadLookahead::Maybe),
     }
+}
+
+/// Looks through the text from a place on, where a head is being attempted and that wasn't done.
+fn look_through<C: ParserConfig>(p: &mut ParserImpl<'_, C>, place: u32) -> Result<(), NoMemory>
+    requires at { Standing p.old }
+    requires between { IsCharBoundary p.old.text place }
+    ensures { IfOk result (λ _. NotesMore p.old p.new) }
+{
+    if !p.state.is_attempting() || p.state.looked() > place {
+        return Ok(());
+    }
+    look_for_closings(p, place)
 }
 
 /// Whether a lexeme is one of those that begin an expression, and neither a parameter nor a rest: a literal, a sign, `(`,

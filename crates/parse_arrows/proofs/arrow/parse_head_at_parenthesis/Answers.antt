@@ -1,28 +1,30 @@
 use Rattle.std.proofs.Common.{false, arith, ◌∙◌}
 use Rattle.parse_shared.proofs.laws_shared.Moving.{standing}
 use Rattle.parse_shared.proofs.laws_shared.Nesting.{later_room, nests_later}
-use Rattle.laws_operators.proofs.Lookaheads.{none_read, operand_there, seen_so, seen_unmoved, stops_there}
-use Rattle.laws_operators.proofs.SlashedHeads.{attempted, attempted_there, found_there}
+use Rattle.laws_operators.proofs.Lookaheads.{none_read, operand_there, seen_so, seen_unmoved, searches_there}
+use Rattle.laws_operators.proofs.SlashedHeads.{attempted, attempted_there}
 use Rattle.parse_arrows.proofs.arrow.parse_head_at_parenthesis.Goals as goal
 
-pub parse_certain_head-requires-clause-at : goal.parse_certain_head-requires-clause-at
-parse_certain_head-requires-clause-at g c = standing ((seen_unmoved c.args.p.now c.is_parenthesized_head.new.p c.in_ok-is_parenthesized_head.field-0 c.in_ok-is_parenthesized_head.ensures).at _ _ c.requires.at)
+pub find_certain_head-requires-clause-at : goal.find_certain_head-requires-clause-at
+find_certain_head-requires-clause-at g c = standing ((seen_unmoved c.args.p.now c.is_parenthesized_head.new.p c.in_ok-is_parenthesized_head.field-0 c.in_ok-is_parenthesized_head.ensures).at _ _ c.requires.at)
 
-pub parse_certain_head-requires-clause-nests : goal.parse_certain_head-requires-clause-nests
-parse_certain_head-requires-clause-nests g c =
+pub find_certain_head-requires-clause-nests : goal.find_certain_head-requires-clause-nests
+find_certain_head-requires-clause-nests g c =
     let u = seen_unmoved c.args.p.now c.is_parenthesized_head.new.p c.in_ok-is_parenthesized_head.field-0 c.in_ok-is_parenthesized_head.ensures in
     nests_later c.requires.nests (let v = u.place in later_room (omega arith) u.same)
 
-pub parse_certain_head-requires-clause-open : goal.parse_certain_head-requires-clause-open
-parse_certain_head-requires-clause-open g c = (seen_unmoved c.args.p.now c.is_parenthesized_head.new.p c.in_ok-is_parenthesized_head.field-0 c.in_ok-is_parenthesized_head.ensures).kind ∙ c.requires.open
+pub find_certain_head-requires-clause-open : goal.find_certain_head-requires-clause-open
+find_certain_head-requires-clause-open g c = (seen_unmoved c.args.p.now c.is_parenthesized_head.new.p c.in_ok-is_parenthesized_head.field-0 c.in_ok-is_parenthesized_head.ensures).kind ∙ c.requires.open
 
-pub parse_certain_head-requires-clause-certain : goal.parse_certain_head-requires-clause-certain
-parse_certain_head-requires-clause-certain g c =
+pub find_certain_head-requires-clause-certain : goal.find_certain_head-requires-clause-certain
+find_certain_head-requires-clause-certain g c =
     let x = seen_so c.args.p.now c.is_parenthesized_head.new.p c.in-Head.is c.in_ok-is_parenthesized_head.ensures in
     operand_there c.requires.at x.0 x.1
 
-pub returns-in_ok-parameters-in-Head : goal.returns-in_ok-parameters-in-Head
-returns-in_ok-parameters-in-Head g c = found_there (seen_unmoved c.args.p.now c.is_parenthesized_head.new.p c.in_ok-is_parenthesized_head.field-0 c.in_ok-is_parenthesized_head.ensures) c.parse_certain_head.new.p _ c.in_ok-parameters-in-Head.ensures
+pub returns-in-Head : goal.returns-in-Head
+returns-in-Head g c =
+    let x = seen_so c.args.p.now c.is_parenthesized_head.new.p c.in-Head.is c.in_ok-is_parenthesized_head.ensures in
+    searches_there c.find_certain_head.new.p c.find_certain_head.result x.0 x.1 c.find_certain_head.ensures
 
 pub attempt_head-requires-clause-at : goal.attempt_head-requires-clause-at
 attempt_head-requires-clause-at g c = standing ((seen_unmoved c.args.p.now c.is_parenthesized_head.new.p c.in_ok-is_parenthesized_head.field-0 c.in_ok-is_parenthesized_head.ensures).at _ _ c.requires.at)
