@@ -1,7 +1,7 @@
 use Rattle.std.proofs.Common.{Option, refl, ap, ◌++◌, ◌∙◌}
 use Rattle.std.specs.Prelude.{option_to_list}
 use Rattle.laws_operators.specs.declared.forms.OpenedBracket.{OpenedBracket}
-use Rattle.laws_operators.proofs.NotedClosings.{Noting, more_none, noting_on}
+use Rattle.laws_operators.proofs.NotedClosings.{more_none, noting_on}
 use Rattle.parse_arrows.proofs.closing.note_unclosed.Goals as goal
 
 pub brackets-init : goal.brackets-init
