@@ -15,13 +15,13 @@ pub expect-requires : goal.expect-requires
 expect-requires g c = (private_taken _ _ _ _ _ c.requires.at c.requires.private c.in_ok-name.ensures).answer.at.at
 
 pub returns-in_err-expect : goal.returns-in_err-expect
-returns-in_err-expect g c = λ text f a.
+returns-in_err-expect g c =
     let p = err_from_is_err_and c.from_residual-in_err-expect.result c.from_residual-in_err-expect.ensures.1 in
     let l = c.requires.low in let h = c.requires.high in
-    rw (p.1, p.2) (no_in_stops a c.requires.private (private_taken text f _ _ _ a c.requires.private c.in_ok-name.ensures) (c.args.least - 5) (omega arith) _ _ c.in_err-expect.ensures)
+    rw (p.1, p.2) (λ text f a. no_in_stops a c.requires.private (private_taken text f _ _ _ a c.requires.private c.in_ok-name.ensures) (c.args.least - 5) (omega arith) _ _ c.in_err-expect.ensures)
 
-pub refuse_private_name-requires-2-clause-at : goal.refuse_private_name-requires-2-clause-at
-refuse_private_name-requires-2-clause-at g c =
+pub refuse_private_name-requires-then-at-clause-at : goal.refuse_private_name-requires-then-at-clause-at
+refuse_private_name-requires-then-at-clause-at g c =
     let x = private_taken _ _ _ _ _ c.requires.at c.requires.private c.in_ok-name.ensures in
     let i = c.in_ok-expect.ensures in
     standing (expected x.answer.at In i.0 i.1 refl refl).at
@@ -33,7 +33,7 @@ returns-then-at g c = λ text f a.
     let d = expected x.answer.at In i.0 i.1 refl refl in
     let k = c.at.ensures.0 c.if-at.true in
     let l = c.requires.low in let h = c.requires.high in
-    right_stops a c.requires.private x i.0 d (c.args.least - 5) (omega arith) _ c.refuse_private_name-2.result (private_stops PrivateInPrivate _ _ c.refuse_private_name-2.result d.at refl c.refuse_private_name-2.ensures (no_shift d.at k))
+    right_stops a c.requires.private x i.0 d (c.args.least - 5) (omega arith) _ c.refuse_private_name-then-at.result (private_stops PrivateInPrivate _ _ c.refuse_private_name-then-at.result d.at refl c.refuse_private_name-then-at.ensures (no_shift d.at k))
 
 pub returns : goal.returns
 returns g c = λ text f a.
