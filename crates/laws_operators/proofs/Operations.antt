@@ -31,7 +31,7 @@ use Rattle.laws_shared.specs.js_tree.Holding.{Holds, Keeps}
 use Rattle.laws_shared.proofs.js_tree.HoldingLemmas.{Keeps-trans, Keeps-made}
 use Rattle.laws_shared.specs.js_cursor.Moves.{is_last}
 use Rattle.laws_shared.specs.js_cursor.Parsers.{Parser}
-use Rattle.laws_shared.specs.Lexemes.{Lex, Plain, other_goals, Walked, spot, is_read_kind}
+use Rattle.laws_shared.specs.Lexemes.{Lex, Plain, other_goals, Walked, spot}
 use Rattle.laws_shared.specs.States.{At, Same}
 use Rattle.laws_shared.specs.Moves.{Moved, Tightness, MadeHere, operation_label}
 use Rattle.laws_shared.specs.Operators.{power_of}

@@ -1,10 +1,10 @@
 -- Loops over operators where each foot has a test of its own for what may stand behind it.
-use Rattle.std.proofs.Common.{ℕ, ◌≡◌, ◌≤◌, ◌+◌, ◌⊎◌, inl, inr, IsTrue, refl, sym, subst, arith}
+use Rattle.std.proofs.Common.{ℕ, ◌≡◌, ◌≤◌, ◌+◌, ◌⊎◌, inl, inr, refl, sym, subst}
 use Rattle.js_grammar.specs.Trees.{Slots, end, tree, Label}
-use Rattle.js_grammar.specs.Grammar.{Lexeme, Lexemes, here, seen, Grammar, nothing, such, Takes, is_nothing, is_such}
+use Rattle.js_grammar.specs.Grammar.{Lexeme, Lexemes, here, Grammar, nothing, such, Takes, is_nothing, is_such}
 use Rattle.js_grammar.specs.Lexed.{Lexes}
 use Rattle.js_grammar.specs.Parsing.{always, full, Test, Way, Admits, Reads, Fails}
-use Rattle.js_grammar.specs.Towers.{Link, linked_label, Tower, Tail, tail_none, tail_more, Around}
+use Rattle.js_grammar.specs.Towers.{Tower, Tail, tail_none, tail_more, Around}
 use Rattle.js_grammar.proofs.Calculus.{label_is, slots_are, Heads, Within, here_at}
 use Rattle.js_grammar.proofs.First.{FirstSets, starting}
 use Rattle.js_grammar.proofs.Loops.{Follows}

@@ -1,9 +1,8 @@
 -- A private name before `in`, as an operand: it is read where nothing else can be, and fails where it may not stand.
-use Rattle.std.proofs.Common.{ℕ, zero, suc, ◌≡◌, ◌<◌, ◌≤◌, ◌+◌, ◌-◌, ◌⊎◌, inl, inr, max, Bool, true, false, ◌||◌, IsTrue, List, [], ◌∷◌, Some, Option, length, refl, sym, ap, subst, arith, ◌∙◌}
+use Rattle.std.proofs.Common.{ℕ, zero, suc, ◌≡◌, ◌<◌, ◌≤◌, ◌-◌, ◌⊎◌, inl, inr, max, Bool, true, false, ◌||◌, IsTrue, List, [], ◌∷◌, Some, length, refl, sym, ap, subst, arith, ◌∙◌}
 use Rattle.std.specs.Prelude.{◌↔◌, None, Err}
 use Rattle.js_base.specs.Contexts.{has_flag, in_flag}
 use Rattle.std.proofs.lemmas.Bool.{false≢true}
-use Rattle.js_base.specs.declared.diagnostic.Diagnostic.{Diagnostic}
 use Rattle.js_base.specs.declared.diagnostic.DiagnosticKind.{DiagnosticKind}
 use Rattle.js_base.specs.declared.diagnostic.DiagnosticKind.TheVariants.{ExpectToken, PrivateInPrivate, UnexpectedPrivateIdentifier}
 use Rattle.js_base.specs.declared.kind.Kind.{Kind}
@@ -12,13 +11,13 @@ use Rattle.js_base.specs.declared.span.Span.{Span}
 use Rattle.js_base.specs.Kinds.{same_kind}
 use Rattle.js_base.specs.Texts.{words}
 use Rattle.js_grammar.specs.Trees.{Label, Slots, Span as TreeSpan, end, tree, private_in_expression, of}
-use Rattle.js_grammar.specs.Grammar.{Lexeme, Lexemes, Look, here, seen, exact, such, nothing, never, Takes, when, is_such, is_seq, is_lexeme, is_when, ◌▸◌}
+use Rattle.js_grammar.specs.Grammar.{Lexeme, Lexemes, Look, here, seen, exact, such, nothing, Takes, when, is_such, is_seq, is_lexeme, is_when, ◌▸◌}
 use Rattle.js_grammar.specs.Follow.{after, edge_of, follow, looser, row_of, tight, widest}
 use Rattle.js_grammar.specs.FirstSets.{first}
 use Rattle.js_grammar.specs.Levels.{feet_at, level_at, private_in}
 use Rattle.js_grammar.specs.Lexed.{NextLexeme, all_faults}
 use Rattle.js_grammar.specs.Marks.{EdgeOf, Mark, StandsAt, a_lexeme, the_end, the_start}
-use Rattle.js_grammar.specs.Parsing.{Test, Admits, Fails, Reads, always, full, plain}
+use Rattle.js_grammar.specs.Parsing.{Test, Admits, Fails, always, full, plain}
 use Rattle.js_grammar.specs.Productions.{G, Flags, at, op, tok, Exponent, PrivateName, Shift}
 use Rattle.js_grammar.specs.Productions.{sym as symbol}
 use Rattle.js_grammar.specs.RightEdges.{of_operand}
@@ -41,7 +40,7 @@ use Rattle.laws_shared.specs.js_tree.declared.id.NodeId.{NodeId}
 use Rattle.laws_shared.specs.js_tree.Holding.{Holds, Keeps}
 use Rattle.laws_shared.specs.js_tree.Nodes.{Node}
 use Rattle.laws_shared.proofs.js_tree.HoldingLemmas.{Keeps-made, Keeps-trans}
-use Rattle.laws_shared.specs.Answers.{Answer, Numbered, Stops, Stretch, Underived, beside}
+use Rattle.laws_shared.specs.Answers.{Numbered, Stops, Stretch, Underived, beside}
 use Rattle.laws_shared.specs.Classes.{EndsParse}
 use Rattle.laws_shared.specs.Lexemes.{Lex, Plain}
 use Rattle.laws_shared.specs.Moves.{MadeHere, Moved}
@@ -56,7 +55,7 @@ use Rattle.laws_shared.proofs.Moving.{beside_nodes, same_both, same_with, stops_
 use Rattle.laws_shared.proofs.Paths.{Path, ◌⟶◌, ◌⟶✗◌, called, label_here, last_called, noded_by, token}
 use Rattle.laws_shared.proofs.Verdicts.{grown_then, verdict_of}
 use Rattle.laws_shared.proofs.Verdicts.{after as grown_behind}
-use Rattle.laws_operators.specs.PrivateOperands.{PrivateTaken, private_in_label, tells_private}
+use Rattle.laws_operators.specs.PrivateOperands.{private_in_label, tells_private}
 use Rattle.laws_operators.proofs.Operations.{Operand, Ring, level_rows, looser_or}
 use Rattle.laws_operators.proofs.PrivateLoops.{Unread, start_each, start_none}
 

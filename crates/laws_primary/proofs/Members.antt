@@ -77,7 +77,6 @@ use Rattle.laws_shared.proofs.Parts.{part_path, part_path_fails, parts, part_sig
 use Rattle.laws_shared.proofs.Signs.{plain_sign, other_kind}
 use Rattle.laws_primary.specs.declared.forms.LinkBase.{LinkBase}
 use Rattle.laws_primary.specs.declared.forms.LinkBase.TheVariants as base
-use Rattle.js_base.specs.Texts.{words}
 use Rattle.js_grammar.specs.Lexemes.{is_word}
 use Rattle.js_grammar.specs.RightEdges.{same_row, may_end}
 use Rattle.laws_shared.proofs.Classes.{here_ends}

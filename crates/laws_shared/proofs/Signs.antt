@@ -5,7 +5,6 @@ use Rattle.js_base.specs.declared.kind.Kind.{Kind}
 use Rattle.js_base.specs.declared.kind.Kind.TheVariants.{Question, Colon, PrivateIdentifier, RAngle, Undetermined}
 use Rattle.js_base.specs.declared.span.Span.{Span}
 use Rattle.js_base.specs.Kinds.{same_kind, one_of_kinds}
-
 use Rattle.js_base.specs.Texts.{words}
 use Rattle.js_grammar.specs.Grammar.{Lexeme, Look, is, seen}
 use Rattle.js_grammar.specs.Lexemes.{is_word, is_escaped}

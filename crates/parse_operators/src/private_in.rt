@@ -43,10 +43,7 @@ fn takes_comparison<C: ParserConfig>(p: &ParserImpl<'_, C>, least: u8) -> bool
 }
 
 /// Gives up at a private name.
-fn refuse_private_name<C: ParserConfig>(
-    p: &mut ParserImpl<'_, C>,
-    kind: DiagnosticKind,
-) -> Stop
+fn refuse_private_name<C: ParserConfig>(p: &mut ParserImpl<'_, C>, kind: DiagnosticKind) -> Stop
     requires at { Standing p.old }
     requires private { p.old.token.kind ≡ PrivateIdentifier }
     requires kind { tells_private kind ≡ true }

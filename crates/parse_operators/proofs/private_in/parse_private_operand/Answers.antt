@@ -1,4 +1,4 @@
-use Rattle.std.proofs.Common.{refl, sym, ◌∙◌, ◌-◌, ap, arith}
+use Rattle.std.proofs.Common.{refl, ◌-◌, arith}
 use Rattle.std.proofs.lemmas.Result.{err_from_is_err_and}
 use Rattle.js_base.specs.declared.diagnostic.DiagnosticKind.TheVariants.{PrivateInPrivate, UnexpectedPrivateIdentifier}
 use Rattle.js_base.specs.declared.kind.Kind.TheVariants.{In}
