@@ -27,10 +27,10 @@ pub record Edges {N : Type 0} (rule : N → Grammar N) (X X' : Test) (x : Link N
   pub ends : (es : Slots) (j : ℕ) (ls mid : Lexemes) (y : Lexeme) → Takes rule x.part end es s' ls end j mid → Admits X (tree (linked_label x from j) (tree l cs es) end) y → Admits X' es y
 
 module _ {N : Type 0} {rule : N → Grammar N} {w : Tower rule} {m : ℕ} where
-  renamed : {v v' c : ℕ} {l l' a : Label} {cs cs' bs : Slots} {i k : ℕ} {ls rest : Lexemes} → v ≡ v' → l ≡ l' → cs ≡ cs' → Tail w m v c l cs i ls a bs k rest → Tail w m v' c l' cs' i ls a bs k rest
+  pub renamed : {v v' c : ℕ} {l l' a : Label} {cs cs' bs : Slots} {i k : ℕ} {ls rest : Lexemes} → v ≡ v' → l ≡ l' → cs ≡ cs' → Tail w m v c l cs i ls a bs k rest → Tail w m v' c l' cs' i ls a bs k rest
   renamed {v} {v'} {c} {l} {l'} {a} {cs} {cs'} {bs} {i} {k} {ls} {rest} p q r t = subst (λ z. Tail w m v' c l' z i ls a bs k rest) r (subst (λ z. Tail w m v' c z cs i ls a bs k rest) q (subst (λ z. Tail w m z c l cs i ls a bs k rest) p t))
 
-  moved : {from c : ℕ} {l a : Label} {cs bs us : Slots} {s' j k : ℕ} {ls' mid rest : Lexemes} → Takes rule nothing end us s' ls' end j mid → Tail w m from c l cs j mid a bs k rest → Tail w m from c l cs s' ls' a bs k rest
+  pub moved : {from c : ℕ} {l a : Label} {cs bs us : Slots} {s' j k : ℕ} {ls' mid rest : Lexemes} → Takes rule nothing end us s' ls' end j mid → Tail w m from c l cs j mid a bs k rest → Tail w m from c l cs s' ls' a bs k rest
   moved is_nothing t = t
 
   grown : {from c : ℕ} {l a : Label} {cs bs ds us : Slots} {s' j k : ℕ} {ls' mid rest : Lexemes} (x : Link N) (f : Slots → Slots) → Takes rule nothing end us s' ls' end j mid → ds ≡ f us → Tail w m from c (linked_label x from j) (tree l cs ds) j mid a bs k rest
@@ -107,7 +107,7 @@ unfollowed {N} {rule} {Lex} {X} {X'} {ks} {g} {s} {s'} {rn} {f} r c n = record {
 
 module _ {N : Type 0} {rule : N → Grammar N} (C : FirstSets rule) where
   module _ {w : Tower rule} {m : ℕ} where
-    starting_tail : (X X' : Test) (ts : Slots) {from c : ℕ} {l l' : Label} {cs cs' : Slots} {i k : ℕ} {mid rest : Lexemes} → Tail w m from c l cs i mid l' cs' k rest → Admits X (tree l' cs' end) (here rest) → Follows C.first w m c X' → (Admits X (tree l cs end) (here mid) → Admits X' ts (here mid)) → Admits X' ts (here mid)
+    pub starting_tail : (X X' : Test) (ts : Slots) {from c : ℕ} {l l' : Label} {cs cs' : Slots} {i k : ℕ} {mid rest : Lexemes} → Tail w m from c l cs i mid l' cs' k rest → Admits X (tree l' cs' end) (here rest) → Follows C.first w m c X' → (Admits X (tree l cs end) (here mid) → Admits X' ts (here mid)) → Admits X' ts (here mid)
     starting_tail X X' ts tail_none e f h = h e
     starting_tail X X' ts {mid = mid} (tail_more {q = q} {x = x} a b t y p d) e f h = f.goes q x (a, b, t, y) ts (here mid) (starting C full p refl)
 

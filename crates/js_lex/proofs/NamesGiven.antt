@@ -60,7 +60,7 @@ plain_scalars [] h = cc
 plain_scalars (c ∷ cs) h = both (is_scalar c) (list_all is_scalar cs) (scalar_start c (both-left (is_identifier_start c) (list_all is_identifier_part cs) h)) (scalar_parts cs (both-right (is_identifier_start c) (list_all is_identifier_part cs) h))
 
 -- each escape of a name is well-formed, and names no surrogate
-name_stands_for : (w ps : List ℕ) → name_of w ≡ Some ps → IsSome (name_text w)
+pub name_stands_for : (w ps : List ℕ) → name_of w ≡ Some ps → IsSome (name_text w)
 name_stands_for w ps e =
     let n = named_parts (code_points in_name w) ps e in
     subst (λ (o : Option (List ℕ)). IsSome (utf8_of o)) (sym n.0) (subst (λ (b : Bool). IsSome (only_if b (flat_map encode_utf8 ps))) (sym (plain_scalars ps n.1)) refl)

@@ -1,25 +1,14 @@
 -- Loops over operators where each foot has a test of its own for what may stand behind it.
 use Rattle.std.proofs.Common.{ℕ, ◌≡◌, ◌≤◌, ◌+◌, ◌⊎◌, inl, inr, refl, sym, subst}
 use Rattle.js_grammar.specs.Trees.{Slots, end, tree, Label}
-use Rattle.js_grammar.specs.Grammar.{Lexeme, Lexemes, here, Grammar, nothing, such, Takes, is_nothing, is_such}
+use Rattle.js_grammar.specs.Grammar.{Lexeme, Lexemes, here, Grammar, such, Takes, is_nothing, is_such}
 use Rattle.js_grammar.specs.Lexed.{Lexes}
-use Rattle.js_grammar.specs.Parsing.{always, full, Test, Way, Admits, Reads, Fails}
-use Rattle.js_grammar.specs.Towers.{Tower, Tail, tail_none, tail_more, Around}
+use Rattle.js_grammar.specs.Parsing.{always, Test, Way, Admits, Reads, Fails}
+use Rattle.js_grammar.specs.Towers.{Tower, Tail, Around}
 use Rattle.js_grammar.proofs.Calculus.{label_is, slots_are, Heads, Within, here_at}
-use Rattle.js_grammar.proofs.First.{FirstSets, starting}
-use Rattle.js_grammar.proofs.Loops.{Follows}
+use Rattle.js_grammar.proofs.First.{FirstSets}
+use Rattle.js_grammar.proofs.Loops.{Follows, moved, renamed, starting_tail}
 use Rattle.js_grammar.proofs.Towers.{Foot, Lawful, unroll, roll, on_foot, foot_high, foot_low}
-
-module _ {N : Type 0} {rule : N → Grammar N} {w : Tower rule} {m : ℕ} where
-  renamed : {v v' c : ℕ} {l l' a : Label} {cs cs' bs : Slots} {i k : ℕ} {ls rest : Lexemes} → v ≡ v' → l ≡ l' → cs ≡ cs' → Tail w m v c l cs i ls a bs k rest → Tail w m v' c l' cs' i ls a bs k rest
-  renamed {v} {v'} {c} {l} {l'} {a} {cs} {cs'} {bs} {i} {k} {ls} {rest} p q r t = subst (λ z. Tail w m v' c l' z i ls a bs k rest) r (subst (λ z. Tail w m v' c z cs i ls a bs k rest) q (subst (λ z. Tail w m z c l cs i ls a bs k rest) p t))
-
-  moved : {from c : ℕ} {l a : Label} {cs bs us : Slots} {s' j k : ℕ} {ls' mid rest : Lexemes} → Takes rule nothing end us s' ls' end j mid → Tail w m from c l cs j mid a bs k rest → Tail w m from c l cs s' ls' a bs k rest
-  moved is_nothing t = t
-
-  starting_tail : (C : FirstSets rule) (X X' : Test) (ts : Slots) {from c : ℕ} {l l' : Label} {cs cs' : Slots} {i k : ℕ} {mid rest : Lexemes} → Tail w m from c l cs i mid l' cs' k rest → Admits X (tree l' cs' end) (here rest) → Follows C.first w m c X' → (Admits X (tree l cs end) (here mid) → Admits X' ts (here mid)) → Admits X' ts (here mid)
-  starting_tail C X X' ts tail_none e f h = h e
-  starting_tail C X X' ts {mid = mid} (tail_more {q = q} {x = x} a b t y p d) e f h = f.goes q x (a, b, t, y) ts (here mid) (starting C full p refl)
 
 -- a foot that can't be read before what passes its test
 pub record Unread {N : Type 0} {rule : N → Grammar N} (C : FirstSets rule) (Lex : ℕ → Lexeme → Type 0) (w : Tower rule) (m : ℕ) (X : Test) (s c : ℕ) (g : Grammar N) : Type 0 where

@@ -1,12 +1,9 @@
 -- What nodes keep of their text, and what tokens tell of it.
 use Rattle.std.proofs.Common.{ℕ, ◌≡◌, ◌≤◌, ◌+◌, ◌++◌, ◌==◌, Bool, true, false, cond, ◌&&◌, ◌||◌, List, [], ◌∷◌, drop, Option, Some, None, refl, sym, ap, subst, arith, ◌∙◌}
-use Rattle.std.specs.Prelude.{IsSome, chars, slice_range, flat_map}
-use Rattle.std.specs.Char.{encode_utf8}
-use Rattle.std.specs.List.{list_all}
-use Rattle.std.proofs.lemmas.Bool.{false≢true, and_from, and_parts, eqb-true}
-use Rattle.js_base.specs.part_text.Characters.{is_decimal, is_scalar}
-use Rattle.js_base.specs.part_text.Decoding.{name_text, only_if, utf8_of}
-use Rattle.js_base.specs.part_text.Escapes.{code_points, in_name}
+use Rattle.std.specs.Prelude.{IsSome, chars, slice_range}
+use Rattle.std.proofs.lemmas.Bool.{false≢true, eqb-true}
+use Rattle.js_base.specs.part_text.Characters.{is_decimal}
+use Rattle.js_base.specs.part_text.Decoding.{name_text}
 use Rattle.js_base.specs.KindSets.{identifier_name_kinds, binding_identifier_kinds}
 use Rattle.js_base.specs.Kinds.{same_kind, one_of_kinds}
 use Rattle.js_base.specs.Texts.{words}
@@ -14,26 +11,22 @@ use Rattle.js_base.specs.declared.kind.Kind.{Kind}
 use Rattle.js_base.specs.declared.kind.Kind.TheVariants.{PrivateIdentifier, Str}
 use Rattle.js_base.specs.declared.span.Span.{Span}
 use Rattle.js_base.specs.declared.token.Token.{Token}
-use Rattle.js_grammar.specs.Characters.{begins, is_identifier_part, is_identifier_start, width}
+use Rattle.js_grammar.specs.Characters.{begins, width}
 use Rattle.js_grammar.specs.Grammar.{Look}
 use Rattle.js_grammar.specs.Lexemes.{LexicalGoal, Opening, a_private_name, division, is_word, kind_in, kind_of, opening}
 use Rattle.js_grammar.specs.LexicalFaults.{behind}
 use Rattle.js_grammar.specs.Longest.{joined}
-use Rattle.js_grammar.specs.Names.{has_backslash, is_plain_name, name_of, named, private_of}
+use Rattle.js_grammar.specs.Names.{has_backslash, name_of, private_of}
 use Rattle.js_grammar.specs.Productions.{Flags}
 use Rattle.js_grammar.specs.Strings.{string_kind}
 use Rattle.js_grammar.proofs.Looks.{covers, covered}
 use Rattle.js_cursor.specs.part_words.Places.{Word}
-use Rattle.js_cursor.specs.part_words.Names.{may_stand}
-use Rattle.js_cursor.specs.part_words.declared.name.Position.{Position}
-use Rattle.js_cursor.specs.part_words.declared.name.Position.TheVariants.{Start, Part}
 use Rattle.js_cursor.specs.js_lex.Reading.{GivesLexeme}
 use Rattle.js_cursor.proofs.js_lex.Again.{cancel}
 use Rattle.js_cursor.proofs.part_words.Flags.{others_stand, spelled}
 use Rattle.js_cursor.proofs.part_words.KindsOfLexemes.{opened, opened_is, plain_end}
-use Rattle.js_cursor.proofs.part_words.NameSurrogates.{may_stand-scalar}
 use Rattle.js_cursor.proofs.js_lex.Given.{string_of_kind}
-use Rattle.js_cursor.proofs.js_lex.NamesGiven.{name_of_kind, word_opened}
+use Rattle.js_cursor.proofs.js_lex.NamesGiven.{name_of_kind, name_stands_for, word_opened}
 use Rattle.js_cursor.proofs.part_scan.StringPlaces.{front_word}
 use Rattle.js_cursor.specs.Parsers.{Parser}
 use Rattle.js_cursor.specs.Places.{IsAt}
@@ -119,34 +112,6 @@ spells_name {text} {p = p} a h = by a.plain
     by (nothing c k n) = absurd (no_word p.token _ refl k h)
 
 -- ---- private names
-
-named_parts : (o : Option (List ℕ)) (ps : List ℕ) → named o ≡ Some ps → (o ≡ Some ps) × (is_plain_name ps ≡ true)
-named_parts None ps e = cc
-named_parts (Some cs) ps e = go (is_plain_name cs) refl e
-  where
-    go : (b : Bool) → is_plain_name cs ≡ b → elim b [ true ↦ Some cs | false ↦ None ] ≡ Some ps → (Some cs ≡ Some ps) × (is_plain_name ps ≡ true)
-    go true f g = (g, let h : cs ≡ ps = cc in subst (λ (v : List ℕ). is_plain_name v ≡ true) h f)
-    go false f g = absurd (let h = g in cc)
-
-scalar_at : (p : Position) (c : ℕ) → may_stand p c ≡ true → is_scalar c ≡ true
-scalar_at p c h = go (is_scalar c) refl
-  where
-    go : (b : Bool) → is_scalar c ≡ b → is_scalar c ≡ true
-    go true e = e
-    go false e = absurd (false≢true (sym (may_stand-scalar p c e) ∙ h))
-
-scalar_parts : (cs : List ℕ) → list_all is_identifier_part cs ≡ true → list_all is_scalar cs ≡ true
-scalar_parts [] h = refl
-scalar_parts (c ∷ cs) h = let z = and_parts (is_identifier_part c) (list_all is_identifier_part cs) h in and_from (is_scalar c) (list_all is_scalar cs) (scalar_at Part c z.0) (scalar_parts cs z.1)
-
-plain_scalars : (ps : List ℕ) → is_plain_name ps ≡ true → list_all is_scalar ps ≡ true
-plain_scalars [] h = cc
-plain_scalars (c ∷ cs) h = let z = and_parts (is_identifier_start c) (list_all is_identifier_part cs) h in and_from (is_scalar c) (list_all is_scalar cs) (scalar_at Start c z.0) (scalar_parts cs z.1)
-
-name_stands_for : (w ps : List ℕ) → name_of w ≡ Some ps → IsSome (name_text w)
-name_stands_for w ps e =
-    let n = named_parts (code_points in_name w) ps e in
-    subst (λ (o : Option (List ℕ)). IsSome (utf8_of o)) (sym n.0) (subst (λ (b : Bool). IsSome (only_if b (flat_map encode_utf8 ps))) (sym (plain_scalars ps n.1)) refl)
 
 -- the characters of a private name: `#` and a name
 private_parts : (w rest : List ℕ) → kind_in division w rest ≡ Some PrivateIdentifier → (cs : List ℕ) × (w ≡ 35 ∷ cs) × IsSome (name_text cs)

@@ -2,12 +2,13 @@
 use Rattle.std.specs.Prelude.{ℕ, ◌-◌, ◌≡◌, Bool, true, false, not, cond, ◌&&◌, List, [], ◌∷◌, ◌++◌, length, take, IsTrue}
 use Rattle.js_base.specs.declared.diagnostic.Diagnostic.{Diagnostic}
 use Rattle.js_base.specs.declared.kind.Kind.{Kind}
-use Rattle.js_base.specs.declared.kind.Kind.TheVariants.{Ident, Yield, Await, RegExp, TemplateMiddle, TemplateTail, Slash, SlashEq, RCurly, HashbangComment, Undetermined}
+use Rattle.js_base.specs.declared.kind.Kind.TheVariants.{Ident, Yield, Await, RegExp, TemplateMiddle, TemplateTail, Slash, SlashEq, RCurly}
 use Rattle.js_base.specs.Kinds.{same_kind, one_of_kinds}
 use Rattle.js_base.specs.KindSets.{binding_identifier_kinds}
 use Rattle.js_grammar.specs.Grammar.{Lexeme, Lexemes, next}
-use Rattle.js_grammar.specs.Lexed.{NextLexeme, Lexes, all_faults, passing_of}
+use Rattle.js_grammar.specs.Lexed.{NextLexeme, Lexes, all_faults}
 use Rattle.js_grammar.specs.Lexemes.{LexicalGoal, division, regular_expression, template_tail}
+pub use Rattle.js_grammar.specs.ReadLexemes.{unread_kinds, is_read_kind, is_read, Faultless}
 use Rattle.js_grammar.specs.Settings.{Goal}
 use Rattle.js_base.specs.declared.span.Span.{Span}
 use Rattle.js_base.specs.declared.token.Token.{Token}
@@ -18,21 +19,6 @@ use Rattle.js_cursor.specs.js_lex.Reading.{Tells, is_kept, kept_token}
 use Rattle.js_cursor.specs.js_lex.States.{State}
 use Rattle.js_cursor.specs.Parsers.{Parser}
 use Rattle.js_cursor.specs.Places.{goal}
-
--- The kinds that aren't read, and that of a token where no lexeme stands.
-abbrev pub unread_kinds : List Kind
-unread_kinds = HashbangComment ∷ Undetermined ∷ []
-
-abbrev pub is_read_kind : Kind → Bool
-is_read_kind k = not (one_of_kinds unread_kinds k)
-
--- a lexeme of these kinds
-abbrev pub is_read : Lexeme → Bool
-is_read y = is_read_kind y.kind
-
--- A lexeme that is read may stand there with no fault: in a module no HTML-like comment stands before it (ECMA-262, B.1.1)
-abbrev pub Faultless : Goal → List ℕ → ℕ → Lexeme → Type 0
-Faultless source text s y = NextLexeme (passing_of source) text s y × IsTrue (is_read y)
 
 -- Whether it is a name by the parameters Yield and Await (ECMA-262, 13.1): a name or a word that isn't reserved, but for `yield` under Yield and `await` under Await.
 abbrev pub may_name : Bool → Bool → Kind → Bool
