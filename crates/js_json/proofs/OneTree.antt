@@ -1,5 +1,5 @@
 -- Trees whose labels have words of their own and that have one value are one tree.
-use Rattle.std.proofs.Common.{◌≡◌, ℕ, List, ◌∷◌, codes, refl, ap}
+use Rattle.std.proofs.Common.{◌≡◌, ℕ, List, codes, refl, ap}
 use Rattle.serde_json.specs.Data.{Data, null, number, unsigned, string, object, member, no_members}
 use Rattle.js_grammar.specs.Trees.{Label, Slots, end, hole, tree, Tree}
 use Rattle.js_grammar.specs.Lines.{kind_text, flag_words}
