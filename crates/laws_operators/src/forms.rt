@@ -14,11 +14,13 @@ pub struct ArrowHead {
 /// What may begin with an opening parenthesis.
 #[derive(Clone, Copy)]
 pub enum HeadLookahead {
-    /// A head and nothing else: `...` stands behind it, with which no expression begins.
+    /// A head and nothing else: `...` stands behind it, with which no expression begins, or `=>` behind the parenthesis that
+    /// closes.
     Head,
     /// A head, or an expression.
     Maybe,
-    /// No head: no parameter begins with what stands behind it, and it isn't `)`.
+    /// No head: no parameter begins with what stands behind it, and it isn't `)`; or no `=>` stands behind the parenthesis
+    /// that closes.
     NoHead,
 }
 
