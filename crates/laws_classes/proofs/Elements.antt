@@ -1,0 +1,101 @@
+-- Elements of classes (ECMA-262, 15.7): what stands around a member, and its node.
+use Rattle.std.proofs.Common.{ℕ, ◌≡◌, ◌≤◌, max, Bool, true, false, List, [], ◌∷◌, length, Option, Some, None, refl, sym, ap, subst, arith, ◌∙◌}
+use Rattle.std.specs.Prelude.{Result, Ok, Err}
+use Rattle.js_base.specs.declared.kind.Kind.TheVariants.{Static}
+use Rattle.js_grammar.specs.Trees.{Label, NodeKind, Op, Slots, end, tree}
+use Rattle.js_grammar.specs.Grammar.{Lexemes, here, keep, kept, many, node, nothing, seq, Takes, is_nothing, is_seq, is_left, is_right, is_many, is_keep, is_kept, ◌▸◌}
+use Rattle.js_grammar.specs.Lexed.{Lexes}
+use Rattle.js_grammar.specs.Parsing.{Test, plain, full, still, Admits, Reaches, Goes, Reads, Fails}
+use Rattle.js_grammar.specs.Productions.{G, Flags, make, only, tok, Decorator}
+use Rattle.js_grammar.specs.Productions.{sym as symbol}
+use Rattle.js_grammar.specs.Table.{rule}
+use Rattle.js_grammar.proofs.Looks.{apart}
+use Rattle.js_grammar.proofs.Calculus.{◌▹◌, ◌▹✗◌, done, fails_node, inside_full, part_fails, passes_none, stay, weaken_fails}
+use Rattle.laws_primary.specs.js_tree.declared.id.NodeId.{NodeId}
+use Rattle.laws_primary.specs.js_tree.Nodes.{Node}
+use Rattle.laws_primary.specs.js_tree.Holding.{Holds, HoldsAll, Keeps}
+use Rattle.laws_primary.specs.js_cursor.Parsers.{Parser}
+use Rattle.laws_primary.specs.js_cursor.declared.stop.Stop.{Stop}
+use Rattle.laws_primary.specs.laws_shared.Answers.{Stops}
+use Rattle.laws_primary.specs.laws_shared.Arguments.{Partway}
+use Rattle.laws_primary.specs.laws_shared.Lexemes.{Lex}
+use Rattle.laws_primary.specs.laws_shared.Moves.{Moved}
+use Rattle.laws_primary.specs.laws_shared.States.{At, Same, NodesLie}
+use Rattle.laws_primary.proofs.laws_shared.Dead.{fails_dead}
+use Rattle.laws_primary.proofs.laws_shared.MadeNodes.{LabelLies, from_start}
+use Rattle.laws_primary.proofs.laws_shared.Moving.{beside_nodes, same_itself, same_both, same_with, stops_so}
+use Rattle.laws_primary.proofs.laws_shared.Parts.{part_from, part_path_fails, part_sign, parts}
+use Rattle.laws_primary.proofs.laws_shared.Paths.{Path, ◌⟶✗◌, token}
+use Rattle.laws_primary.proofs.laws_shared.Verdicts.{verdict_of}
+use Rattle.laws_primary.proofs.AsyncWords.{any_between, part_within}
+use Rattle.laws_classes.specs.Elements.{Begun, ElementOutcome, ElementTaken, NoElement, behind_element, element_slots}
+
+-- ---- what is kept
+
+module _ {text : List ℕ} {s : ℕ} {X : Test} where
+  -- decorators aren't read yet
+  pub no_decorator : (f : Flags) → Fails rule (Lex text) X end (symbol Decorator f) s
+  unfolding apart
+  no_decorator f = fails_dead (symbol Decorator f) refl
+
+  -- nothing is kept
+  pub kept_none : Reads rule (Lex text) X end kept s s (λ us. us) (still 0)
+  kept_none = record { passes = passes_none; sound = λ us vs k ls rest l w d. to us vs k ls rest d; only = λ ts vs k ls rest l d e. from ts vs k ls rest l d }
+    where
+      to : (us vs : Slots) (k : ℕ) (ls rest : Lexemes) → Takes rule nothing end us s ls vs k rest → Takes rule kept end us s ls vs k rest
+      to us vs k ls rest is_nothing = is_kept refl
+
+      from : (ts vs : Slots) (k : ℕ) (ls rest : Lexemes) → Lexes (Lex text) s ls → Takes rule kept end ts s ls vs k rest → (us : Slots) × (more : Lexemes) × (ts ≡ us) × Lexes (Lex text) s more × Takes rule nothing end us s more vs k rest × (ls ≡ more)
+      from ts vs k ls rest l (is_kept q) = (vs, ls, q, l, is_nothing, refl)
+
+  -- of items of which none stands here
+  pub none_kept : {a b : G} → Fails rule (Lex text) (plain full) end a s → Goes rule (Lex text) X end (keep (many a) b) s b s (λ us. us) (still 0)
+  none_kept {a} {b} n = record { passes = passes_none; sound = λ us vs k ls rest l w d. is_keep (is_many (is_right is_nothing)) d; only = λ ts vs k ls rest l d e. from ts vs k ls rest l d }
+    where
+      from : (ts vs : Slots) (k : ℕ) (ls rest : Lexemes) → Lexes (Lex text) s ls → Takes rule (keep (many a) b) end ts s ls vs k rest → (us : Slots) × (more : Lexemes) × (ts ≡ us) × Lexes (Lex text) s more × Takes rule b end us s more vs k rest × (ls ≡ more)
+      from ts vs k ls rest l (is_keep (is_many (is_left (is_seq {us = us} {j = j} {mid = mid} d d'))) e) = absurd (n.no _ us j ls mid l d (refl, refl))
+      from ts vs k ls rest l (is_keep (is_many (is_right is_nothing)) e) = (ts, ls, refl, l, e, refl)
+
+-- ---- a member behind its `static`, or without one
+
+module _ {text : List ℕ} {f : Flags} where
+  begun_part : (st : Bool) {first p q : Parser} {g g' : G} {js : List (Option NodeId)} → At text f first → Begun st text f first p → Partway text f (g ▸ kept) g' p q [] js → Partway text f (element_slots st f g) g' first q [] js
+  begun_part false {first} {p} {q} {g} {g'} {js} a e x = subst (λ (v : Parser). Partway text f (element_slots false f g) g' v q [] js) e (part_from (none_kept (no_decorator f) ▹ done) x)
+  begun_part true a (h, m) x = part_from (none_kept (no_decorator f)) (parts (part_sign Static a h.0 h.1 refl m) x)
+
+  pub element_part : (st : Bool) {first p q : Parser} {g g' : G} {js : List (Option NodeId)} → At text f first → Begun st text f first p → Partway text f g g' p q [] js → Partway text f (element_slots st f g) (g' ▸ kept) first q [] js
+  element_part st a b x = begun_part st a b (part_within x)
+
+  begun_fails : (st : Bool) {X : Test} {first : Parser} (p : Parser) {g : G} → At text f first → Begun st text f first p → Fails rule (Lex text) X end (g ▸ kept) p.prev_token_end → Fails rule (Lex text) X end (element_slots st f g) first.prev_token_end
+  begun_fails false {X} {first} p {g} a e n = subst (λ (v : Parser). Fails rule (Lex text) X end (element_slots false f g) v.prev_token_end) e (none_kept (no_decorator f) ▹✗ (done ▹✗ n))
+  begun_fails true {X} {first} p {g} a (h, m) n = none_kept (no_decorator f) ▹✗ (token Static a h.0 h.1 refl m ⟶✗ n)
+
+  -- where the member isn't derived, no element of it is
+  pub no_element : (st : Bool) {X : Test} {first : Parser} (p : Parser) {g : G} (k : NodeKind) (o : Op) (fl : ℕ) → At text f first → Begun st text f first p → Fails rule (Lex text) (plain full) end g p.prev_token_end → Fails rule (Lex text) X end (make k o fl (element_slots st f g)) first.prev_token_end
+  no_element st p k o fl a b n = fails_node inside_full (begun_fails st p a b (part_fails n any_between))
+
+-- ---- the answer
+
+module _ {text : List ℕ} {f : Flags} {g : G} {p q w : Parser} {l : Label} {cs : Slots} {id : NodeId} (b : Same p q) (e : w ≡ record q { nodes = w.nodes }) (h : Holds w.nodes (length p.nodes) (length w.nodes) id.0 l cs) (k : Keeps p.nodes w.nodes) (i : l.span ≡ record { from = p.token.span.start; to = q.prev_token_end }) (m : LabelLies q.text l → NodesLie q.text q.nodes → NodesLie q.text w.nodes) where
+  pub element_answers : Path text f behind_element g p nothing q (tree l cs) → ElementTaken text f g p w id
+  element_answers y = go w.nodes e h k m
+    where
+      go : (ns : List Node) → w ≡ record q { nodes = ns } → Holds w.nodes (length p.nodes) (length w.nodes) id.0 l cs → Keeps p.nodes w.nodes → (LabelLies q.text l → NodesLie q.text q.nodes → NodesLie q.text w.nodes) → ElementTaken text f g p w id
+      go ns e h k m = subst (λ (r : Parser). ElementTaken text f g p r id) (sym e) (record {
+        at = beside_nodes ns y.at;
+        same = same_with ns b (subst (λ (r : Parser). Keeps p.nodes r.nodes) e k) (λ c z. subst (λ (r : Parser). NodesLie q.text r.nodes) e (m (from_start l b y.at.at (let g = y.further in omega arith) i c) z));
+        further = y.further;
+        label = l;
+        slots = cs;
+        pass = y.pass;
+        walked = y.walked;
+        verdict = y.verdict;
+        holds = subst (λ (r : Parser). Holds r.nodes (length p.nodes) (length r.nodes) id.0 l cs) e h;
+        keeps = subst (λ (r : Parser). Keeps p.nodes r.nodes) e k;
+      })
+
+-- a choice that leaves this form
+module _ (text : List ℕ) (f : Flags) (p : Parser) where
+  pub element_by : {g g' : G} (q : Parser) (r : Result NodeId Stop) → Goes rule (Lex text) behind_element end g p.prev_token_end g' p.prev_token_end (λ us. us) (still 0) → ElementOutcome text f g' p q r → ElementOutcome text f g p q r
+  element_by q (Ok id) c x = record { at = x.at; same = x.same; further = x.further; label = x.label; slots = x.slots; pass = x.pass; walked = x.walked; verdict = verdict_of x.verdict (λ y. record { reach = max 0 y.reach; near = let i = y.near in omega arith; goes = c ▹ y.goes }) (λ n. c ▹✗ n); holds = x.holds; keeps = x.keeps }
+  element_by q (Err e) c x = stops_so p q e (λ n. c ▹✗ n) x

@@ -1,0 +1,4 @@
+pub mod Elements
+pub mod Names
+pub mod Methods
+pub use Rattle.laws_primary.specs as laws_primary

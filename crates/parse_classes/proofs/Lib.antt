@@ -1,0 +1,1 @@
+pub use Rattle.laws_classes.proofs as laws_classes

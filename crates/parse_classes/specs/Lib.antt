@@ -1,0 +1,2 @@
+pub mod Prelude
+pub use Rattle.laws_classes.specs as laws_classes

@@ -1,0 +1,7 @@
+//! Elements of classes (ECMA-262, section 15.7).
+#![tactic(auto)]
+
+pub mod element_name;
+pub mod method;
+
+pub use laws_classes::forms;
