@@ -1,7 +1,7 @@
 -- Names of elements of classes (ECMA-262, 15.7): those of properties, and private names.
 use Rattle.std.proofs.Common.{ℕ, ◌≡◌, max, Bool, true, false, not, List, [], ◌∷◌, ◌++◌, Option, Some, refl, sym, ap, subst, arith}
 use Rattle.std.specs.Prelude.{Result, Ok, Err}
-use Rattle.js_grammar.specs.Trees.{Slots, end}
+use Rattle.js_grammar.specs.Trees.{Slots, end, tree}
 use Rattle.js_grammar.specs.Grammar.{Lexemes, here, never, is_left, is_right, ◌▸◌}
 use Rattle.js_grammar.specs.Lexed.{Lexes}
 use Rattle.js_grammar.specs.Parsing.{Test, plain, full, still, Goes, Fails}
@@ -9,7 +9,7 @@ use Rattle.js_grammar.specs.Productions.{G, Flags, PrivateName}
 use Rattle.js_grammar.specs.Productions.{sym as symbol}
 use Rattle.js_grammar.specs.Table.{rule, name}
 use Rattle.js_grammar.proofs.Looks.{apart}
-use Rattle.js_grammar.proofs.Calculus.{◌▹◌, ◌▹✗◌, both, passes_none, stay}
+use Rattle.js_grammar.proofs.Calculus.{◌▹◌, ◌▹✗◌, both, part_fails, passes_none, stay, then_by}
 use Rattle.laws_primary.specs.declared.forms.PropertyName.{PropertyName}
 use Rattle.laws_primary.specs.js_tree.declared.id.NodeId.{NodeId}
 use Rattle.laws_primary.specs.js_cursor.Parsers.{Parser}
@@ -20,6 +20,7 @@ use Rattle.laws_primary.specs.laws_shared.Lexemes.{Lex}
 use Rattle.laws_primary.specs.laws_shared.States.{At}
 use Rattle.laws_primary.proofs.laws_shared.Dead.{fails_dead}
 use Rattle.laws_primary.proofs.laws_shared.Moving.{stops_so}
+use Rattle.laws_primary.proofs.laws_shared.Paths.{Path}
 use Rattle.laws_primary.proofs.laws_shared.Verdicts.{verdict_of}
 use Rattle.laws_primary.specs.PropertyNames.{NameRead, NamesProperty, NoName, NoNames}
 use Rattle.laws_primary.proofs.Wholes.{whole_part}
@@ -56,3 +57,15 @@ names_element p q (Err e) x = λ text f a. stops_so p q e (λ n c. no_key c f (n
 -- it is the next child
 pub key_part : {text : List ℕ} {f : Flags} {c : Bool} {p q : Parser} {id : NodeId} {b : G} → KeyRead text f c p q id → Partway text f (name c true f ▸ b) b p q [] (Some id ∷ [])
 key_part x = whole_part x.whole []
+
+-- a path over it
+pub key_path : {text : List ℕ} {f : Flags} {c : Bool} {p q : Parser} {id : NodeId} {X : Test} {b : G} (x : KeyRead text f c p q id) → Path text f X (name c true f ▸ b) p b q (tree x.whole.label x.whole.slots)
+key_path x = record {
+  at = x.whole.at;
+  further = x.whole.further;
+  pass = x.whole.pass;
+  walked = x.whole.walked;
+  verdict = verdict_of x.whole.verdict
+      (λ y. record { reach = y.reach; near = y.near; goes = then_by {X' = plain full} y.goes (record { admits = λ ts us vs j k ls mid rest d d' e. (refl, refl) }) })
+      (λ n. part_fails {X' = plain full} n (record { admits = λ ts us vs j k ls mid rest d d' e. (refl, refl) }));
+}

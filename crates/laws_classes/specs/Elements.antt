@@ -1,6 +1,9 @@
 -- Elements of classes (ECMA-262, 15.7), and what is answered of one.
-use Rattle.std.specs.Prelude.{ℕ, ◌+◌, ◌≡◌, ◌<◌, Bool, true, false, length, List, Result, Ok, Err}
-use Rattle.js_base.specs.declared.kind.Kind.TheVariants.{Static}
+use Rattle.std.specs.Prelude.{ℕ, ◌+◌, ◌≡◌, ◌<◌, Bool, true, false, length, List, [], ◌∷◌, ◌++◌, Result, Ok, Err}
+use Rattle.js_base.specs.declared.kind.Kind.{Kind}
+use Rattle.js_base.specs.declared.kind.Kind.TheVariants.{At as at_sign, LBrack, PrivateIdentifier, RCurly, Semicolon, Star, Static, Str}
+use Rattle.js_base.specs.KindSets.{identifier_name_kinds, number_kinds}
+use Rattle.js_base.specs.Kinds.{one_of_kinds}
 use Rattle.js_grammar.specs.Trees.{Label, Slots, end, tree}
 use Rattle.js_grammar.specs.Grammar.{Lexemes, keep, kept, many, nothing, ◌▸◌}
 use Rattle.js_grammar.specs.Parsing.{Test, plain, full, Fails}
@@ -16,11 +19,16 @@ use Rattle.laws_primary.specs.laws_shared.Lexemes.{Lex, Walked, spot}
 use Rattle.laws_primary.specs.laws_shared.Moves.{Moved}
 use Rattle.laws_primary.specs.laws_shared.Stands.{StandsHere}
 use Rattle.laws_primary.specs.laws_shared.States.{At, Same}
-use Rattle.laws_primary.specs.laws_shared.Statements.{no_link}
 
--- What may stand behind an element: neither a link nor a colon, which begin none and close no class.
+-- What may stand behind an element: another one, a semicolon alone, or the end of the class. First what is neither a number nor a word.
+abbrev pub other_behind_kinds : List Kind
+other_behind_kinds = Str ∷ PrivateIdentifier ∷ LBrack ∷ Star ∷ at_sign ∷ Semicolon ∷ RCurly ∷ []
+
+abbrev pub behind_kinds : List Kind
+behind_kinds = other_behind_kinds ++ number_kinds ++ identifier_name_kinds
+
 abbrev pub behind_element : Test
-behind_element = plain no_link
+behind_element = plain (λ k w e. one_of_kinds behind_kinds k)
 
 -- the slots of an element: its decorators, kept; `static` or none; and g
 abbrev pub element_slots : Bool → Flags → G → G

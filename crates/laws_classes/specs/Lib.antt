@@ -1,4 +1,5 @@
 pub mod Elements
+pub mod Fields
 pub mod Names
 pub mod Methods
 pub use Rattle.laws_primary.specs as laws_primary

@@ -8,3 +8,12 @@ pub struct ElementHead {
     /// Whether `static` stands before it.
     pub is_static: bool,
 }
+
+/// Which field an element of a class is.
+#[derive(Clone, Copy)]
+pub enum FieldKind {
+    /// A FieldDefinition.
+    Property,
+    /// A field behind `accessor` (of the proposal of decorators).
+    Accessor,
+}

@@ -2,6 +2,7 @@
 #![tactic(auto)]
 
 pub mod element_name;
+pub mod field;
 pub mod method;
 
 pub use laws_classes::forms;
