@@ -66,7 +66,7 @@ module _ {text : List ℕ} {f : Flags} where
   pub element_part : (st : Bool) {first p q : Parser} {g g' : G} {js : List (Option NodeId)} → At text f first → Begun st text f first p → Partway text f g g' p q [] js → Partway text f (element_slots st f g) (g' ▸ kept) first q [] js
   element_part st a b x = begun_part st a b (part_within x)
 
-  begun_fails : (st : Bool) {X : Test} {first : Parser} (p : Parser) {g : G} → At text f first → Begun st text f first p → Fails rule (Lex text) X end (g ▸ kept) p.prev_token_end → Fails rule (Lex text) X end (element_slots st f g) first.prev_token_end
+  pub begun_fails : (st : Bool) {X : Test} {first : Parser} (p : Parser) {g : G} → At text f first → Begun st text f first p → Fails rule (Lex text) X end (g ▸ kept) p.prev_token_end → Fails rule (Lex text) X end (element_slots st f g) first.prev_token_end
   begun_fails false {X} {first} p {g} a e n = subst (λ (v : Parser). Fails rule (Lex text) X end (element_slots false f g) v.prev_token_end) e (none_kept (no_decorator f) ▹✗ (done ▹✗ n))
   begun_fails true {X} {first} p {g} a (h, m) n = none_kept (no_decorator f) ▹✗ (token Static a h.0 h.1 refl m ⟶✗ n)
 

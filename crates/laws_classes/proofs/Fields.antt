@@ -119,7 +119,7 @@ pub record OneTree (ts us : Slots) : Type 0 where
   pub slots : Slots
   pub is : ts ≡ tree label slots us
 
-name_is_tree : (c p : Bool) (f : Flags) {ks ts us : Slots} {i j : ℕ} {ls rest : Lexemes} → Takes rule (name c p f) ks ts i ls us j rest → OneTree ts us
+pub name_is_tree : (c p : Bool) (f : Flags) {ks ts us : Slots} {i j : ℕ} {ls rest : Lexemes} → Takes rule (name c p f) ks ts i ls us j rest → OneTree ts us
 name_is_tree true p f (is_seq (is_lexeme q) (is_seq (is_such d c) (is_lexeme r))) = record { label = _; slots = _; is = refl }
 name_is_tree false p f (is_left (is_such d c)) = record { label = _; slots = _; is = refl }
 name_is_tree false p f (is_right (is_left (is_node d))) = record { label = _; slots = _; is = refl }
@@ -267,7 +267,7 @@ module _ {text : List ℕ} {f : Flags} {s g c : Bool} {g0 : G} {first p q : Pars
 -- ---- the element
 
 -- behind what is kept nothing is read
-kept_between : {a : G} {s : ℕ} → Between rule behind_element behind_element end a kept s
+pub kept_between : {a : G} {s : ℕ} → Between rule behind_element behind_element end a kept s
 kept_between = record { admits = λ ts us vs j k ls mid rest d d' e. by ts d' e }
   where
     by : {us vs : Slots} {j k : ℕ} {mid rest : Lexemes} (ts : Slots) → Takes rule kept end us j mid vs k rest → Admits behind_element ts (here rest) → Admits behind_element ts (here mid)

@@ -1,5 +1,7 @@
 pub mod Elements
 pub mod Fields
+pub mod AccessorMembers
 pub mod Names
+pub mod Members
 pub mod Methods
 pub use Rattle.laws_primary.proofs as laws_primary

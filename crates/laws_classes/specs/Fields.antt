@@ -51,7 +51,6 @@ pub record FieldNamed (text : List ℕ) (f : Flags) (s g c : Bool) (g0 : G) (fir
   pub begins : Begins text f g0 (ended (by_field s g) (field_parts c f) ▸ kept) first p
   pub named : KeyRead text f c p q key
   pub word : Lexeme
-  pub stands : Lex text p.prev_token_end word
   pub only : (y : Lexeme) → Lex text p.prev_token_end y → y ≡ word
   pub plain : (y : Lexeme) → Lex text q.prev_token_end y → seen (after_name s g word) y ≡ one_of_kinds (Eq ∷ LParen ∷ []) y.kind
 

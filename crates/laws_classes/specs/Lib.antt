@@ -1,5 +1,6 @@
 pub mod Elements
 pub mod Fields
 pub mod Names
+pub mod Members
 pub mod Methods
 pub use Rattle.laws_primary.specs as laws_primary

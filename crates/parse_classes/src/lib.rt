@@ -1,6 +1,7 @@
 //! Elements of classes (ECMA-262, section 15.7).
 #![tactic(auto)]
 
+pub mod accessor_member;
 pub mod element_name;
 pub mod field;
 pub mod method;
