@@ -1,6 +1,9 @@
+pub mod ConstructorNames
 pub mod Elements
 pub mod Fields
 pub mod AccessorMembers
+pub mod WordFields
+pub mod WordMembers
 pub mod Names
 pub mod Members
 pub mod Methods

@@ -47,7 +47,7 @@ No text s g = Fails rule (Lex text) behind_element end g s
 -- ---- one of the lines
 
 module _ {text : List ℕ} (st : Bool) (f : Flags) {s : ℕ} where
-  one_of_two : (c : Bool) → No text s (forms st (not c) f) → No text s (constructors st f) → Goes rule (Lex text) behind_element end (members st f) s (forms st c f) s (λ us. us) (still 0)
+  pub one_of_two : (c : Bool) → No text s (forms st (not c) f) → No text s (constructors st f) → Goes rule (Lex text) behind_element end (members st f) s (forms st c f) s (λ us. us) (still 0)
   one_of_two false n m = left m ▹ left n
   one_of_two true n m = left m ▹ right n
 
@@ -71,7 +71,7 @@ module _ {text : List ℕ} (st : Bool) (f : Flags) {s : ℕ} where
 pub record Quiet (t : G) : Type 0 where
   pub takes : {ks ts us : Slots} {i j : ℕ} {ls rest : Lexemes} → Takes rule t ks ts i ls us j rest → (ts ≡ us) × (i ≡ j) × (ls ≡ rest)
 
-quiet_nothing : Quiet nothing
+pub quiet_nothing : Quiet nothing
 quiet_nothing = record { takes = λ d. by d }
   where
     by : {ks ts us : Slots} {i j : ℕ} {ls rest : Lexemes} → Takes rule nothing ks ts i ls us j rest → (ts ≡ us) × (i ≡ j) × (ls ≡ rest)
@@ -83,7 +83,7 @@ quiet_named = record { takes = λ d. by d }
     by : {ks ts us : Slots} {i j : ℕ} {ls rest : Lexemes} → Takes rule named_constructor ks ts i ls us j rest → (ts ≡ us) × (i ≡ j) × (ls ≡ rest)
     by (is_seq (is_look q) (is_text r)) = (refl, refl, refl)
 
-quiet_unnamed : Quiet not_constructor
+pub quiet_unnamed : Quiet not_constructor
 quiet_unnamed = record { takes = λ d. by d }
   where
     by : {ks ts us : Slots} {i j : ℕ} {ls rest : Lexemes} → Takes rule not_constructor ks ts i ls us j rest → (ts ≡ us) × (i ≡ j) × (ls ≡ rest)
@@ -94,7 +94,7 @@ pub quiet_test : (b : Bool) → Quiet (cond b nothing not_constructor)
 quiet_test true = quiet_nothing
 quiet_test false = quiet_unnamed
 
-quiet_fails : {text : List ℕ} {t g : G} {s : ℕ} → Quiet t → Fails rule (Lex text) (plain full) end g s → Fails rule (Lex text) (plain full) end (t ▸ g) s
+pub quiet_fails : {text : List ℕ} {t g : G} {s : ℕ} → Quiet t → Fails rule (Lex text) (plain full) end g s → Fails rule (Lex text) (plain full) end (t ▸ g) s
 quiet_fails {text} {t} {g} {s} q n = record { no = λ ts vs k ls rest l d e. by ts vs k ls rest l d }
   where
     by : (ts vs : Slots) (k : ℕ) (ls rest : Lexemes) → Lexes (Lex text) s ls → Takes rule (t ▸ g) end ts s ls vs k rest → ⊥
@@ -138,7 +138,7 @@ module _ {text : List ℕ} {f : Flags} {p q : Parser} (a : At text f p) (w : one
 
   -- no method, where no parameters stand behind the word, and it is no `async`
   module _ (h : one_of_kinds (LParen ∷ []) q.token.kind ≡ false) where
-    no_parameters : (c : Bool) → Fails rule (Lex text) (plain full) end (name c true f ▸ method_left Method false false f) p.prev_token_end
+    pub no_parameters : (c : Bool) → Fails rule (Lex text) (plain full) end (name c true f ▸ method_left Method false false f) p.prev_token_end
     unfolding covers apart
     no_parameters true = no_first no_bracket_key
     no_parameters false = key_word ⟶✗ fails_at m.at (method_left Method false false f) (LParen ∷ []) refl h

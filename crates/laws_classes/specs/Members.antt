@@ -1,9 +1,10 @@
 -- Members of classes (ECMA-262, 15.7): the lines of an element but the static block, by what is read of them first.
-use Rattle.std.specs.Prelude.{ℕ, ◌≡◌, Bool, true, false, not, cond, ◌||◌, List, [], ◌∷◌, ◌++◌, Result}
+use Rattle.std.specs.Prelude.{ℕ, ◌≡◌, ◌⊎◌, Bool, true, false, not, cond, ◌&&◌, ◌||◌, List, [], ◌∷◌, ◌++◌, Result}
 use Rattle.js_base.specs.declared.kind.Kind.{Kind}
-use Rattle.js_base.specs.declared.kind.Kind.TheVariants.{Accessor, Get, LBrack, PrivateIdentifier, Set, Str}
+use Rattle.js_base.specs.declared.kind.Kind.TheVariants.{Accessor, Async, Constructor, Get, LBrack, LCurly, LParen, PrivateIdentifier, Set, Star, Static, Str}
 use Rattle.js_base.specs.KindSets.{identifier_name_kinds, number_kinds}
-use Rattle.js_base.specs.Kinds.{one_of_kinds}
+use Rattle.js_base.specs.Kinds.{same_kind, one_of_kinds}
+use Rattle.js_base.specs.declared.token.Token.{Token}
 use Rattle.js_grammar.specs.Trees.{accessor_property, constructor_op, method_definition, method_op, no_op, of, property_definition}
 use Rattle.js_grammar.specs.Grammar.{alt, never, nothing, ◌▸◌}
 use Rattle.js_grammar.specs.Productions.{G, Flags, make, no_newline, tok}
@@ -13,7 +14,7 @@ use Rattle.laws_primary.specs.js_tree.declared.op.MethodKind.{MethodKind}
 use Rattle.laws_primary.specs.js_tree.declared.op.MethodKind.TheVariants as kind
 use Rattle.laws_primary.specs.js_cursor.Parsers.{Parser}
 use Rattle.laws_primary.specs.js_cursor.declared.stop.Stop.{Stop}
-use Rattle.laws_primary.specs.laws_shared.Moves.{Moved}
+use Rattle.laws_primary.specs.laws_shared.Moves.{Moved, Moves}
 use Rattle.laws_primary.specs.laws_shared.States.{At}
 use Rattle.laws_classes.specs.declared.forms.ElementHead.{ElementHead}
 use Rattle.laws_classes.specs.Elements.{Begun, ElementOutcome, element_flags, element_slots}
@@ -66,3 +67,22 @@ ReadsAccessorMethod h k old new r = (text : List ℕ) (f : Flags) (first p : Par
 -- and `accessor`, before a name on its line
 abbrev pub ReadsAccessorField : ElementHead → Parser → Parser → Result NodeId Stop → Type 0
 ReadsAccessorField h old new r = (text : List ℕ) (f : Flags) (first p : Parser) → At text f first → h.start ≡ first.token.span.start → At text f p → Begun h.is_static text f first p → p.token.kind ≡ Accessor → p.token.escaped ≡ false → old.token.is_on_new_line ≡ false → one_of_kinds name_kinds old.token.kind ≡ true → Moved text f p old → ElementOutcome text f (members h.is_static f) first new r
+
+-- A word that is a name was passed, and parameters stand behind it.
+abbrev pub ReadsWordMethod : ElementHead → Token → Parser → Parser → Result NodeId Stop → Type 0
+ReadsWordMethod h word old new r = (text : List ℕ) (f : Flags) (first p : Parser) → At text f first → h.start ≡ first.token.span.start → At text f p → Begun h.is_static text f first p → word ≡ p.token → one_of_kinds identifier_name_kinds p.token.kind ≡ true → Moves p old → ElementOutcome text f (members h.is_static f) first new r
+
+-- which method it is: the constructor, by its name, where no `static` stands before it
+abbrev pub kind_of_word : Bool → Kind → MethodKind
+kind_of_word st k = cond (not st && same_kind Constructor k) kind.Constructor kind.Method
+
+-- A word that was passed is no prefix before what stands behind it.
+pub record NamesMember (st : Bool) (p q : Parser) : Type 0 where
+  pub accessor_method : p.token.escaped ≡ false → one_of_kinds (Get ∷ Set ∷ []) p.token.kind ≡ true → one_of_kinds name_kinds q.token.kind ≡ false
+  pub async_method : p.token.escaped ≡ false → p.token.kind ≡ Async → (q.token.is_on_new_line ≡ true) ⊎ (one_of_kinds (Star ∷ name_kinds) q.token.kind ≡ false)
+  pub accessor_field : p.token.escaped ≡ false → p.token.kind ≡ Accessor → (q.token.is_on_new_line ≡ true) ⊎ (one_of_kinds name_kinds q.token.kind ≡ false)
+  pub static_member : st ≡ false → p.token.escaped ≡ false → p.token.kind ≡ Static → one_of_kinds (LCurly ∷ Star ∷ name_kinds) q.token.kind ≡ false
+
+-- So it is the name of a member, whose rest is read.
+abbrev pub ReadsBehindWord : ElementHead → Token → Parser → Parser → Result NodeId Stop → Type 0
+ReadsBehindWord h word old new r = (text : List ℕ) (f : Flags) (first p : Parser) → At text f first → h.start ≡ first.token.span.start → At text f p → Begun h.is_static text f first p → word ≡ p.token → one_of_kinds identifier_name_kinds p.token.kind ≡ true → Moves p old → NamesMember h.is_static p old → ElementOutcome text f (members h.is_static f) first new r

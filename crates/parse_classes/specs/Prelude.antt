@@ -1,6 +1,6 @@
 -- The names by which the contracts of this crate speak: each definition stands where its line says.
 pub use Rattle.js_base.specs.Kinds.{one_of_kinds}
-pub use Rattle.js_base.specs.declared.kind.Kind.TheVariants.{Eq}
+pub use Rattle.js_base.specs.declared.kind.Kind.TheVariants.{Eq, LParen}
 pub use Rattle.js_grammar.specs.Productions.{Assignment, at, field_of}
 pub use Rattle.laws_classes.specs.Elements.{behind_kinds, element_flags, other_behind_kinds}
 pub use Rattle.laws_classes.specs.Fields.{EndsFieldOr, ReadsField, field_label, node_of_field}
@@ -11,6 +11,6 @@ pub use Rattle.laws_classes.specs.laws_primary.laws_shared.Answers.{Answers}
 pub use Rattle.laws_classes.specs.laws_primary.laws_shared.Contexts.{EntersMethod}
 pub use Rattle.laws_classes.specs.laws_primary.laws_shared.Moves.{MadeHere}
 pub use Rattle.laws_classes.specs.laws_primary.laws_shared.Nesting.{CanNest, room}
-pub use Rattle.laws_classes.specs.laws_primary.laws_shared.NodeTexts.{is_textual}
+pub use Rattle.laws_classes.specs.laws_primary.laws_shared.NodeTexts.{SpellsName, is_textual}
 pub use Rattle.laws_classes.specs.laws_primary.laws_shared.States.{Standing}
-pub use Rattle.laws_classes.specs.Members.{ReadsAccessorField, ReadsAccessorMethod}
+pub use Rattle.laws_classes.specs.Members.{ReadsAccessorField, ReadsAccessorMethod, ReadsBehindWord, ReadsWordMethod, kind_of_word}

@@ -5,5 +5,6 @@ pub mod accessor_member;
 pub mod element_name;
 pub mod field;
 pub mod method;
+pub mod word_member;
 
 pub use laws_classes::forms;

@@ -1,0 +1,29 @@
+use Rattle.std.proofs.Common.{ap, arith, false, refl, sym, ◌∙◌}
+use Rattle.std.proofs.lemmas.Bool.{false≢true}
+use Rattle.js_base.specs.declared.token.Token.{Token}
+use Rattle.laws_classes.proofs.laws_primary.PropertyForms.{leaf_at, word_name}
+use Rattle.laws_classes.proofs.laws_primary.laws_shared.Moving.{standing}
+use Rattle.laws_classes.proofs.laws_primary.laws_shared.Nesting.{nests_later}
+use Rattle.laws_classes.proofs.Names.{key_read}
+use Rattle.laws_classes.proofs.WordFields.{word_field_read}
+use Rattle.parse_classes.proofs.word_member.parse_behind_word.Goals as goal
+
+pub parse_word_method-requires-clause-parameters : goal.parse_word_method-requires-clause-parameters
+parse_word_method-requires-clause-parameters g c = c.at.ensures.0 c.if-at.true
+
+pub returns-then-at : goal.returns-then-at
+returns-then-at g c = λ text f first p af s a b e i ms n. c.parse_word_method.ensures text f first p af s a b e i ms
+
+pub parse_field-requires-clause-at : goal.parse_field-requires-clause-at
+parse_field-requires-clause-at g c = standing (leaf_at c.requires.at c.in_ok-key.ensures).0
+
+pub parse_field-requires-clause-nests : goal.parse_field-requires-clause-nests
+parse_field-requires-clause-nests g c = nests_later c.requires.nests (let r = (leaf_at c.requires.at c.in_ok-key.ensures).2 in omega arith)
+
+pub parse_field-requires-clause-before : goal.parse_field-requires-clause-before
+parse_field-requires-clause-before g c = let r = (leaf_at c.requires.at c.in_ok-key.ensures).1 in let b = c.requires.before in omega arith
+
+pub returns : goal.returns
+returns g c = λ text f first p af s a b e i ms n.
+    let x = key_read false (word_name a i ms (ap (λ (t : Token). t.span) e) c.in_ok-key.ensures) in
+    word_field_read c.args.head.is_static af b a i (ms text f a) n (λ k. false≢true (sym c.if-at.false ∙ c.at.ensures.1 k)) _ c.parse_field.result c.args.head.start s (leaf_at (ms text f a).at c.in_ok-key.ensures).1 x c.parse_field.ensures
