@@ -1,18 +1,18 @@
 -- Getters, setters and the fields of `accessor` (ECMA-262, 15.4, 15.7, and the proposal of decorators), from their names on.
-use Rattle.std.proofs.Common.{ℕ, ◌≡◌, Bool, true, false, not, ◌&&◌, ◌||◌, List, [], ◌∷◌, Option, Some, IsTrue, refl, sym, ap, subst, arith, ◌∙◌}
-use Rattle.std.specs.Prelude.{Result, Ok, Err}
+use Rattle.std.proofs.Common.{ℕ, ◌≡◌, Bool, true, false, not, ◌&&◌, ◌||◌, List, [], ◌∷◌, Some, refl, sym, ap, subst, arith, ◌∙◌}
+use Rattle.std.specs.Prelude.{Result}
 use Rattle.js_base.specs.declared.kind.Kind.{Kind}
 use Rattle.js_base.specs.declared.kind.Kind.TheVariants.{Accessor, Async, Eq, Get, LParen, RAngle, Set, Static}
 use Rattle.js_base.specs.Kinds.{same_kind, one_of_kinds}
 use Rattle.js_base.specs.KindSets.{identifier_name_kinds}
-use Rattle.js_grammar.specs.Trees.{accessor_property, constructor_op, end, method_definition, method_op, no_op, of, property_definition}
-use Rattle.js_grammar.specs.Grammar.{Lexeme, Look, ended, kept, next, nothing, seen, ◌▸◌}
-use Rattle.js_grammar.specs.Insertion.{after_name, by_field}
-use Rattle.js_grammar.specs.Parsing.{Test, plain, full, still, Goes, Fails}
+use Rattle.js_grammar.specs.Trees.{accessor_property, constructor_op, end, method_definition, method_op, no_op, of}
+use Rattle.js_grammar.specs.Grammar.{Lexeme, kept, next, seen, ◌▸◌}
+use Rattle.js_grammar.specs.Insertion.{after_name}
+use Rattle.js_grammar.specs.Parsing.{plain, full, still, Goes}
 use Rattle.js_grammar.specs.Productions.{G, Flags, make, no_newline, tok}
 use Rattle.js_grammar.specs.Table.{rule, field, getter, setter}
 use Rattle.js_grammar.proofs.Looks.{covers, apart, not_both}
-use Rattle.js_grammar.proofs.Calculus.{◌▹◌, ◌▹✗◌, done, fails_alt, fails_ended, fails_never, fails_node, inside_plain, part_by, part_fails}
+use Rattle.js_grammar.proofs.Calculus.{◌▹◌, ◌▹✗◌, done, fails_ended, fails_never, fails_node, inside_plain, part_by, part_fails}
 use Rattle.laws_primary.specs.declared.forms.PropertyName.{PropertyName}
 use Rattle.laws_primary.specs.js_tree.declared.id.NodeId.{NodeId}
 use Rattle.laws_primary.specs.js_tree.declared.op.MethodKind.{MethodKind}
@@ -37,8 +37,8 @@ use Rattle.laws_primary.proofs.Methods.{no_first}
 use Rattle.laws_primary.proofs.Properties.{kinds_apart}
 use Rattle.laws_classes.specs.declared.forms.ElementHead.{ElementHead}
 use Rattle.laws_classes.specs.declared.forms.FieldKind.TheVariants as field_kind
-use Rattle.laws_classes.specs.Elements.{Begun, ElementOutcome, behind_element, behind_kinds, element_flags, element_slots}
-use Rattle.laws_classes.specs.Fields.{Begins, FieldNamed, ReadsField, field_parts}
+use Rattle.laws_classes.specs.Elements.{Begun, ElementOutcome, behind_element, element_flags, element_slots}
+use Rattle.laws_classes.specs.Fields.{Begins, FieldNamed, ReadsField}
 use Rattle.laws_classes.specs.Members.{BeginsAccessor, accessor_line, constructors, field_line, getter_line, members, method_line, name_kinds, setter_line}
 use Rattle.laws_classes.specs.Methods.{ReadsMethod}
 use Rattle.laws_classes.specs.Names.{KeyRead, NoKey, NoKeys}

@@ -1,5 +1,5 @@
 -- Which words are named `constructor` (ECMA-262, 15.7): the one of that kind, with an escape or without.
-use Rattle.std.proofs.Common.{ℕ, ◌≡◌, ◌<◌, ◌++◌, ◌+◌, ◌-◌, ◌/◌, ◌%◌, Bool, true, false, cond, ◌||◌, List, [], ◌∷◌, Option, Some, None, refl, sym, ap, subst, arith, ◌∙◌}
+use Rattle.std.proofs.Common.{ℕ, ◌≡◌, ◌<◌, ◌++◌, ◌+◌, ◌-◌, ◌/◌, ◌%◌, Bool, true, false, cond, List, [], ◌∷◌, Option, Some, None, refl, sym, ap, subst, arith, ◌∙◌}
 use Rattle.std.specs.Prelude.{if◌then◌else◌, codes, bytes_eq, nat_lt, flat_map, unwrap_or, option_map}
 use Rattle.std.specs.Char.Escape.{encode_utf16}
 use Rattle.js_grammar.proofs.CoreFirst.{lt-true}
@@ -18,12 +18,9 @@ use Rattle.js_grammar.specs.Characters.{begins}
 use Rattle.js_grammar.specs.Grammar.{Lexeme, Look}
 use Rattle.js_grammar.specs.Lexemes.{LexicalGoal, Opening, a_name, division, is_word, kind_in, kind_of, opening, units_of}
 use Rattle.js_grammar.specs.Names.{name_of, word_of}
-use Rattle.js_grammar.specs.Productions.{Flags}
 use Rattle.js_grammar.proofs.Looks.{covers, covered, apart}
-use Rattle.laws_primary.specs.js_cursor.Parsers.{Parser}
 use Rattle.laws_primary.specs.laws_shared.Lexemes.{Lex, other_goals}
-use Rattle.laws_primary.specs.laws_shared.States.{At}
-use Rattle.laws_primary.proofs.laws_shared.Here.{kind_here, plainly, unsettled}
+use Rattle.laws_primary.proofs.laws_shared.Here.{plainly}
 use Rattle.laws_primary.proofs.laws_shared.js_lex.NamesGiven.{word_opened}
 use Rattle.laws_primary.proofs.laws_shared.part_words.KindsOfLexemes.{opened, opened_is, plain_end}
 use Rattle.laws_primary.proofs.Properties.{kinds_apart}

@@ -1,34 +1,32 @@
 -- Elements of classes (ECMA-262, 15.7): what stands around a member, and its node.
-use Rattle.std.proofs.Common.{ℕ, ◌≡◌, ◌≤◌, max, Bool, true, false, List, [], ◌∷◌, length, Option, Some, None, refl, sym, ap, subst, arith, ◌∙◌}
+use Rattle.std.proofs.Common.{ℕ, ◌≡◌, max, Bool, true, false, List, [], length, Option, refl, sym, subst, arith}
 use Rattle.std.specs.Prelude.{Result, Ok, Err}
 use Rattle.js_base.specs.declared.kind.Kind.TheVariants.{Static}
 use Rattle.js_grammar.specs.Trees.{Label, NodeKind, Op, Slots, end, tree}
-use Rattle.js_grammar.specs.Grammar.{Lexemes, here, keep, kept, many, node, nothing, seq, Takes, is_nothing, is_seq, is_left, is_right, is_many, is_keep, is_kept, ◌▸◌}
+use Rattle.js_grammar.specs.Grammar.{Lexemes, keep, kept, many, nothing, Takes, is_nothing, is_seq, is_left, is_right, is_many, is_keep, is_kept, ◌▸◌}
 use Rattle.js_grammar.specs.Lexed.{Lexes}
-use Rattle.js_grammar.specs.Parsing.{Test, plain, full, still, Admits, Reaches, Goes, Reads, Fails}
-use Rattle.js_grammar.specs.Productions.{G, Flags, make, only, tok, Decorator}
+use Rattle.js_grammar.specs.Parsing.{Test, plain, full, still, Goes, Reads, Fails}
+use Rattle.js_grammar.specs.Productions.{G, Flags, make, Decorator}
 use Rattle.js_grammar.specs.Productions.{sym as symbol}
 use Rattle.js_grammar.specs.Table.{rule}
 use Rattle.js_grammar.proofs.Looks.{apart}
-use Rattle.js_grammar.proofs.Calculus.{◌▹◌, ◌▹✗◌, done, fails_node, inside_full, part_fails, passes_none, stay, weaken_fails}
+use Rattle.js_grammar.proofs.Calculus.{◌▹◌, ◌▹✗◌, done, fails_node, inside_full, part_fails, passes_none}
 use Rattle.laws_primary.specs.js_tree.declared.id.NodeId.{NodeId}
 use Rattle.laws_primary.specs.js_tree.Nodes.{Node}
-use Rattle.laws_primary.specs.js_tree.Holding.{Holds, HoldsAll, Keeps}
+use Rattle.laws_primary.specs.js_tree.Holding.{Holds, Keeps}
 use Rattle.laws_primary.specs.js_cursor.Parsers.{Parser}
 use Rattle.laws_primary.specs.js_cursor.declared.stop.Stop.{Stop}
-use Rattle.laws_primary.specs.laws_shared.Answers.{Stops}
 use Rattle.laws_primary.specs.laws_shared.Arguments.{Partway}
 use Rattle.laws_primary.specs.laws_shared.Lexemes.{Lex}
-use Rattle.laws_primary.specs.laws_shared.Moves.{Moved}
 use Rattle.laws_primary.specs.laws_shared.States.{At, Same, NodesLie}
 use Rattle.laws_primary.proofs.laws_shared.Dead.{fails_dead}
 use Rattle.laws_primary.proofs.laws_shared.MadeNodes.{LabelLies, from_start}
-use Rattle.laws_primary.proofs.laws_shared.Moving.{beside_nodes, same_itself, same_both, same_with, stops_so}
-use Rattle.laws_primary.proofs.laws_shared.Parts.{part_from, part_path_fails, part_sign, parts}
+use Rattle.laws_primary.proofs.laws_shared.Moving.{beside_nodes, same_with, stops_so}
+use Rattle.laws_primary.proofs.laws_shared.Parts.{part_from, part_sign, parts}
 use Rattle.laws_primary.proofs.laws_shared.Paths.{Path, ◌⟶✗◌, token}
 use Rattle.laws_primary.proofs.laws_shared.Verdicts.{verdict_of}
 use Rattle.laws_primary.proofs.AsyncWords.{any_between, part_within}
-use Rattle.laws_classes.specs.Elements.{Begun, ElementOutcome, ElementTaken, NoElement, behind_element, element_slots}
+use Rattle.laws_classes.specs.Elements.{Begun, ElementOutcome, ElementTaken, behind_element, element_slots}
 
 -- ---- what is kept
 
@@ -99,3 +97,8 @@ module _ (text : List ℕ) (f : Flags) (p : Parser) where
   pub element_by : {g g' : G} (q : Parser) (r : Result NodeId Stop) → Goes rule (Lex text) behind_element end g p.prev_token_end g' p.prev_token_end (λ us. us) (still 0) → ElementOutcome text f g' p q r → ElementOutcome text f g p q r
   element_by q (Ok id) c x = record { at = x.at; same = x.same; further = x.further; label = x.label; slots = x.slots; pass = x.pass; walked = x.walked; verdict = verdict_of x.verdict (λ y. record { reach = max 0 y.reach; near = let i = y.near in omega arith; goes = c ▹ y.goes }) (λ n. c ▹✗ n); holds = x.holds; keeps = x.keeps }
   element_by q (Err e) c x = stops_so p q e (λ n. c ▹✗ n) x
+
+-- where a member begins, its line may be read
+pub at_first : {text : List ℕ} {f : Flags} (st : Bool) {first p : Parser} → At text f first → Begun st text f first p → At text f p
+at_first {text} {f} false a e = subst (λ (v : Parser). At text f v) (sym e) a
+at_first true a (h, m) = m.at

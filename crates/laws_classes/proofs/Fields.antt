@@ -1,30 +1,30 @@
 -- Fields of classes (ECMA-262, 15.7): what stands behind the name, and where a field ends.
-use Rattle.std.proofs.Common.{ℕ, ◌≡◌, ◌⊎◌, inl, inr, max, Bool, true, false, not, ◌&&◌, ◌||◌, List, [], ◌∷◌, ◌++◌, length, Option, Some, None, IsTrue, refl, sym, ap, subst, arith, ◌∙◌}
+use Rattle.std.proofs.Common.{ℕ, ◌≡◌, inl, inr, max, Bool, true, false, not, ◌&&◌, ◌||◌, List, [], ◌∷◌, ◌++◌, length, Option, Some, None, IsTrue, refl, sym, ap, subst, arith, ◌∙◌}
 use Rattle.std.specs.Prelude.{Result, Ok, Err}
-use Rattle.std.proofs.lemmas.Bool.{false≢true, and_from, and_parts, not-true, or_left, or_right}
+use Rattle.std.proofs.lemmas.Bool.{false≢true, and_from, and_parts, or_left, or_right}
 use Rattle.js_base.specs.declared.kind.Kind.{Kind}
 use Rattle.js_base.specs.declared.kind.Kind.TheVariants.{Comma, Eof, Eq, LParen, Semicolon}
 use Rattle.js_base.specs.Kinds.{same_kind, one_of_kinds}
 use Rattle.js_base.specs.KindSets.{identifier_name_kinds, number_kinds}
 use Rattle.js_grammar.specs.Trees.{Label, NodeKind, Slots, end, hole, tree, no_op}
-use Rattle.js_grammar.specs.Grammar.{Lexeme, Lexemes, Look, begins_with_brace, ended, empty_slot, here, is, kept, lexeme, look, may_omit, nothing, seen, semicolon, such, alt, Takes, is_empty_slot, is_left, is_lexeme, is_look, is_kept, is_node, is_right, is_seq, is_such, ◌▸◌}
-use Rattle.js_grammar.specs.Insertion.{Row, after_name, after_word, by_edge, by_field, edge, goes_on}
+use Rattle.js_grammar.specs.Grammar.{Lexeme, Lexemes, Look, begins_with_brace, ended, empty_slot, here, is, kept, may_omit, nothing, seen, semicolon, Takes, is_empty_slot, is_left, is_lexeme, is_look, is_kept, is_node, is_right, is_seq, is_such, ◌▸◌}
+use Rattle.js_grammar.specs.Insertion.{Row, after_name, by_edge, by_field, goes_on}
 use Rattle.js_grammar.specs.Lexed.{Lexes}
-use Rattle.js_grammar.specs.Parsing.{Test, plain, full, always, behind, still, Admits, Goes, Fails}
-use Rattle.js_grammar.specs.Productions.{G, Flags, at, field_of, make, slot, tok, Assignment, Init}
+use Rattle.js_grammar.specs.Parsing.{Test, plain, full, behind, Admits, Goes, Fails}
+use Rattle.js_grammar.specs.Productions.{G, Flags, at, field_of, make, slot, Assignment, Init}
 use Rattle.js_grammar.specs.Productions.{sym as symbol}
 use Rattle.js_grammar.specs.Table.{rule, rule_of, name}
 use Rattle.js_grammar.specs.Follow.{after, edge_of, follow, looser, row_of}
 use Rattle.js_grammar.proofs.Finding.{either_of}
-use Rattle.js_grammar.proofs.Looks.{covers, covered, apart, not_both}
+use Rattle.js_grammar.proofs.Looks.{covers, covered, apart}
 use Rattle.js_grammar.proofs.RightEdges.{at_row}
-use Rattle.js_grammar.proofs.Calculus.{Between, ◌▹◌, ◌▹✗◌, by_omission, closes, done, ends_by, fails_alt, fails_ended, fails_node, fails_rule, here_at, inside_full, inside_plain, left, part_by, part_fails, reads_empty_slot, right, weaken, weaken_fails}
+use Rattle.js_grammar.proofs.Calculus.{Between, ◌▹◌, ◌▹✗◌, by_omission, closes, done, ends_by, fails_ended, fails_node, fails_rule, here_at, inside_plain, left, part_by, part_fails, reads_empty_slot, right, weaken, weaken_fails}
 use Rattle.js_grammar.proofs.FollowLaws.{admits, assignment_ended}
 use Rattle.laws_primary.specs.js_tree.declared.id.NodeId.{NodeId}
 use Rattle.laws_primary.specs.js_tree.Nodes.{Node}
 use Rattle.laws_primary.specs.js_tree.Holding.{Holds, HoldsAll, Keeps}
-use Rattle.laws_primary.proofs.laws_shared.js_tree.HoldingLemmas.{HoldsAll-hole, HoldsAll-next, HoldsAll-one, Keeps-trans, Keeps-made}
-use Rattle.laws_primary.specs.js_cursor.Moves.{Ends, EndsOr, GivesUp, IsUnexpected, MayEnd, ends_statement}
+use Rattle.laws_primary.proofs.laws_shared.js_tree.HoldingLemmas.{HoldsAll-hole, HoldsAll-one, Keeps-trans, Keeps-made}
+use Rattle.laws_primary.specs.js_cursor.Moves.{EndsOr, GivesUp, IsUnexpected, MayEnd, ends_statement}
 use Rattle.laws_primary.specs.js_cursor.declared.stop.Stop.TheVariants.{Fatal, NoMemory}
 use Rattle.js_base.specs.declared.diagnostic.DiagnosticKind.TheVariants.{ExpectToken}
 use Rattle.laws_primary.proofs.laws_shared.Classes.{here_ends}
@@ -40,17 +40,15 @@ use Rattle.laws_primary.specs.laws_shared.Statements.{link_kinds, no_link}
 use Rattle.laws_primary.proofs.laws_shared.Escapes.{plain_or_word}
 use Rattle.laws_primary.proofs.laws_shared.Here.{kind_here, newline_here}
 use Rattle.laws_primary.proofs.laws_shared.MadeNodes.{node_held, one_lies, two_held}
-use Rattle.laws_primary.proofs.laws_shared.Moving.{moves, same_both, same_itself, stops_behind, stops_so}
-use Rattle.laws_primary.proofs.laws_shared.Paths.{Path, ◌⟼◌, ◌⟶◌, ◌⟶✗◌, by_symbol_as, fails_at, flagged_by, flagged_here, not_here, token, walked_both}
+use Rattle.laws_primary.proofs.laws_shared.Moving.{moves, same_both, stops_behind, stops_so}
+use Rattle.laws_primary.proofs.laws_shared.Paths.{Path, ◌⟶◌, ◌⟶✗◌, by_symbol_as, fails_at, flagged_by, flagged_here, not_here, token, walked_both}
 use Rattle.laws_primary.proofs.laws_shared.Phrases.{narrow_assignment, narrow_operand}
 use Rattle.laws_primary.proofs.laws_shared.PlainSigns.{eq_plain}
 use Rattle.laws_primary.proofs.laws_shared.Signs.{other_kind, plain_sign}
 use Rattle.laws_primary.proofs.laws_shared.Tight.{narrows, plain_lex}
 use Rattle.laws_primary.proofs.laws_shared.Verdicts.{behind_none, grown_then, verdict_of}
 use Rattle.laws_primary.proofs.laws_shared.Verdicts.{after as grown_behind}
-use Rattle.laws_primary.proofs.AsyncWords.{any_between}
 use Rattle.laws_primary.proofs.Properties.{kinds_apart}
-use Rattle.laws_primary.proofs.Wholes.{part_under, whole_part}
 use Rattle.laws_statements.proofs.Statements.{◌⟝◌, Ended, closer_here, closers, ended_so, no_semicolon, omits_stopped, semicolon_path, unended, whole_semicolon}
 use Rattle.parse_declarations.specs.Declarations.{stops_row}
 use Rattle.laws_classes.specs.Elements.{ElementTaken, NoElement, behind_element, behind_kinds, other_behind_kinds}

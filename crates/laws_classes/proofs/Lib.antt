@@ -2,6 +2,7 @@ pub mod ConstructorNames
 pub mod Elements
 pub mod Fields
 pub mod AccessorMembers
+pub mod OtherMembers
 pub mod WordFields
 pub mod WordMembers
 pub mod Names

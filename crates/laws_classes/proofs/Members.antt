@@ -1,24 +1,21 @@
 -- Members of classes (ECMA-262, 15.7): which of the lines is left, by the lexemes that a member begins with.
-use Rattle.std.proofs.Common.{ℕ, ◌≡◌, max, Bool, true, false, not, ◌&&◌, ◌||◌, cond, List, [], ◌∷◌, ◌++◌, Option, Some, IsTrue, refl, sym, ap, subst, arith, ◌∙◌}
-use Rattle.std.specs.Prelude.{Result, Ok, Err}
-use Rattle.std.proofs.lemmas.Bool.{false≢true, and_from, and_parts, not-true, or_left, or_right}
-use Rattle.js_base.specs.declared.kind.Kind.{Kind}
-use Rattle.js_base.specs.declared.kind.Kind.TheVariants.{Accessor, Async, Eof, Eq, Get, LBrack, LParen, Semicolon, Set, Star, Static, Str}
+use Rattle.std.proofs.Common.{ℕ, ◌≡◌, Bool, true, false, not, ◌&&◌, ◌||◌, cond, List, [], ◌∷◌, IsTrue, refl, sym, ap, subst, ◌∙◌}
+use Rattle.std.proofs.lemmas.Bool.{false≢true, and_from, and_parts, or_left, or_right}
+use Rattle.js_base.specs.declared.kind.Kind.TheVariants.{Accessor, Async, Eof, Eq, Get, LBrack, LParen, Semicolon, Set, Star}
 use Rattle.js_base.specs.Kinds.{same_kind, one_of_kinds}
-use Rattle.js_base.specs.KindSets.{identifier_name_kinds, number_kinds}
-use Rattle.js_base.specs.Texts.{words}
-use Rattle.js_grammar.specs.Trees.{Label, Slots, end, hole, tree, identifier_name, no_op}
-use Rattle.js_grammar.specs.Grammar.{Lexeme, Lexemes, Look, alt, begins_with_brace, ended, here, is, kept, look, may_omit, never, nothing, seen, semicolon, text as text_is, Takes, is_empty_slot, is_left, is_look, is_nothing, is_right, is_seq, is_such, is_text, ◌▸◌, ◌◇◌}
+use Rattle.js_base.specs.KindSets.{identifier_name_kinds}
+use Rattle.js_grammar.specs.Trees.{Slots, end, hole, tree, identifier_name, no_op}
+use Rattle.js_grammar.specs.Grammar.{Lexeme, Lexemes, Look, begins_with_brace, ended, here, is, may_omit, nothing, seen, Takes, is_empty_slot, is_left, is_look, is_nothing, is_right, is_seq, is_such, is_text, ◌▸◌, ◌◇◌}
 use Rattle.js_grammar.specs.Insertion.{after_name, begins_name, by_field}
 use Rattle.js_grammar.specs.Lexed.{Lexes}
 use Rattle.js_grammar.specs.Parsing.{Test, plain, full, still, Admits, Goes, Fails}
-use Rattle.js_grammar.specs.Productions.{G, Flags, at, field_of, make, no_newline, only, slot, tok, IdentifierName, Init, PrivateName}
+use Rattle.js_grammar.specs.Productions.{G, Flags, at, field_of, no_newline, slot, tok, IdentifierName, Init, PrivateName}
 use Rattle.js_grammar.specs.Productions.{sym as symbol}
-use Rattle.js_grammar.specs.Table.{rule, rule_of, field, getter, method_function, name, named_constructor, not_constructor, number, plain_method, setter, string}
+use Rattle.js_grammar.specs.Table.{rule, rule_of, field, getter, name, named_constructor, not_constructor, number, plain_method, setter, string}
 use Rattle.js_grammar.specs.Follow.{after}
 use Rattle.js_grammar.proofs.Finding.{either_of}
 use Rattle.js_grammar.proofs.Looks.{covers, covered, apart, not_both}
-use Rattle.js_grammar.proofs.Calculus.{◌▹◌, ◌▹✗◌, closes, done, ends_by, fails_alt, fails_ended, fails_never, fails_node, fails_nothing, here_at, inside_full, inside_plain, left, part_fails, reads_empty_slot, right, then_by}
+use Rattle.js_grammar.proofs.Calculus.{◌▹◌, ◌▹✗◌, closes, done, fails_alt, fails_ended, fails_nothing, here_at, left, part_fails, reads_empty_slot, right, then_by}
 use Rattle.laws_primary.specs.js_cursor.Parsers.{Parser}
 use Rattle.laws_primary.specs.Objects.{method_left}
 use Rattle.laws_primary.specs.laws_shared.declared.nested.MethodForm.TheVariants.{Method}
@@ -26,20 +23,18 @@ use Rattle.laws_primary.specs.laws_shared.Lexemes.{Lex}
 use Rattle.laws_primary.specs.laws_shared.Moves.{Moved}
 use Rattle.laws_primary.specs.laws_shared.States.{At}
 use Rattle.laws_primary.proofs.laws_shared.Here.{escaped_here, kind_here, newline_here, unsettled}
-use Rattle.laws_primary.proofs.laws_shared.Paths.{Path, ◌⟼◌, ◌⟶◌, ◌⟶✗◌, by_symbol_as, fails_at, label_here}
+use Rattle.laws_primary.proofs.laws_shared.Paths.{Path, ◌⟼◌, ◌⟶✗◌, by_symbol_as, fails_at, label_here}
 use Rattle.laws_primary.proofs.laws_shared.Verdicts.{verdict_of}
-use Rattle.laws_primary.proofs.AsyncWords.{any_between}
 use Rattle.laws_primary.proofs.Members.{name_of}
 use Rattle.laws_primary.proofs.Methods.{no_first}
 use Rattle.laws_primary.proofs.Properties.{kinds_apart, word_apart}
 use Rattle.laws_primary.proofs.PropertyNames.{literal_kinds}
-use Rattle.laws_statements.proofs.Statements.{◌⟝◌, closers, closes_or_line, omitted_so, semicolon_closes, semicolon_look}
-use Rattle.laws_classes.specs.Elements.{Begun, behind_element, behind_kinds, element_slots}
+use Rattle.laws_statements.proofs.Statements.{closers, closes_or_line, omitted_so, semicolon_closes, semicolon_look}
+use Rattle.laws_classes.specs.Elements.{behind_element, behind_kinds}
 use Rattle.laws_classes.specs.Fields.{field_parts}
-use Rattle.laws_classes.specs.Members.{accessor_line, constructor_line, constructors, field_line, forms, getter_line, members, method_line, name_kinds, setter_line}
+use Rattle.laws_classes.specs.Members.{accessor_line, constructors, field_line, forms, getter_line, members, method_line, name_kinds, setter_line}
 use Rattle.laws_classes.specs.Names.{NoKey}
-use Rattle.laws_classes.proofs.Fields.{OneTree, kept_between, name_is_tree}
-use Rattle.laws_classes.proofs.Elements.{begun_fails, no_element}
+use Rattle.laws_classes.proofs.Fields.{OneTree, name_is_tree}
 
 abbrev pub No : List ℕ → ℕ → G → Type 0
 No text s g = Fails rule (Lex text) behind_element end g s
@@ -103,11 +98,11 @@ quiet_fails {text} {t} {g} {s} q n = record { no = λ ts vs k ls rest l d e. by 
 -- ---- a word
 
 -- what may stand behind the parts of a field that is a word alone, by a test of the next lexeme
-abbrev by_word : Look → Slots → Look
+abbrev pub by_word : Look → Slots → Look
 by_word F (tree k ks (hole us)) = F
 by_word F us = full
 
-abbrev behind_word : Look → Test
+abbrev pub behind_word : Look → Test
 behind_word F = record { base = full; by = by_word F }
 
 abbrev pub behind_look : Look

@@ -1,7 +1,7 @@
 -- Methods of classes (ECMA-262, 15.4 to 15.8): what stands behind the name.
 use Rattle.std.proofs.Common.{ℕ, ◌≡◌, Bool, List, [], ◌∷◌, length, Option, Some, refl, sym, subst, arith}
 use Rattle.js_grammar.specs.Trees.{Label, end}
-use Rattle.js_grammar.specs.Grammar.{kept, nothing, seq, ◌▸◌}
+use Rattle.js_grammar.specs.Grammar.{kept, ◌▸◌}
 use Rattle.js_grammar.specs.Parsing.{plain, full, Fails}
 use Rattle.js_grammar.specs.Productions.{G, Flags, make}
 use Rattle.js_grammar.specs.Trees.{method_definition}

@@ -1,9 +1,8 @@
 -- Names of elements of classes (ECMA-262, 15.7): those of properties, and private names.
-use Rattle.std.proofs.Common.{ℕ, ◌≡◌, max, Bool, true, false, not, List, [], ◌∷◌, ◌++◌, Option, Some, refl, sym, ap, subst, arith}
+use Rattle.std.proofs.Common.{ℕ, max, Bool, true, false, not, List, [], ◌∷◌, Some, refl, arith}
 use Rattle.std.specs.Prelude.{Result, Ok, Err}
-use Rattle.js_grammar.specs.Trees.{Slots, end, tree}
-use Rattle.js_grammar.specs.Grammar.{Lexemes, here, never, is_left, is_right, ◌▸◌}
-use Rattle.js_grammar.specs.Lexed.{Lexes}
+use Rattle.js_grammar.specs.Trees.{end, tree}
+use Rattle.js_grammar.specs.Grammar.{never, ◌▸◌}
 use Rattle.js_grammar.specs.Parsing.{Test, plain, full, still, Goes, Fails}
 use Rattle.js_grammar.specs.Productions.{G, Flags, PrivateName}
 use Rattle.js_grammar.specs.Productions.{sym as symbol}
@@ -14,17 +13,15 @@ use Rattle.laws_primary.specs.declared.forms.PropertyName.{PropertyName}
 use Rattle.laws_primary.specs.js_tree.declared.id.NodeId.{NodeId}
 use Rattle.laws_primary.specs.js_cursor.Parsers.{Parser}
 use Rattle.laws_primary.specs.js_cursor.declared.stop.Stop.{Stop}
-use Rattle.laws_primary.specs.laws_shared.Answers.{Stops}
 use Rattle.laws_primary.specs.laws_shared.Arguments.{Partway}
 use Rattle.laws_primary.specs.laws_shared.Lexemes.{Lex}
-use Rattle.laws_primary.specs.laws_shared.States.{At}
 use Rattle.laws_primary.proofs.laws_shared.Dead.{fails_dead}
 use Rattle.laws_primary.proofs.laws_shared.Moving.{stops_so}
 use Rattle.laws_primary.proofs.laws_shared.Paths.{Path}
 use Rattle.laws_primary.proofs.laws_shared.Verdicts.{verdict_of}
-use Rattle.laws_primary.specs.PropertyNames.{NameRead, NamesProperty, NoName, NoNames}
+use Rattle.laws_primary.specs.PropertyNames.{NameRead, NamesProperty, NoName}
 use Rattle.laws_primary.proofs.Wholes.{whole_part}
-use Rattle.laws_classes.specs.Names.{KeyRead, NamesElement, NoKey, NoKeys}
+use Rattle.laws_classes.specs.Names.{KeyRead, NamesElement, NoKey}
 
 module _ {text : List ℕ} {s : ℕ} where
   -- private names aren't read yet

@@ -1,19 +1,19 @@
 -- Fields that are named by a word (ECMA-262, 15.7).
-use Rattle.std.proofs.Common.{ℕ, ◌≡◌, ◌⊎◌, inl, inr, Bool, true, false, not, ◌&&◌, ◌||◌, List, [], ◌∷◌, Option, Some, IsTrue, refl, sym, ap, subst, arith, ◌∙◌}
-use Rattle.std.specs.Prelude.{Result, Ok, Err}
+use Rattle.std.proofs.Common.{ℕ, ◌≡◌, ◌⊎◌, inl, inr, Bool, true, false, not, ◌&&◌, ◌||◌, List, [], ◌∷◌, refl, sym, ap, subst, arith, ◌∙◌}
+use Rattle.std.specs.Prelude.{Result}
 use Rattle.std.proofs.lemmas.Bool.{false≢true}
 use Rattle.js_base.specs.declared.kind.Kind.{Kind}
-use Rattle.js_base.specs.declared.kind.Kind.TheVariants.{Accessor, Async, Eq, Get, LCurly, LParen, RAngle, Set, Star, Static}
+use Rattle.js_base.specs.declared.kind.Kind.TheVariants.{Eq, Get, LCurly, LParen, RAngle, Set, Star, Static}
 use Rattle.js_base.specs.Kinds.{same_kind, one_of_kinds}
 use Rattle.js_base.specs.KindSets.{identifier_name_kinds}
 use Rattle.js_base.specs.Texts.{words}
 use Rattle.js_base.proofs.KindLemmas.{kind_of_same}
-use Rattle.js_grammar.specs.Trees.{accessor_property, constructor_op, end, method_definition, method_op, no_op, of, property_definition}
-use Rattle.js_grammar.specs.Grammar.{Lexeme, Look, ended, kept, next, nothing, seen, ◌▸◌}
-use Rattle.js_grammar.specs.Insertion.{after_name, begins_name, by_field}
+use Rattle.js_grammar.specs.Trees.{accessor_property, constructor_op, end, method_definition, method_op, no_op, of}
+use Rattle.js_grammar.specs.Grammar.{Lexeme, Look, kept, next, seen, ◌▸◌}
+use Rattle.js_grammar.specs.Insertion.{after_name, begins_name}
 use Rattle.js_grammar.specs.Parsing.{plain, full, still, Goes, Fails}
-use Rattle.js_grammar.specs.Productions.{G, Flags, make, no_newline, only, tok}
-use Rattle.js_grammar.specs.Table.{rule, field, name, named_constructor, plain_method}
+use Rattle.js_grammar.specs.Productions.{G, Flags, no_newline, only, tok}
+use Rattle.js_grammar.specs.Table.{rule, field, name, plain_method}
 use Rattle.js_grammar.proofs.Looks.{covers, covered, apart, not_both}
 use Rattle.js_grammar.proofs.Calculus.{◌▹◌, ◌▹✗◌, done, fails_alt, fails_ended, fails_never, fails_node, inside_plain, left, part_fails, right}
 use Rattle.laws_primary.specs.js_tree.declared.id.NodeId.{NodeId}
@@ -33,11 +33,10 @@ use Rattle.laws_primary.proofs.laws_shared.Signs.{other_kind}
 use Rattle.laws_primary.proofs.AsyncWords.{no_same_line}
 use Rattle.laws_primary.proofs.Methods.{no_first}
 use Rattle.laws_primary.proofs.Properties.{kinds_apart, word_apart}
-use Rattle.laws_classes.specs.declared.forms.ElementHead.{ElementHead}
 use Rattle.laws_classes.specs.declared.forms.FieldKind.TheVariants as field_kind
-use Rattle.laws_classes.specs.Elements.{Begun, ElementOutcome, behind_element, behind_kinds, element_flags, element_slots}
-use Rattle.laws_classes.specs.Fields.{Begins, FieldNamed, ReadsField, field_parts}
-use Rattle.laws_classes.specs.Members.{NamesMember, accessor_line, constructors, field_line, forms, getter_line, members, method_line, name_kinds, setter_line}
+use Rattle.laws_classes.specs.Elements.{Begun, ElementOutcome, behind_element, element_flags, element_slots}
+use Rattle.laws_classes.specs.Fields.{Begins, FieldNamed, ReadsField}
+use Rattle.laws_classes.specs.Members.{NamesMember, accessor_line, constructors, field_line, getter_line, members, method_line, name_kinds, setter_line}
 use Rattle.laws_classes.specs.Names.{KeyRead, NoKey}
 use Rattle.laws_classes.proofs.Elements.{begun_fails, element_by, no_decorator, no_element, none_kept}
 use Rattle.laws_classes.proofs.Fields.{kept_between}
@@ -132,13 +131,13 @@ module _ {text : List ℕ} {f : Flags} {first p q : Parser} (st : Bool) (af : At
 
   -- ---- what stands behind it is no part of another member
 
-  off : (s e k o : Bool) → (s ≡ true → e ≡ false → k ≡ true → o ≡ false) → (((s && not e) && k) && o) ≡ false
+  pub off : (s e k o : Bool) → (s ≡ true → e ≡ false → k ≡ true → o ≡ false) → (((s && not e) && k) && o) ≡ false
   off true true k o h = refl
   off true false true o h = h refl refl refl
   off true false false o h = refl
   off false e k o h = refl
 
-  or_none : (x y z : Bool) → y ≡ false → z ≡ false → ((x || y) || z) ≡ x
+  pub or_none : (x y z : Bool) → y ≡ false → z ≡ false → ((x || y) || z) ≡ x
   or_none true y z i j = refl
   or_none false y z i j = rw (i, j) refl
 

@@ -1,27 +1,26 @@
 -- Members that are named by a word (ECMA-262, 15.7), where parameters stand behind it.
-use Rattle.std.proofs.Common.{ℕ, ◌≡◌, Bool, true, false, not, ◌&&◌, ◌||◌, cond, List, [], ◌∷◌, Option, Some, IsTrue, refl, sym, ap, subst, arith, ◌∙◌}
-use Rattle.std.specs.Prelude.{Result, Ok, Err, codes, bytes_eq}
-use Rattle.std.proofs.lemmas.Bool.{false≢true, and_from, and_parts}
+use Rattle.std.proofs.Common.{ℕ, ◌≡◌, Bool, true, false, not, ◌||◌, cond, List, [], ◌∷◌, Some, IsTrue, refl, sym, ap, subst, ◌∙◌}
+use Rattle.std.specs.Prelude.{Result, codes, bytes_eq}
+use Rattle.std.proofs.lemmas.Bool.{false≢true, and_parts}
 use Rattle.js_base.specs.declared.kind.Kind.{Kind}
-use Rattle.js_base.specs.declared.kind.Kind.TheVariants.{Accessor, Async, Constructor, Eq, Get, LBrack, LParen, Semicolon, Set, Star, Str}
+use Rattle.js_base.specs.declared.kind.Kind.TheVariants.{Accessor, Async, Constructor, Eq, Get, LParen, Semicolon, Set, Star, Str}
 use Rattle.js_base.specs.Kinds.{same_kind, one_of_kinds}
 use Rattle.js_base.specs.KindSets.{identifier_name_kinds}
 use Rattle.js_base.proofs.KindLemmas.{kind_of_same}
-use Rattle.js_grammar.specs.Trees.{accessor_property, constructor_op, end, method_definition, method_op, no_op, of, property_definition}
-use Rattle.js_grammar.specs.Grammar.{Lexeme, Look, is, kept, nothing, seen, text as text_is, ◌▸◌}
+use Rattle.js_grammar.specs.Trees.{accessor_property, constructor_op, end, method_definition, method_op, no_op, of}
+use Rattle.js_grammar.specs.Grammar.{Lexeme, Look, is, kept, nothing, seen, ◌▸◌}
 use Rattle.js_grammar.specs.Lexemes.{is_word}
 use Rattle.js_grammar.specs.Parsing.{Test, plain, full, still, Goes, Fails, Reads}
-use Rattle.js_grammar.specs.Productions.{G, Flags, at, if_next, make, no_newline, only, tok, Init, field_of}
-use Rattle.js_grammar.specs.Table.{rule, rule_of, field, getter, name, named_constructor, not_constructor, plain_method, setter}
+use Rattle.js_grammar.specs.Productions.{G, Flags, no_newline, only, tok}
+use Rattle.js_grammar.specs.Table.{rule, field, getter, name, named_constructor, not_constructor, plain_method, setter}
 use Rattle.js_grammar.proofs.Finding.{either_of}
 use Rattle.js_grammar.proofs.Looks.{covers, covered, apart}
-use Rattle.js_grammar.proofs.Calculus.{closes, ◌▹◌, ◌▹✗◌, done, fails_alt, fails_ended, fails_look, fails_never, fails_node, fails_text, inside_plain, left, looks, part_fails, reads_text, right, stay}
+use Rattle.js_grammar.proofs.Calculus.{◌▹◌, ◌▹✗◌, done, fails_alt, fails_ended, fails_look, fails_never, fails_node, fails_text, inside_plain, left, looks, part_fails, reads_text, right, stay}
 use Rattle.laws_primary.specs.js_tree.declared.id.NodeId.{NodeId}
 use Rattle.laws_primary.specs.js_cursor.Parsers.{Parser}
 use Rattle.laws_primary.specs.js_cursor.declared.stop.Stop.{Stop}
 use Rattle.laws_primary.specs.js_tree.declared.op.MethodKind.{MethodKind}
 use Rattle.laws_primary.specs.js_tree.declared.op.MethodKind.TheVariants as kind
-use Rattle.laws_classes.specs.declared.forms.ElementHead.{ElementHead}
 use Rattle.laws_classes.specs.Methods.{ReadsMethod}
 use Rattle.laws_primary.specs.Objects.{method_left}
 use Rattle.laws_primary.specs.laws_shared.Arguments.{Partway}
@@ -34,11 +33,10 @@ use Rattle.laws_primary.proofs.laws_shared.Giving.{fails_unescaped}
 use Rattle.laws_primary.proofs.laws_shared.Here.{kind_here, unsettled}
 use Rattle.laws_primary.proofs.laws_shared.Parts.{part_from, part_path_fails, part_sign}
 use Rattle.laws_primary.proofs.laws_shared.Paths.{◌⟶✗◌, fails_at, token}
-use Rattle.laws_primary.proofs.laws_shared.Signs.{other_kind}
-use Rattle.laws_primary.proofs.AsyncWords.{any_between, no_same_line, part_within, same_line}
+use Rattle.laws_primary.proofs.AsyncWords.{no_same_line, part_within, same_line}
 use Rattle.laws_primary.proofs.Methods.{no_first}
 use Rattle.laws_primary.proofs.Properties.{kinds_apart, word_apart}
-use Rattle.laws_classes.specs.Elements.{Begun, ElementOutcome, behind_element, behind_kinds, element_flags, element_slots}
+use Rattle.laws_classes.specs.Elements.{Begun, ElementOutcome, behind_element, element_flags, element_slots}
 use Rattle.laws_classes.specs.Members.{accessor_line, constructor_line, constructors, field_line, forms, getter_line, kind_of_word, members, method_line, name_kinds, setter_line}
 use Rattle.laws_classes.specs.Names.{KeyRead, NoKey}
 use Rattle.laws_classes.proofs.ConstructorNames.{constructor_units, other_units}

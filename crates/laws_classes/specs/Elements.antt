@@ -6,7 +6,7 @@ use Rattle.js_base.specs.KindSets.{identifier_name_kinds, number_kinds}
 use Rattle.js_base.specs.Kinds.{one_of_kinds}
 use Rattle.js_grammar.specs.Trees.{Label, Slots, end, tree}
 use Rattle.js_grammar.specs.Grammar.{Lexemes, keep, kept, many, nothing, ◌▸◌}
-use Rattle.js_grammar.specs.Parsing.{Test, plain, full, Fails}
+use Rattle.js_grammar.specs.Parsing.{Test, plain, Fails}
 use Rattle.js_grammar.specs.Productions.{G, Flags, computed_flag, flag, only, static_flag, tok, Decorator}
 use Rattle.js_grammar.specs.Productions.{sym as symbol}
 use Rattle.js_grammar.specs.Table.{rule}

@@ -1,5 +1,5 @@
 -- Fields of classes (ECMA-262, 15.7), and those of `accessor` (of the proposal of decorators).
-use Rattle.std.specs.Prelude.{ℕ, ◌≡◌, ◌≤◌, ◌⊎◌, Bool, true, false, List, [], ◌∷◌, Option, Some, None, Result, Ok, Err}
+use Rattle.std.specs.Prelude.{ℕ, ◌≡◌, ◌≤◌, ◌⊎◌, Bool, true, false, List, [], ◌∷◌, Result, Ok, Err}
 use Rattle.js_base.specs.declared.kind.Kind.TheVariants.{Eq, LParen}
 use Rattle.js_base.specs.Kinds.{one_of_kinds}
 use Rattle.js_grammar.specs.Trees.{Label, NodeKind, property_definition, accessor_property, no_op}

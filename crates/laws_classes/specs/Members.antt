@@ -1,7 +1,7 @@
 -- Members of classes (ECMA-262, 15.7): the lines of an element but the static block, by what is read of them first.
 use Rattle.std.specs.Prelude.{ℕ, ◌≡◌, ◌⊎◌, Bool, true, false, not, cond, ◌&&◌, ◌||◌, List, [], ◌∷◌, ◌++◌, Result}
 use Rattle.js_base.specs.declared.kind.Kind.{Kind}
-use Rattle.js_base.specs.declared.kind.Kind.TheVariants.{Accessor, Async, Constructor, Get, LBrack, LCurly, LParen, PrivateIdentifier, Set, Star, Static, Str}
+use Rattle.js_base.specs.declared.kind.Kind.TheVariants.{Accessor, Async, Constructor, Get, LBrack, LCurly, PrivateIdentifier, Set, Star, Static, Str}
 use Rattle.js_base.specs.KindSets.{identifier_name_kinds, number_kinds}
 use Rattle.js_base.specs.Kinds.{same_kind, one_of_kinds}
 use Rattle.js_base.specs.declared.token.Token.{Token}
@@ -86,3 +86,11 @@ pub record NamesMember (st : Bool) (p q : Parser) : Type 0 where
 -- So it is the name of a member, whose rest is read.
 abbrev pub ReadsBehindWord : ElementHead → Token → Parser → Parser → Result NodeId Stop → Type 0
 ReadsBehindWord h word old new r = (text : List ℕ) (f : Flags) (first p : Parser) → At text f first → h.start ≡ first.token.span.start → At text f p → Begun h.is_static text f first p → word ≡ p.token → one_of_kinds identifier_name_kinds p.token.kind ≡ true → Moves p old → NamesMember h.is_static p old → ElementOutcome text f (members h.is_static f) first new r
+
+-- words, strings and `*`, with which the other members begin
+abbrev pub special_firsts : List Kind
+special_firsts = Str ∷ Star ∷ identifier_name_kinds
+
+-- A member begins here whose name is a number or stands in brackets, behind `static` or not.
+abbrev pub ReadsOtherMember : ElementHead → Parser → Parser → Result NodeId Stop → Type 0
+ReadsOtherMember h old new r = (text : List ℕ) (f : Flags) (first : Parser) → At text f first → h.start ≡ first.token.span.start → Begun h.is_static text f first old → ElementOutcome text f (members h.is_static f) first new r

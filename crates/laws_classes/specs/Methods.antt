@@ -1,10 +1,8 @@
 -- Methods of classes (ECMA-262, 15.4 to 15.8).
-use Rattle.std.specs.Prelude.{ℕ, ◌≡◌, Bool, true, false, cond, ◌||◌, List, [], ◌∷◌, Some, Result}
-use Rattle.js_base.specs.declared.span.Span.{Span}
+use Rattle.std.specs.Prelude.{ℕ, ◌≡◌, Bool, List, [], ◌∷◌, Some, Result}
 use Rattle.js_grammar.specs.Trees.{Label, method_definition}
-use Rattle.js_grammar.specs.Grammar.{kept, nothing, ◌▸◌}
+use Rattle.js_grammar.specs.Grammar.{kept, ◌▸◌}
 use Rattle.js_grammar.specs.Productions.{G, Flags, make}
-use Rattle.js_grammar.specs.Table.{named_constructor, not_constructor}
 use Rattle.laws_primary.specs.declared.forms.PropertyName.{PropertyName}
 use Rattle.laws_primary.specs.Objects.{method_left}
 use Rattle.laws_primary.specs.js_tree.declared.id.NodeId.{NodeId}

@@ -13,4 +13,4 @@ pub use Rattle.laws_classes.specs.laws_primary.laws_shared.Moves.{MadeHere}
 pub use Rattle.laws_classes.specs.laws_primary.laws_shared.Nesting.{CanNest, room}
 pub use Rattle.laws_classes.specs.laws_primary.laws_shared.NodeTexts.{SpellsName, is_textual}
 pub use Rattle.laws_classes.specs.laws_primary.laws_shared.States.{Standing}
-pub use Rattle.laws_classes.specs.Members.{ReadsAccessorField, ReadsAccessorMethod, ReadsBehindWord, ReadsWordMethod, kind_of_word}
+pub use Rattle.laws_classes.specs.Members.{ReadsAccessorField, ReadsAccessorMethod, ReadsBehindWord, ReadsOtherMember, ReadsWordMethod, kind_of_word, name_kinds, special_firsts}

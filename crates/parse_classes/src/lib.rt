@@ -5,6 +5,7 @@ pub mod accessor_member;
 pub mod element_name;
 pub mod field;
 pub mod method;
+pub mod other_member;
 pub mod word_member;
 
 pub use laws_classes::forms;

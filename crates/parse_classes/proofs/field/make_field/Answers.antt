@@ -1,6 +1,5 @@
-use Rattle.std.proofs.Common.{refl, [], ◌∷◌, Some, ◌∙◌, ap, sym}
-use Rattle.js_grammar.specs.Trees.{NodeKind, Label}
-use Rattle.laws_classes.specs.laws_primary.js_tree.Labels.{kind_of, op_of, number_of}
+use Rattle.std.proofs.Common.{[], ◌∷◌, Some}
+use Rattle.laws_classes.specs.laws_primary.js_tree.Labels.{op_of, number_of}
 use Rattle.laws_classes.specs.laws_primary.js_tree.declared.op.Op.TheVariants as op
 use Rattle.laws_classes.proofs.laws_primary.MadeAs.{made_as}
 use Rattle.parse_classes.proofs.field.make_field.Goals as goal

@@ -1,4 +1,4 @@
-use Rattle.std.proofs.Common.{ap, arith, false, refl, sym, ◌∙◌}
+use Rattle.std.proofs.Common.{ap, arith, false, sym, ◌∙◌}
 use Rattle.std.proofs.lemmas.Bool.{false≢true}
 use Rattle.js_base.specs.declared.token.Token.{Token}
 use Rattle.laws_classes.proofs.laws_primary.PropertyForms.{leaf_at, word_name}

@@ -1,4 +1,4 @@
-use Rattle.std.proofs.Common.{ap, arith, false, refl, ◌∙◌}
+use Rattle.std.proofs.Common.{ap, arith, false, ◌∙◌}
 use Rattle.js_base.specs.declared.token.Token.{Token}
 use Rattle.laws_classes.specs.Members.{kind_of_word}
 use Rattle.laws_classes.proofs.laws_primary.PropertyForms.{leaf_at, word_name}
