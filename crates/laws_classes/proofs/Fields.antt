@@ -2,6 +2,9 @@
 use Rattle.std.proofs.Common.{ℕ, ◌≡◌, inl, inr, max, Bool, true, false, not, ◌&&◌, ◌||◌, List, [], ◌∷◌, ◌++◌, length, Option, Some, None, IsTrue, refl, sym, ap, subst, arith, ◌∙◌}
 use Rattle.std.specs.Prelude.{Result, Ok, Err}
 use Rattle.std.proofs.lemmas.Bool.{false≢true, and_from, and_parts, or_left, or_right}
+use Rattle.std.proofs.Math.Bool.{beq}
+use Rattle.std.specs.Cmp.{booleans_Decides}
+use Rattle.js_base.proofs.KindLemmas.{at_each}
 use Rattle.js_base.specs.declared.kind.Kind.{Kind}
 use Rattle.js_base.specs.declared.kind.Kind.TheVariants.{Comma, Eof, Eq, LParen, Semicolon}
 use Rattle.js_base.specs.Kinds.{same_kind, one_of_kinds}
@@ -354,14 +357,6 @@ pub field_made : (first : Parser) {q w : Parser} {ids : List (Option NodeId)} {i
 field_made first {q} {w} {ids} {id} k e h m = subst (λ (v : Label). MadeHere v ids q w id) (rw (e, h) refl) m
 
 -- what the code knows of the end
-pub one_of_both : (xs ys : List Kind) (k : Kind) → one_of_kinds (xs ++ ys) k ≡ (one_of_kinds xs k || one_of_kinds ys k)
-one_of_both [] ys k = refl
-one_of_both (x ∷ xs) ys k = go (same_kind x k) _ _ (one_of_both xs ys k)
-  where
-    go : (b : Bool) {c : Bool} (d e : Bool) → c ≡ (d || e) → (b || c) ≡ ((b || d) || e)
-    go true d e h = refl
-    go false d e h = h
-
 pub end_told : {text : List ℕ} {f : Flags} (p q : Parser) (r : Result (Unit {0}) Stop) → At text f p → one_of_kinds behind_kinds p.token.kind ≡ true → EndsOr p q r → EndsFieldOr p q r
 end_told p q (Ok x) a i e = (i, e)
 end_told p q (Err Fatal) a i e = gives_up _ p q Fatal a e.1 (here_ends ExpectToken refl) (inr (e.0 refl))
@@ -372,7 +367,7 @@ no_end_told p q e a i g = gives_up_here p q e a g (inl i)
 
 -- by which of the lists it is one of them
 followed : (k : Kind) → (one_of_kinds other_behind_kinds k || (one_of_kinds number_kinds k || one_of_kinds identifier_name_kinds k)) ≡ one_of_kinds behind_kinds k
-followed k = ap (λ (b : Bool). one_of_kinds other_behind_kinds k || b) (sym (one_of_both number_kinds identifier_name_kinds k)) ∙ sym (one_of_both other_behind_kinds (number_kinds ++ identifier_name_kinds) k)
+followed k = (booleans_Decides _ _).0 (at_each (λ k'. beq (one_of_kinds other_behind_kinds k' || (one_of_kinds number_kinds k' || one_of_kinds identifier_name_kinds k')) (one_of_kinds behind_kinds k')) refl k)
 
 pub followed_first : (k : Kind) → one_of_kinds other_behind_kinds k ≡ true → true ≡ one_of_kinds behind_kinds k
 followed_first k h = sym (ap (λ (b : Bool). b || (one_of_kinds number_kinds k || one_of_kinds identifier_name_kinds k)) h) ∙ followed k
