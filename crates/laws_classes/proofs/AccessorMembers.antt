@@ -2,7 +2,7 @@
 use Rattle.std.proofs.Common.{ℕ, ◌≡◌, Bool, true, false, not, ◌&&◌, ◌||◌, List, [], ◌∷◌, Some, refl, sym, ap, subst, arith, ◌∙◌}
 use Rattle.std.specs.Prelude.{Result}
 use Rattle.js_base.specs.declared.kind.Kind.{Kind}
-use Rattle.js_base.specs.declared.kind.Kind.TheVariants.{Accessor, Async, Eq, Get, LParen, RAngle, Set, Static}
+use Rattle.js_base.specs.declared.kind.Kind.TheVariants.{Accessor, Async, At as at_sign, Eq, Get, LParen, RAngle, Set, Static}
 use Rattle.js_base.specs.Kinds.{same_kind, one_of_kinds}
 use Rattle.js_base.specs.KindSets.{identifier_name_kinds}
 use Rattle.js_grammar.specs.Trees.{accessor_property, constructor_op, end, method_definition, method_op, no_op, of}
@@ -42,15 +42,15 @@ use Rattle.laws_classes.specs.Fields.{Begins, FieldNamed, ReadsField}
 use Rattle.laws_classes.specs.Members.{BeginsAccessor, accessor_line, constructors, field_line, getter_line, members, method_line, name_kinds, setter_line}
 use Rattle.laws_classes.specs.Methods.{ReadsMethod}
 use Rattle.laws_classes.specs.Names.{KeyRead, NoKey, NoKeys}
-use Rattle.laws_classes.proofs.Elements.{begun_fails, element_by, element_part, no_decorator, no_element, none_kept}
+use Rattle.laws_classes.proofs.Elements.{begun_fails, element_by, element_part, no_decorator, no_element, none_kept, word_no_sign}
 use Rattle.laws_classes.proofs.Fields.{kept_between}
 use Rattle.laws_classes.proofs.Names.{key_part}
 use Rattle.laws_classes.proofs.Members.{No, behind_look, no_accessor_word, no_getter_word, no_line_field, no_member, no_method_word, no_parameters_there, no_prefix_field, no_setter_word, only_accessor, only_getter, only_setter, quiet_named, quiet_test}
 
 module _ {text : List ℕ} {f : Flags} {first p q : Parser} (st : Bool) (af : At text f first) (b : Begun st text f first p) (a : At text f p) (e : p.token.escaped ≡ false) (m : Moved text f p q) (i : one_of_kinds name_kinds q.token.kind ≡ true) where
-  no_field_element : (c : Bool) → No text p.prev_token_end (field c (not st) true f) → No text first.prev_token_end (field_line st c f)
+  no_field_element : one_of_kinds identifier_name_kinds p.token.kind ≡ true → (c : Bool) → No text p.prev_token_end (field c (not st) true f) → No text first.prev_token_end (field_line st c f)
   unfolding covers
-  no_field_element c n = fails_node (inside_plain {F' = behind_look} refl) (begun_fails st p af b (part_fails n kept_between))
+  no_field_element w c n = fails_node (inside_plain {F' = behind_look} refl) (begun_fails st p af b (word_no_sign p.token.kind w) (part_fails n kept_between))
 
   begun_same : (t : Bool) → Begun t text f first p → Same first q
   begun_same false e = subst (λ (v : Parser). Same v q) e m.same
@@ -62,32 +62,32 @@ module _ {text : List ℕ} {f : Flags} {first p q : Parser} (st : Bool) (af : At
 
   module _ (w : one_of_kinds identifier_name_kinds p.token.kind ≡ true) (n : one_of_kinds (Async ∷ []) p.token.kind ≡ false) where
     no_methods : (c : Bool) → No text first.prev_token_end (method_line st c f)
-    no_methods c = no_element st p method_definition method_op (element_flags st c) af b (no_method_word a w m (no_parameters_there a w m i) (quiet_test (st || c)) c n)
+    no_methods c = no_element st p method_definition method_op (element_flags st c) af b (word_no_sign p.token.kind w) (no_method_word a w m (no_parameters_there a w m i) (quiet_test (st || c)) c n)
 
     no_constructors : (t : Bool) → Begun t text f first p → No text first.prev_token_end (constructors t f)
     no_constructors true g = fails_never
-    no_constructors false g = no_element false p method_definition constructor_op (element_flags false false) af g (no_method_word a w m (no_parameters_there a w m i) quiet_named false n)
+    no_constructors false g = no_element false p method_definition constructor_op (element_flags false false) af g (word_no_sign p.token.kind w) (no_method_word a w m (no_parameters_there a w m i) quiet_named false n)
 
     no_getters : one_of_kinds (Get ∷ []) p.token.kind ≡ false → (c : Bool) → No text first.prev_token_end (getter_line st c f)
-    no_getters k c = no_element st p method_definition (of Get) (element_flags st c) af b (no_getter_word a w m c k)
+    no_getters k c = no_element st p method_definition (of Get) (element_flags st c) af b (word_no_sign p.token.kind w) (no_getter_word a w m c k)
 
     no_setters : one_of_kinds (Set ∷ []) p.token.kind ≡ false → (c : Bool) → No text first.prev_token_end (setter_line st c f)
-    no_setters k c = no_element st p method_definition (of Set) (element_flags st c) af b (no_setter_word a w m c k)
+    no_setters k c = no_element st p method_definition (of Set) (element_flags st c) af b (word_no_sign p.token.kind w) (no_setter_word a w m c k)
 
     no_accessors : one_of_kinds (Accessor ∷ []) p.token.kind ≡ false → (c : Bool) → No text first.prev_token_end (accessor_line st c f)
-    no_accessors k c = no_element st p accessor_property no_op (element_flags st c) af b (no_accessor_word a w m c k)
+    no_accessors k c = no_element st p accessor_property no_op (element_flags st c) af b (word_no_sign p.token.kind w) (no_accessor_word a w m c k)
 
   -- ---- a getter
 
   module _ (k : p.token.kind ≡ Get) where
     no_get_named : (c : Bool) → NoKey text c f q.prev_token_end → No text first.prev_token_end (getter_line st c f)
-    no_get_named c n = no_element st p method_definition (of Get) (element_flags st c) af b (token Get a k e refl m ⟶✗ no_first n)
+    no_get_named c n = no_element st p method_definition (of Get) (element_flags st c) af b (ap (one_of_kinds (at_sign ∷ [])) k) (token Get a k e refl m ⟶✗ no_first n)
 
     get_word : one_of_kinds identifier_name_kinds p.token.kind ≡ true
     get_word = ap (one_of_kinds identifier_name_kinds) k
 
     get_fields : (c : Bool) → No text first.prev_token_end (field_line st c f)
-    get_fields c = no_field_element c (no_prefix_field a get_word m i st c e (ap (one_of_kinds (Get ∷ Set ∷ [])) k))
+    get_fields c = no_field_element get_word c (no_prefix_field a get_word m i st c e (ap (one_of_kinds (Get ∷ Set ∷ [])) k))
 
     get_no_async : one_of_kinds (Async ∷ []) p.token.kind ≡ false
     get_no_async = ap (one_of_kinds (Async ∷ [])) k
@@ -99,19 +99,19 @@ module _ {text : List ℕ} {f : Flags} {first p q : Parser} (st : Bool) (af : At
     get_only c x = only_getter st f c (no_methods get_word get_no_async) (no_get_named (not c) x.other) (no_setters get_word get_no_async (ap (one_of_kinds (Set ∷ [])) k)) get_fields (no_accessors get_word get_no_async (ap (one_of_kinds (Accessor ∷ [])) k)) (no_constructors get_word get_no_async st b)
 
     get_part : {r : Parser} {id : NodeId} (c : Bool) → KeyRead text f c q r id → Partway text f (element_slots st f (getter c true f)) (method_left Getter false false f ▸ kept) first r [] (Some id ∷ [])
-    get_part c x = element_part st af b (parts (part_sign Get a k e refl m) (key_part x))
+    get_part c x = element_part st af b (ap (one_of_kinds (at_sign ∷ [])) k) (parts (part_sign Get a k e refl m) (key_part x))
 
   -- ---- a setter
 
   module _ (k : p.token.kind ≡ Set) where
     no_set_named : (c : Bool) → NoKey text c f q.prev_token_end → No text first.prev_token_end (setter_line st c f)
-    no_set_named c n = no_element st p method_definition (of Set) (element_flags st c) af b (token Set a k e refl m ⟶✗ no_first n)
+    no_set_named c n = no_element st p method_definition (of Set) (element_flags st c) af b (ap (one_of_kinds (at_sign ∷ [])) k) (token Set a k e refl m ⟶✗ no_first n)
 
     set_word : one_of_kinds identifier_name_kinds p.token.kind ≡ true
     set_word = ap (one_of_kinds identifier_name_kinds) k
 
     set_fields : (c : Bool) → No text first.prev_token_end (field_line st c f)
-    set_fields c = no_field_element c (no_prefix_field a set_word m i st c e (ap (one_of_kinds (Get ∷ Set ∷ [])) k))
+    set_fields c = no_field_element set_word c (no_prefix_field a set_word m i st c e (ap (one_of_kinds (Get ∷ Set ∷ [])) k))
 
     set_no_async : one_of_kinds (Async ∷ []) p.token.kind ≡ false
     set_no_async = ap (one_of_kinds (Async ∷ [])) k
@@ -123,7 +123,7 @@ module _ {text : List ℕ} {f : Flags} {first p q : Parser} (st : Bool) (af : At
     set_only c x = only_setter st f c (no_methods set_word set_no_async) (no_getters set_word set_no_async (ap (one_of_kinds (Get ∷ [])) k)) (no_set_named (not c) x.other) set_fields (no_accessors set_word set_no_async (ap (one_of_kinds (Accessor ∷ [])) k)) (no_constructors set_word set_no_async st b)
 
     set_part : {r : Parser} {id : NodeId} (c : Bool) → KeyRead text f c q r id → Partway text f (element_slots st f (setter c true f)) (method_left Setter false false f ▸ kept) first r [] (Some id ∷ [])
-    set_part c x = element_part st af b (parts (part_sign Set a k e refl m) (key_part x))
+    set_part c x = element_part st af b (ap (one_of_kinds (at_sign ∷ [])) k) (parts (part_sign Set a k e refl m) (key_part x))
 
   -- ---- one of them
 
@@ -155,10 +155,10 @@ module _ {text : List ℕ} {f : Flags} {first p q : Parser} (st : Bool) (af : At
     accessor_no_async = ap (one_of_kinds (Async ∷ [])) k
 
     accessor_fields : (c : Bool) → No text first.prev_token_end (field_line st c f)
-    accessor_fields c = no_field_element c (no_line_field a accessor_word m i st c l)
+    accessor_fields c = no_field_element accessor_word c (no_line_field a accessor_word m i st c l)
 
     no_accessor_named : (c : Bool) → NoKey text c f q.prev_token_end → No text first.prev_token_end (accessor_line st c f)
-    no_accessor_named c n = no_element st p accessor_property no_op (element_flags st c) af b (token Accessor a k e refl m ⟶✗ (same_line m.at l ▹✗ fails_ended {X' = plain full} (no_first n) (λ cs j ls mid l d h. (refl, refl))))
+    no_accessor_named c n = no_element st p accessor_property no_op (element_flags st c) af b (ap (one_of_kinds (at_sign ∷ [])) k) (token Accessor a k e refl m ⟶✗ (same_line m.at l ▹✗ fails_ended {X' = plain full} (no_first n) (λ cs j ls mid l d h. (refl, refl))))
 
     accessor_none : NoKeys text f q.prev_token_end → No text first.prev_token_end (members st f)
     accessor_none n = no_member st f (no_methods accessor_word accessor_no_async) (no_getters accessor_word accessor_no_async (ap (one_of_kinds (Get ∷ [])) k)) (no_setters accessor_word accessor_no_async (ap (one_of_kinds (Set ∷ [])) k)) accessor_fields (λ c. no_accessor_named c (n c)) (no_constructors accessor_word accessor_no_async st b)
@@ -185,7 +185,7 @@ module _ {text : List ℕ} {f : Flags} {first p q : Parser} (st : Bool) (af : At
       forward = let j = m.further in let n = m.at.behind in omega arith;
       pass = λ ls. next m.lexeme ls;
       walked = walked_one m;
-      goes = record { reach = 0; near = omega arith; goes = none_kept (no_decorator f) ▹ (done ▹ accessor_passed c) };
+      goes = record { reach = 0; near = omega arith; goes = none_kept (no_decorator a (ap (one_of_kinds (at_sign ∷ [])) k)) ▹ (done ▹ accessor_passed c) };
     })
     accessor_begins true c (h, n) = record {
       at = m.at;
@@ -195,7 +195,7 @@ module _ {text : List ℕ} {f : Flags} {first p q : Parser} (st : Bool) (af : At
       forward = let j = m.further in let o = m.at.behind in let u = n.further in let v = n.at.behind in omega arith;
       pass = λ ls. next n.lexeme (next m.lexeme ls);
       walked = walked_both (walked_one n) (walked_one m);
-      goes = record { reach = 0; near = omega arith; goes = none_kept (no_decorator f) ▹ (skips af Static h.0 h.1 refl n ▹ accessor_passed c) };
+      goes = record { reach = 0; near = omega arith; goes = none_kept (no_decorator af (ap (one_of_kinds (at_sign ∷ [])) h.0)) ▹ (skips af Static h.0 h.1 refl n ▹ accessor_passed c) };
     }
 
     -- its first lexeme

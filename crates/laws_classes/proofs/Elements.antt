@@ -1,7 +1,10 @@
 -- Elements of classes (ECMA-262, 15.7): what stands around a member, and its node.
-use Rattle.std.proofs.Common.{ℕ, ◌≡◌, max, Bool, true, false, List, [], length, Option, refl, sym, subst, arith}
+use Rattle.std.proofs.Common.{ℕ, ◌≡◌, max, Bool, true, false, List, [], ◌∷◌, length, Option, refl, sym, ap, subst, arith}
 use Rattle.std.specs.Prelude.{Result, Ok, Err}
-use Rattle.js_base.specs.declared.kind.Kind.TheVariants.{Static}
+use Rattle.js_base.specs.declared.kind.Kind.{Kind}
+use Rattle.js_base.specs.declared.kind.Kind.TheVariants.{At as at_sign, Static}
+use Rattle.js_base.specs.KindSets.{identifier_name_kinds}
+use Rattle.js_base.specs.Kinds.{one_of_kinds}
 use Rattle.js_grammar.specs.Trees.{Label, NodeKind, Op, Slots, end, tree}
 use Rattle.js_grammar.specs.Grammar.{Lexemes, keep, kept, many, nothing, Takes, is_nothing, is_seq, is_left, is_right, is_many, is_keep, is_kept, ◌▸◌}
 use Rattle.js_grammar.specs.Lexed.{Lexes}
@@ -9,7 +12,7 @@ use Rattle.js_grammar.specs.Parsing.{Test, plain, full, still, Goes, Reads, Fail
 use Rattle.js_grammar.specs.Productions.{G, Flags, make, Decorator}
 use Rattle.js_grammar.specs.Productions.{sym as symbol}
 use Rattle.js_grammar.specs.Table.{rule}
-use Rattle.js_grammar.proofs.Looks.{apart}
+use Rattle.js_grammar.proofs.Looks.{covers, apart}
 use Rattle.js_grammar.proofs.Calculus.{◌▹◌, ◌▹✗◌, done, fails_node, inside_full, part_fails, passes_none}
 use Rattle.laws_primary.specs.js_tree.declared.id.NodeId.{NodeId}
 use Rattle.laws_primary.specs.js_tree.Nodes.{Node}
@@ -19,23 +22,28 @@ use Rattle.laws_primary.specs.js_cursor.declared.stop.Stop.{Stop}
 use Rattle.laws_primary.specs.laws_shared.Arguments.{Partway}
 use Rattle.laws_primary.specs.laws_shared.Lexemes.{Lex}
 use Rattle.laws_primary.specs.laws_shared.States.{At, Same, NodesLie}
-use Rattle.laws_primary.proofs.laws_shared.Dead.{fails_dead}
 use Rattle.laws_primary.proofs.laws_shared.MadeNodes.{LabelLies, from_start}
 use Rattle.laws_primary.proofs.laws_shared.Moving.{beside_nodes, same_with, stops_so}
 use Rattle.laws_primary.proofs.laws_shared.Parts.{part_from, part_sign, parts}
-use Rattle.laws_primary.proofs.laws_shared.Paths.{Path, ◌⟶✗◌, token}
+use Rattle.laws_primary.proofs.laws_shared.Paths.{Path, ◌⟶✗◌, fails_at, token}
 use Rattle.laws_primary.proofs.laws_shared.Verdicts.{verdict_of}
 use Rattle.laws_primary.proofs.AsyncWords.{any_between, part_within}
+use Rattle.laws_primary.proofs.Properties.{word_apart}
 use Rattle.laws_classes.specs.Elements.{Begun, ElementOutcome, ElementTaken, behind_element, element_slots}
 
 -- ---- what is kept
 
-module _ {text : List ℕ} {s : ℕ} {X : Test} where
-  -- decorators aren't read yet
-  pub no_decorator : (f : Flags) → Fails rule (Lex text) X end (symbol Decorator f) s
-  unfolding apart
-  no_decorator f = fails_dead (symbol Decorator f) refl
+-- a decorator begins with `@`
+pub no_decorator : {text : List ℕ} {f : Flags} {p : Parser} {X : Test} → At text f p → one_of_kinds (at_sign ∷ []) p.token.kind ≡ false → Fails rule (Lex text) X end (symbol Decorator f) p.prev_token_end
+unfolding covers apart
+no_decorator {f = f} a u = fails_at a (symbol Decorator f) (at_sign ∷ []) refl u
 
+-- no word does
+pub word_no_sign : (k : Kind) → one_of_kinds identifier_name_kinds k ≡ true → one_of_kinds (at_sign ∷ []) k ≡ false
+unfolding apart
+word_no_sign k w = word_apart (at_sign ∷ []) refl k w
+
+module _ {text : List ℕ} {s : ℕ} {X : Test} where
   -- nothing is kept
   pub kept_none : Reads rule (Lex text) X end kept s s (λ us. us) (still 0)
   kept_none = record { passes = passes_none; sound = λ us vs k ls rest l w d. to us vs k ls rest d; only = λ ts vs k ls rest l d e. from ts vs k ls rest l d }
@@ -56,21 +64,27 @@ module _ {text : List ℕ} {s : ℕ} {X : Test} where
 
 -- ---- a member behind its `static`, or without one
 
+-- where a member begins, its line may be read
+pub at_first : {text : List ℕ} {f : Flags} (st : Bool) {first p : Parser} → At text f first → Begun st text f first p → At text f p
+at_first {text} {f} false a e = subst (λ (v : Parser). At text f v) (sym e) a
+at_first true a (h, m) = m.at
+
+-- no decorator stands before it, where it begins with no `@`
 module _ {text : List ℕ} {f : Flags} where
-  begun_part : (st : Bool) {first p q : Parser} {g g' : G} {js : List (Option NodeId)} → At text f first → Begun st text f first p → Partway text f (g ▸ kept) g' p q [] js → Partway text f (element_slots st f g) g' first q [] js
-  begun_part false {first} {p} {q} {g} {g'} {js} a e x = subst (λ (v : Parser). Partway text f (element_slots false f g) g' v q [] js) e (part_from (none_kept (no_decorator f) ▹ done) x)
-  begun_part true a (h, m) x = part_from (none_kept (no_decorator f)) (parts (part_sign Static a h.0 h.1 refl m) x)
+  begun_part : (st : Bool) {first p q : Parser} {g g' : G} {js : List (Option NodeId)} → At text f first → Begun st text f first p → one_of_kinds (at_sign ∷ []) p.token.kind ≡ false → Partway text f (g ▸ kept) g' p q [] js → Partway text f (element_slots st f g) g' first q [] js
+  begun_part false {first} {p} {q} {g} {g'} {js} a e u x = subst (λ (v : Parser). Partway text f (element_slots false f g) g' v q [] js) e (part_from (none_kept (no_decorator (at_first false a e) u) ▹ done) x)
+  begun_part true a (h, m) u x = part_from (none_kept (no_decorator a (ap (one_of_kinds (at_sign ∷ [])) h.0))) (parts (part_sign Static a h.0 h.1 refl m) x)
 
-  pub element_part : (st : Bool) {first p q : Parser} {g g' : G} {js : List (Option NodeId)} → At text f first → Begun st text f first p → Partway text f g g' p q [] js → Partway text f (element_slots st f g) (g' ▸ kept) first q [] js
-  element_part st a b x = begun_part st a b (part_within x)
+  pub element_part : (st : Bool) {first p q : Parser} {g g' : G} {js : List (Option NodeId)} → At text f first → Begun st text f first p → one_of_kinds (at_sign ∷ []) p.token.kind ≡ false → Partway text f g g' p q [] js → Partway text f (element_slots st f g) (g' ▸ kept) first q [] js
+  element_part st a b u x = begun_part st a b u (part_within x)
 
-  pub begun_fails : (st : Bool) {X : Test} {first : Parser} (p : Parser) {g : G} → At text f first → Begun st text f first p → Fails rule (Lex text) X end (g ▸ kept) p.prev_token_end → Fails rule (Lex text) X end (element_slots st f g) first.prev_token_end
-  begun_fails false {X} {first} p {g} a e n = subst (λ (v : Parser). Fails rule (Lex text) X end (element_slots false f g) v.prev_token_end) e (none_kept (no_decorator f) ▹✗ (done ▹✗ n))
-  begun_fails true {X} {first} p {g} a (h, m) n = none_kept (no_decorator f) ▹✗ (token Static a h.0 h.1 refl m ⟶✗ n)
+  pub begun_fails : (st : Bool) {X : Test} {first : Parser} (p : Parser) {g : G} → At text f first → Begun st text f first p → one_of_kinds (at_sign ∷ []) p.token.kind ≡ false → Fails rule (Lex text) X end (g ▸ kept) p.prev_token_end → Fails rule (Lex text) X end (element_slots st f g) first.prev_token_end
+  begun_fails false {X} {first} p {g} a e u n = subst (λ (v : Parser). Fails rule (Lex text) X end (element_slots false f g) v.prev_token_end) e (none_kept (no_decorator (at_first false a e) u) ▹✗ (done ▹✗ n))
+  begun_fails true {X} {first} p {g} a (h, m) u n = none_kept (no_decorator a (ap (one_of_kinds (at_sign ∷ [])) h.0)) ▹✗ (token Static a h.0 h.1 refl m ⟶✗ n)
 
   -- where the member isn't derived, no element of it is
-  pub no_element : (st : Bool) {X : Test} {first : Parser} (p : Parser) {g : G} (k : NodeKind) (o : Op) (fl : ℕ) → At text f first → Begun st text f first p → Fails rule (Lex text) (plain full) end g p.prev_token_end → Fails rule (Lex text) X end (make k o fl (element_slots st f g)) first.prev_token_end
-  no_element st p k o fl a b n = fails_node inside_full (begun_fails st p a b (part_fails n any_between))
+  pub no_element : (st : Bool) {X : Test} {first : Parser} (p : Parser) {g : G} (k : NodeKind) (o : Op) (fl : ℕ) → At text f first → Begun st text f first p → one_of_kinds (at_sign ∷ []) p.token.kind ≡ false → Fails rule (Lex text) (plain full) end g p.prev_token_end → Fails rule (Lex text) X end (make k o fl (element_slots st f g)) first.prev_token_end
+  no_element st p k o fl a b u n = fails_node inside_full (begun_fails st p a b u (part_fails n any_between))
 
 -- ---- the answer
 
@@ -97,8 +111,3 @@ module _ (text : List ℕ) (f : Flags) (p : Parser) where
   pub element_by : {g g' : G} (q : Parser) (r : Result NodeId Stop) → Goes rule (Lex text) behind_element end g p.prev_token_end g' p.prev_token_end (λ us. us) (still 0) → ElementOutcome text f g' p q r → ElementOutcome text f g p q r
   element_by q (Ok id) c x = record { at = x.at; same = x.same; further = x.further; label = x.label; slots = x.slots; pass = x.pass; walked = x.walked; verdict = verdict_of x.verdict (λ y. record { reach = max 0 y.reach; near = let i = y.near in omega arith; goes = c ▹ y.goes }) (λ n. c ▹✗ n); holds = x.holds; keeps = x.keeps }
   element_by q (Err e) c x = stops_so p q e (λ n. c ▹✗ n) x
-
--- where a member begins, its line may be read
-pub at_first : {text : List ℕ} {f : Flags} (st : Bool) {first p : Parser} → At text f first → Begun st text f first p → At text f p
-at_first {text} {f} false a e = subst (λ (v : Parser). At text f v) (sym e) a
-at_first true a (h, m) = m.at

@@ -1,5 +1,5 @@
 -- Fields of classes (ECMA-262, 15.7): what stands behind the name, and where a field ends.
-use Rattle.std.proofs.Common.{ℕ, ◌≡◌, inl, inr, max, Bool, true, false, not, ◌&&◌, ◌||◌, List, [], ◌∷◌, ◌++◌, length, Option, Some, None, IsTrue, refl, sym, ap, subst, arith, ◌∙◌}
+use Rattle.std.proofs.Common.{ℕ, ◌≡◌, inl, inr, max, Bool, true, false, not, ◌&&◌, ◌||◌, List, [], ◌∷◌, length, Option, Some, None, IsTrue, refl, sym, ap, subst, arith, ◌∙◌}
 use Rattle.std.specs.Prelude.{Result, Ok, Err}
 use Rattle.std.proofs.lemmas.Bool.{false≢true, and_from, and_parts, or_left, or_right}
 use Rattle.std.proofs.Math.Bool.{beq}
@@ -7,7 +7,7 @@ use Rattle.std.specs.Cmp.{booleans_Decides}
 use Rattle.js_base.proofs.KindLemmas.{at_each}
 use Rattle.js_base.specs.declared.kind.Kind.{Kind}
 use Rattle.js_base.specs.declared.kind.Kind.TheVariants.{Comma, Eof, Eq, LParen, Semicolon}
-use Rattle.js_base.specs.Kinds.{same_kind, one_of_kinds}
+use Rattle.js_base.specs.Kinds.{kinds, same_kind, one_of_kinds}
 use Rattle.js_base.specs.KindSets.{identifier_name_kinds, number_kinds}
 use Rattle.js_grammar.specs.Trees.{Label, NodeKind, Slots, end, hole, tree, no_op}
 use Rattle.js_grammar.specs.Grammar.{Lexeme, Lexemes, Look, begins_with_brace, ended, empty_slot, here, is, kept, may_omit, nothing, seen, semicolon, Takes, is_empty_slot, is_left, is_lexeme, is_look, is_kept, is_node, is_right, is_seq, is_such, ◌▸◌}
@@ -40,7 +40,7 @@ use Rattle.laws_primary.specs.laws_shared.Lexemes.{Lex, Plain}
 use Rattle.laws_primary.specs.laws_shared.Moves.{Moved, MadeHere}
 use Rattle.laws_primary.specs.laws_shared.States.{At, Same}
 use Rattle.laws_primary.specs.laws_shared.Statements.{link_kinds, no_link}
-use Rattle.laws_primary.proofs.laws_shared.Escapes.{plain_or_word}
+use Rattle.laws_primary.proofs.laws_shared.Escapes.{escapable_kinds, plain_or_escapable}
 use Rattle.laws_primary.proofs.laws_shared.Here.{kind_here, newline_here}
 use Rattle.laws_primary.proofs.laws_shared.MadeNodes.{node_held, one_lies, two_held}
 use Rattle.laws_primary.proofs.laws_shared.Moving.{moves, same_both, stops_behind, stops_so}
@@ -241,7 +241,7 @@ module _ {text : List ℕ} {f : Flags} {s g c : Bool} {g0 : G} {first p q : Pars
       value_unended n = value_ended ⟶✗ no_field_end y.at (goes_on (row_of y.label y.slots)) n
 
       abbrev ends_value : Row → Look
-      ends_value r k w e = (not e || one_of_kinds identifier_name_kinds k) && (looser 1 true r k w e || beside k w e)
+      ends_value r k w e = (not e || one_of_kinds escapable_kinds k) && (looser 1 true r k w e || beside k w e)
 
       value_stops : (r : Row) → covers (ends_value r) (stops_row r) ≡ true
       unfolding covers
@@ -253,7 +253,7 @@ module _ {text : List ℕ} {f : Flags} {s g c : Bool} {g0 : G} {first p q : Pars
       value_ends n z l =
           let row = row_of y.label y.slots in
           let s = narrows 2 1 (Comma ∷ []) true row (narrow_assignment 2 1 (Comma ∷ []) (narrow_operand 2 1 (Comma ∷ []) refl refl refl refl) refl refl refl refl true row y.row) z l.1 (no_comma (one_of_kinds (Comma ∷ []) z.kind) refl) (y.stops z l) in
-          covered (ends_value row) (stops_row row) (value_stops row) z.kind z.newline z.escaped (and_from _ _ (plain_or_word z (plain_lex l)) s)
+          covered (ends_value row) (stops_row row) (value_stops row) z.kind z.newline z.escaped (and_from _ _ (plain_or_escapable z (plain_lex l)) s)
         where
           no_comma : (b : Bool) → one_of_kinds (Comma ∷ []) z.kind ≡ b → one_of_kinds (Comma ∷ []) z.kind ≡ false
           no_comma true e = absurd (not_here y.at (Comma ∷ []) refl (other_kind Comma v.token.kind n) z (plain_lex l) e)
@@ -367,6 +367,7 @@ no_end_told p q e a i g = gives_up_here p q e a g (inl i)
 
 -- by which of the lists it is one of them
 followed : (k : Kind) → (one_of_kinds other_behind_kinds k || (one_of_kinds number_kinds k || one_of_kinds identifier_name_kinds k)) ≡ one_of_kinds behind_kinds k
+unfolding kinds
 followed k = (booleans_Decides _ _).0 (at_each (λ k'. beq (one_of_kinds other_behind_kinds k' || (one_of_kinds number_kinds k' || one_of_kinds identifier_name_kinds k')) (one_of_kinds behind_kinds k')) refl k)
 
 pub followed_first : (k : Kind) → one_of_kinds other_behind_kinds k ≡ true → true ≡ one_of_kinds behind_kinds k

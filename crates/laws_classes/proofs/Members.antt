@@ -1,7 +1,7 @@
 -- Members of classes (ECMA-262, 15.7): which of the lines is left, by the lexemes that a member begins with.
 use Rattle.std.proofs.Common.{ℕ, ◌≡◌, Bool, true, false, not, ◌&&◌, ◌||◌, cond, List, [], ◌∷◌, IsTrue, refl, sym, ap, subst, ◌∙◌}
 use Rattle.std.proofs.lemmas.Bool.{false≢true, and_from, and_parts, or_left, or_right}
-use Rattle.js_base.specs.declared.kind.Kind.TheVariants.{Accessor, Async, Eof, Eq, Get, LBrack, LParen, Semicolon, Set, Star}
+use Rattle.js_base.specs.declared.kind.Kind.TheVariants.{Accessor, Async, Eof, Eq, Get, LBrack, LParen, PrivateIdentifier, Semicolon, Set, Star}
 use Rattle.js_base.specs.Kinds.{same_kind, one_of_kinds}
 use Rattle.js_base.specs.KindSets.{identifier_name_kinds}
 use Rattle.js_grammar.specs.Trees.{Slots, end, hole, tree, identifier_name, no_op}
@@ -114,7 +114,7 @@ module _ {text : List ℕ} {f : Flags} {p q : Parser} (a : At text f p) (w : one
 
   key_word_alone : Path text f (plain full) (name false true f) p nothing q (tree (label_here identifier_name no_op p q) end)
   unfolding covers apart
-  key_word_alone = left (fails_at a other_names literal_kinds refl (word_apart literal_kinds refl p.token.kind w)) ⟼ by_symbol_as {X' = after (at IdentifierName f)} (λ l cs vs y d. (refl, refl)) (name_of text f p q a w m)
+  key_word_alone = left (fails_at a other_names (PrivateIdentifier ∷ literal_kinds) refl (word_apart (PrivateIdentifier ∷ literal_kinds) refl p.token.kind w)) ⟼ by_symbol_as {X' = after (at IdentifierName f)} (λ l cs vs y d. (refl, refl)) (name_of text f p q a w m)
 
   pub key_word : {X : Test} {b : G} → Path text f X (name false true f ▸ b) p b q (tree (label_here identifier_name no_op p q) end)
   key_word = let y = key_word_alone in record {

@@ -1,9 +1,9 @@
--- Members whose names are numbers or stand in brackets (ECMA-262, 15.7).
+-- Members whose names are numbers, private names, or stand in brackets (ECMA-262, 15.7).
 use Rattle.std.proofs.Common.{ℕ, ◌≡◌, Bool, true, false, not, ◌&&◌, ◌||◌, cond, List, [], ◌∷◌, Some, IsTrue, refl, sym, ap, subst, arith, ◌∙◌}
 use Rattle.std.specs.Prelude.{Result}
 use Rattle.std.proofs.lemmas.Bool.{false≢true, and_parts}
 use Rattle.js_base.specs.declared.kind.Kind.{Kind}
-use Rattle.js_base.specs.declared.kind.Kind.TheVariants.{Accessor, Async, Eq, Get, LCurly, LParen, RAngle, Semicolon, Set, Star, Static, Str}
+use Rattle.js_base.specs.declared.kind.Kind.TheVariants.{Accessor, Async, At as at_sign, Eq, Get, LCurly, LParen, RAngle, Semicolon, Set, Star, Static, Str}
 use Rattle.js_base.specs.Kinds.{same_kind, one_of_kinds}
 use Rattle.js_base.specs.Texts.{words}
 use Rattle.js_grammar.specs.Trees.{Slots, end, tree, accessor_property, constructor_op, method_definition, method_op, no_op, of}
@@ -58,18 +58,23 @@ none_of ls d k h = go (one_of_kinds ls k) refl
     go true e = absurd (false≢true (sym h ∙ covered (λ k w e. one_of_kinds ls k) (λ k w e. one_of_kinds special_firsts k) d k false false e))
     go false e = e
 
-module _ {text : List ℕ} {f : Flags} {first p : Parser} (st : Bool) (af : At text f first) (b : Begun st text f first p) (a : At text f p) (n : one_of_kinds special_firsts p.token.kind ≡ false) where
+module _ {text : List ℕ} {f : Flags} {first p : Parser} (st : Bool) (af : At text f first) (b : Begun st text f first p) (a : At text f p) (n : one_of_kinds special_firsts p.token.kind ≡ false) (i : one_of_kinds name_kinds p.token.kind ≡ true) where
+  -- no decorator begins here
+  no_sign : one_of_kinds (at_sign ∷ []) p.token.kind ≡ false
+  unfolding apart
+  no_sign = kinds_apart name_kinds (at_sign ∷ []) refl p.token.kind i
+
   getters_fail : (c : Bool) → No text first.prev_token_end (getter_line st c f)
   unfolding covers apart
-  getters_fail c = no_element st p method_definition (of Get) (element_flags st c) af b (no_first (fails_at a (tok Get) (Get ∷ []) refl (none_of (Get ∷ []) refl p.token.kind n)))
+  getters_fail c = no_element st p method_definition (of Get) (element_flags st c) af b no_sign (no_first (fails_at a (tok Get) (Get ∷ []) refl (none_of (Get ∷ []) refl p.token.kind n)))
 
   setters_fail : (c : Bool) → No text first.prev_token_end (setter_line st c f)
   unfolding covers apart
-  setters_fail c = no_element st p method_definition (of Set) (element_flags st c) af b (no_first (fails_at a (tok Set) (Set ∷ []) refl (none_of (Set ∷ []) refl p.token.kind n)))
+  setters_fail c = no_element st p method_definition (of Set) (element_flags st c) af b no_sign (no_first (fails_at a (tok Set) (Set ∷ []) refl (none_of (Set ∷ []) refl p.token.kind n)))
 
   accessors_fail : (c : Bool) → No text first.prev_token_end (accessor_line st c f)
   unfolding covers apart
-  accessors_fail c = no_element st p accessor_property no_op (element_flags st c) af b (no_first (fails_at a (tok Accessor) (Accessor ∷ []) refl (none_of (Accessor ∷ []) refl p.token.kind n)))
+  accessors_fail c = no_element st p accessor_property no_op (element_flags st c) af b no_sign (no_first (fails_at a (tok Accessor) (Accessor ∷ []) refl (none_of (Accessor ∷ []) refl p.token.kind n)))
 
   -- neither a word nor a string stands here
   abbrev word_or_string : Look
@@ -123,15 +128,15 @@ module _ {text : List ℕ} {f : Flags} {first p : Parser} (st : Bool) (af : At t
 
   no_constructors : (u : Bool) → Begun u text f first p → No text first.prev_token_end (constructors u f)
   no_constructors true g = fails_never
-  no_constructors false g = no_element false p method_definition constructor_op (element_flags false false) af g (untested quiet_named false named_fails)
+  no_constructors false g = no_element false p method_definition constructor_op (element_flags false false) af g no_sign (untested quiet_named false named_fails)
 
   -- a line of a name that isn't derived
   no_method_named : (c : Bool) → NoKey text c f p.prev_token_end → No text first.prev_token_end (method_line st c f)
-  no_method_named c m = no_element st p method_definition method_op (element_flags st c) af b (unparametered (quiet_test (st || c)) c (no_first m))
+  no_method_named c m = no_element st p method_definition method_op (element_flags st c) af b no_sign (unparametered (quiet_test (st || c)) c (no_first m))
 
   no_field_element : (c : Bool) → No text p.prev_token_end (field c (not st) true f) → No text first.prev_token_end (field_line st c f)
   unfolding covers
-  no_field_element c m = fails_node (inside_plain {F' = behind_look} refl) (begun_fails st p af b (part_fails m kept_between))
+  no_field_element c m = fails_node (inside_plain {F' = behind_look} refl) (begun_fails st p af b no_sign (part_fails m kept_between))
 
   no_field_named : (c : Bool) → NoKey text c f p.prev_token_end → No text first.prev_token_end (field_line st c f)
   no_field_named c m = no_field_element c (fails_ended {X' = plain full} (no_first m) (λ cs j ls mid l d h. (refl, refl)))
@@ -164,87 +169,86 @@ module _ {text : List ℕ} {f : Flags} {first p : Parser} (st : Bool) (af : At t
       only_method = one_of_two st f c others_fail (no_constructors st b) ▹ left (fails_alt (getters_fail c) (fails_alt (setters_fail c) (fails_alt (no_field_element c (fails_ended named_parts (λ cs j ls mid l d i. named_end (not c && not st) (not c && true) d i))) (accessors_fail c))))
 
       method_part : Partway text f (element_slots st f (plain_method (cond (st || c) nothing not_constructor) c true f)) (method_left Method false false f ▸ kept) first q [] (Some id ∷ [])
-      method_part = element_part st af b (part_from (only_name (quiet_test (st || c)) c (test_reads (st || c))) (key_part x))
+      method_part = element_part st af b no_sign (part_from (only_name (quiet_test (st || c)) c (test_reads (st || c))) (key_part x))
 
     -- nor do they
     only_field : (q.token.kind ≡ LParen → ⊥) → Goes rule (Lex text) behind_element end (members st f) first.prev_token_end (field_line st c f) first.prev_token_end (λ us. us) (still 0)
     unfolding covers apart
     only_field h = one_of_two st f c others_fail (no_constructors st b)
-        ▹ (right (no_element st p method_definition method_op (element_flags st c) af b (unparametered (quiet_test (st || c)) c (key_path x ⟶✗ fails_at x.whole.at (method_left Method false false f) (LParen ∷ []) refl (other_kind LParen q.token.kind h)))) ▹ (right (getters_fail c) ▹ (right (setters_fail c) ▹ left (accessors_fail c))))
+        ▹ (right (no_element st p method_definition method_op (element_flags st c) af b no_sign (unparametered (quiet_test (st || c)) c (key_path x ⟶✗ fails_at x.whole.at (method_left Method false false f) (LParen ∷ []) refl (other_kind LParen q.token.kind h)))) ▹ (right (getters_fail c) ▹ (right (setters_fail c) ▹ left (accessors_fail c))))
 
-    module _ (i : one_of_kinds name_kinds p.token.kind ≡ true) where
-      name_plain : (same_kind RAngle p.token.kind ≡ false) × (one_of_kinds signs p.token.kind ≡ false)
-      unfolding apart
-      name_plain = settled_kind p.token.kind (kinds_apart name_kinds unsettled refl p.token.kind i)
+    name_plain : (same_kind RAngle p.token.kind ≡ false) × (one_of_kinds signs p.token.kind ≡ false)
+    unfolding apart
+    name_plain = settled_kind p.token.kind (kinds_apart name_kinds unsettled refl p.token.kind i)
 
-      name_passable : is_last p.token.kind ≡ false
-      unfolding apart
-      name_passable = by (is_last p.token.kind) refl
-        where
-          by : (d : Bool) → is_last p.token.kind ≡ d → is_last p.token.kind ≡ false
-          by true h = absurd (not_both (λ k w e. one_of_kinds name_kinds k) (λ k w e. is_last k) refl p.token.kind false false i h)
-          by false h = h
+    name_passable : is_last p.token.kind ≡ false
+    unfolding apart
+    name_passable = by (is_last p.token.kind) refl
+      where
+        by : (d : Bool) → is_last p.token.kind ≡ d → is_last p.token.kind ≡ false
+        by true h = absurd (not_both (λ k w e. one_of_kinds name_kinds k) (λ k w e. is_last k) refl p.token.kind false false i h)
+        by false h = h
 
-      first_lexeme : (y : Lexeme) × Tells y p.token × ((z : Lexeme) → Lex text p.prev_token_end z → z ≡ y)
-      first_lexeme =
-          let u = uncut a name_plain.0 in
-          let o = found a u name_passable in
-          (o.0, o.2, λ z j. one_read a name_plain.1 j (o.1, subst (λ (v : Kind). is_read_kind v ≡ true) (sym (told a u name_plain.1 z j).kind ∙ o.2.kind) j.1))
+    first_lexeme : (y : Lexeme) × Tells y p.token × ((z : Lexeme) → Lex text p.prev_token_end z → z ≡ y)
+    first_lexeme =
+        let u = uncut a name_plain.0 in
+        let o = found a u name_passable in
+        (o.0, o.2, λ z j. one_read a name_plain.1 j (o.1, subst (λ (v : Kind). is_read_kind v ≡ true) (sym (told a u name_plain.1 z j).kind ∙ o.2.kind) j.1))
 
-      off : (s e k o : Bool) → k ≡ false → (((s && not e) && k) && o) ≡ false
-      off true true k o h = refl
-      off true false k o h = rw h refl
-      off false e k o h = refl
+    off : (s e k o : Bool) → k ≡ false → (((s && not e) && k) && o) ≡ false
+    off true true k o h = refl
+    off true false k o h = rw h refl
+    off false e k o h = refl
 
-      or_none : (x y z : Bool) → y ≡ false → z ≡ false → ((x || y) || z) ≡ x
-      or_none true y z i j = refl
-      or_none false y z i j = rw (i, j) refl
+    or_none : (x y z : Bool) → y ≡ false → z ≡ false → ((x || y) || z) ≡ x
+    or_none true y z i j = refl
+    or_none false y z i j = rw (i, j) refl
 
-      no_prefix : (s g : Bool) (y : Lexeme) → seen (after_name s g first_lexeme.0) y ≡ one_of_kinds (Eq ∷ LParen ∷ []) y.kind
-      unfolding covers
-      no_prefix s g y =
-          let x = first_lexeme.0 in
-          let t = first_lexeme.1 in
-          or_none (one_of_kinds (Eq ∷ LParen ∷ []) y.kind) _ _
-          (off g x.escaped (one_of_kinds (Get ∷ Set ∷ []) x.kind) (seen begins_name y) (sym (ap (one_of_kinds (Get ∷ Set ∷ [])) t.kind) ∙ none_of (Get ∷ Set ∷ []) refl p.token.kind n))
-          (off s x.escaped (same_kind Static x.kind) (seen begins_name y || one_of_kinds (Star ∷ LCurly ∷ []) y.kind) (sym (ap (same_kind Static) t.kind) ∙ no_static (same_kind Static p.token.kind) (none_of (Static ∷ []) refl p.token.kind n)))
-        where
-          no_static : (d : Bool) → (d || false) ≡ false → d ≡ false
-          no_static true h = absurd (false≢true (sym h))
-          no_static false h = refl
+    no_prefix : (s g : Bool) (y : Lexeme) → seen (after_name s g first_lexeme.0) y ≡ one_of_kinds (Eq ∷ LParen ∷ []) y.kind
+    unfolding covers
+    no_prefix s g y =
+        let x = first_lexeme.0 in
+        let t = first_lexeme.1 in
+        or_none (one_of_kinds (Eq ∷ LParen ∷ []) y.kind) _ _
+        (off g x.escaped (one_of_kinds (Get ∷ Set ∷ []) x.kind) (seen begins_name y) (sym (ap (one_of_kinds (Get ∷ Set ∷ [])) t.kind) ∙ none_of (Get ∷ Set ∷ []) refl p.token.kind n))
+        (off s x.escaped (same_kind Static x.kind) (seen begins_name y || one_of_kinds (Star ∷ LCurly ∷ []) y.kind) (sym (ap (same_kind Static) t.kind) ∙ no_static (same_kind Static p.token.kind) (none_of (Static ∷ []) refl p.token.kind n)))
+      where
+        no_static : (d : Bool) → (d || false) ≡ false → d ≡ false
+        no_static true h = absurd (false≢true (sym h))
+        no_static false h = refl
 
-      name_begins : (t : Bool) → Begun t text f first p → Begins text f (element_slots t f (field c (not st) true f)) (field c (not st) true f ▸ kept) first p
-      name_begins false g = subst (λ (v : Parser). Begins text f (element_slots false f (field c (not st) true f)) (field c (not st) true f ▸ kept) v p) g (record {
-        at = a;
-        same = same_itself;
-        nodes = refl;
-        kept = refl;
-        forward = omega arith;
-        pass = λ ls. ls;
-        walked = nowhere;
-        goes = record { reach = 0; near = omega arith; goes = none_kept (no_decorator f) ▹ done };
-      })
-      name_begins true (h, o) = record {
-        at = o.at;
-        same = o.same;
-        nodes = o.nodes;
-        kept = o.kept;
-        forward = let i = o.further in let j = o.at.behind in omega arith;
-        pass = λ ls. next o.lexeme ls;
-        walked = walked_one o;
-        goes = record { reach = 0; near = omega arith; goes = none_kept (no_decorator f) ▹ skips af Static h.0 h.1 refl o };
-      }
+    name_begins : (t : Bool) → Begun t text f first p → Begins text f (element_slots t f (field c (not st) true f)) (field c (not st) true f ▸ kept) first p
+    name_begins false g = subst (λ (v : Parser). Begins text f (element_slots false f (field c (not st) true f)) (field c (not st) true f ▸ kept) v p) g (record {
+      at = a;
+      same = same_itself;
+      nodes = refl;
+      kept = refl;
+      forward = omega arith;
+      pass = λ ls. ls;
+      walked = nowhere;
+      goes = record { reach = 0; near = omega arith; goes = none_kept (no_decorator a no_sign) ▹ done };
+    })
+    name_begins true (h, o) = record {
+      at = o.at;
+      same = o.same;
+      nodes = o.nodes;
+      kept = o.kept;
+      forward = let i = o.further in let j = o.at.behind in omega arith;
+      pass = λ ls. next o.lexeme ls;
+      walked = walked_one o;
+      goes = record { reach = 0; near = omega arith; goes = none_kept (no_decorator af (ap (one_of_kinds (at_sign ∷ [])) h.0)) ▹ skips af Static h.0 h.1 refl o };
+    }
 
-      field_named : FieldNamed text f (not c && not st) (not c && true) c (element_slots st f (field c (not st) true f)) first p q id
-      field_named = record { begins = name_begins st b; named = x; word = first_lexeme.0; only = first_lexeme.2; plain = λ y l. no_prefix (not c && not st) (not c && true) y }
+    field_named : FieldNamed text f (not c && not st) (not c && true) c (element_slots st f (field c (not st) true f)) first p q id
+    field_named = record { begins = name_begins st b; named = x; word = first_lexeme.0; only = first_lexeme.2; plain = λ y l. no_prefix (not c && not st) (not c && true) y }
 
   -- ---- the answers
 
   pub other_method_read : {q : Parser} (w : Parser) (v : Result NodeId Stop) (start : ℕ) (o : PropertyName) → start ≡ first.token.span.start → KeyRead text f o.computed p q o.key → q.token.kind ≡ LParen → ReadsMethod (record { start = start; is_static = st }) method_kind.Method o false false q w v → ElementOutcome text f (members st f) first w v
   other_method_read w v start o s x h y = element_by text f first w v (only_method o.computed x h) (y text f first (element_slots st f (plain_method (cond (st || o.computed) nothing not_constructor) o.computed true f)) af s (method_part o.computed x h))
 
-  pub other_field_read : {q : Parser} (w : Parser) (v : Result NodeId Stop) (start : ℕ) (o : PropertyName) → start ≡ first.token.span.start → KeyRead text f o.computed p q o.key → (q.token.kind ≡ LParen → ⊥) → one_of_kinds name_kinds p.token.kind ≡ true → ReadsField (record { start = start; is_static = st }) field_kind.Property o q w v → ElementOutcome text f (members st f) first w v
-  other_field_read w v start o s x h i y = element_by text f first w v (only_field o.computed x h) (y text f (not o.computed && not st) (not o.computed && true) (element_slots st f (field o.computed (not st) true f)) first p af s (field_named o.computed x i))
+  pub other_field_read : {q : Parser} (w : Parser) (v : Result NodeId Stop) (start : ℕ) (o : PropertyName) → start ≡ first.token.span.start → KeyRead text f o.computed p q o.key → (q.token.kind ≡ LParen → ⊥) → ReadsField (record { start = start; is_static = st }) field_kind.Property o q w v → ElementOutcome text f (members st f) first w v
+  other_field_read w v start o s x h y = element_by text f first w v (only_field o.computed x h) (y text f (not o.computed && not st) (not o.computed && true) (element_slots st f (field o.computed (not st) true f)) first p af s (field_named o.computed x))
 
   -- from where the element began
   pub other_stops : (w : Parser) (e : Stop) → Stops p w e (NoKeys text f p.prev_token_end) → Stops first w e (No text first.prev_token_end (members st f))

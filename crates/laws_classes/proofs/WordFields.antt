@@ -3,7 +3,7 @@ use Rattle.std.proofs.Common.{ℕ, ◌≡◌, ◌⊎◌, inl, inr, Bool, true, f
 use Rattle.std.specs.Prelude.{Result}
 use Rattle.std.proofs.lemmas.Bool.{false≢true}
 use Rattle.js_base.specs.declared.kind.Kind.{Kind}
-use Rattle.js_base.specs.declared.kind.Kind.TheVariants.{Eq, Get, LCurly, LParen, RAngle, Set, Star, Static}
+use Rattle.js_base.specs.declared.kind.Kind.TheVariants.{At as at_sign, Eq, Get, LCurly, LParen, RAngle, Set, Star, Static}
 use Rattle.js_base.specs.Kinds.{same_kind, one_of_kinds}
 use Rattle.js_base.specs.KindSets.{identifier_name_kinds}
 use Rattle.js_base.specs.Texts.{words}
@@ -38,7 +38,7 @@ use Rattle.laws_classes.specs.Elements.{Begun, ElementOutcome, behind_element, e
 use Rattle.laws_classes.specs.Fields.{Begins, FieldNamed, ReadsField}
 use Rattle.laws_classes.specs.Members.{NamesMember, accessor_line, constructors, field_line, getter_line, members, method_line, name_kinds, setter_line}
 use Rattle.laws_classes.specs.Names.{KeyRead, NoKey}
-use Rattle.laws_classes.proofs.Elements.{begun_fails, element_by, no_decorator, no_element, none_kept}
+use Rattle.laws_classes.proofs.Elements.{begun_fails, element_by, no_decorator, no_element, none_kept, word_no_sign}
 use Rattle.laws_classes.proofs.Fields.{kept_between}
 use Rattle.laws_classes.proofs.Members.{No, Quiet, behind_look, no_bracket_field, no_parameters, one_of_two, quiet_fails, quiet_named, quiet_test}
 use Rattle.laws_classes.proofs.WordMembers.{by_line, no_accessor_so, no_async_so, no_getter_so, no_method_there, no_setter_so}
@@ -64,24 +64,24 @@ module _ {text : List ℕ} {f : Flags} {first p q : Parser} (st : Bool) (af : At
       (fails_alt (no_async_so a m _ (λ k e. no_async_behind t c false (n.async_method e k))) (no_async_so a m _ (λ k e. no_async_behind t c true (n.async_method e k))))
 
   no_methods : (c : Bool) → No text first.prev_token_end (method_line st c f)
-  no_methods c = no_element st p method_definition method_op (element_flags st c) af b (word_no_method (quiet_test (st || c)) c)
+  no_methods c = no_element st p method_definition method_op (element_flags st c) af b (word_no_sign p.token.kind w) (word_no_method (quiet_test (st || c)) c)
 
   no_constructors : (t : Bool) → Begun t text f first p → No text first.prev_token_end (constructors t f)
   no_constructors true g = fails_never
-  no_constructors false g = no_element false p method_definition constructor_op (element_flags false false) af g (word_no_method quiet_named false)
+  no_constructors false g = no_element false p method_definition constructor_op (element_flags false false) af g (word_no_sign p.token.kind w) (word_no_method quiet_named false)
 
   no_getters : (c : Bool) → No text first.prev_token_end (getter_line st c f)
-  no_getters c = no_element st p method_definition (of Get) (element_flags st c) af b (no_getter_so a m c (λ k e. no_key_behind (n.accessor_method e (ap (one_of_kinds (Get ∷ Set ∷ [])) k)) c))
+  no_getters c = no_element st p method_definition (of Get) (element_flags st c) af b (word_no_sign p.token.kind w) (no_getter_so a m c (λ k e. no_key_behind (n.accessor_method e (ap (one_of_kinds (Get ∷ Set ∷ [])) k)) c))
 
   no_setters : (c : Bool) → No text first.prev_token_end (setter_line st c f)
-  no_setters c = no_element st p method_definition (of Set) (element_flags st c) af b (no_setter_so a m c (λ k e. no_key_behind (n.accessor_method e (ap (one_of_kinds (Get ∷ Set ∷ [])) k)) c))
+  no_setters c = no_element st p method_definition (of Set) (element_flags st c) af b (word_no_sign p.token.kind w) (no_setter_so a m c (λ k e. no_key_behind (n.accessor_method e (ap (one_of_kinds (Get ∷ Set ∷ [])) k)) c))
 
   no_accessors : (c : Bool) → No text first.prev_token_end (accessor_line st c f)
-  no_accessors c = no_element st p accessor_property no_op (element_flags st c) af b (no_accessor_so a m c (λ k e. no_accessor_behind c (n.accessor_field e k)))
+  no_accessors c = no_element st p accessor_property no_op (element_flags st c) af b (word_no_sign p.token.kind w) (no_accessor_so a m c (λ k e. no_accessor_behind c (n.accessor_field e k)))
 
   no_bracket_line : No text first.prev_token_end (field_line st true f)
   unfolding covers
-  no_bracket_line = fails_node (inside_plain {F' = behind_look} refl) (begun_fails st p af b (part_fails (no_bracket_field a w m false false) kept_between))
+  no_bracket_line = fails_node (inside_plain {F' = behind_look} refl) (begun_fails st p af b (word_no_sign p.token.kind w) (part_fails (no_bracket_field a w m false false) kept_between))
 
   only_field : Goes rule (Lex text) behind_element end (members st f) first.prev_token_end (field_line st false f) first.prev_token_end (λ us. us) (still 0)
   only_field = one_of_two st f false (fails_alt (no_methods true) (fails_alt (no_getters true) (fails_alt (no_setters true) (fails_alt no_bracket_line (no_accessors true))))) (no_constructors st b)
@@ -98,7 +98,7 @@ module _ {text : List ℕ} {f : Flags} {first p q : Parser} (st : Bool) (af : At
     forward = omega arith;
     pass = λ ls. ls;
     walked = nowhere;
-    goes = record { reach = 0; near = omega arith; goes = none_kept (no_decorator f) ▹ done };
+    goes = record { reach = 0; near = omega arith; goes = none_kept (no_decorator a (word_no_sign p.token.kind w)) ▹ done };
   })
   word_begins true (h, o) = record {
     at = o.at;
@@ -108,7 +108,7 @@ module _ {text : List ℕ} {f : Flags} {first p q : Parser} (st : Bool) (af : At
     forward = let i = o.further in let j = o.at.behind in omega arith;
     pass = λ ls. next o.lexeme ls;
     walked = walked_one o;
-    goes = record { reach = 0; near = omega arith; goes = none_kept (no_decorator f) ▹ skips af Static h.0 h.1 refl o };
+    goes = record { reach = 0; near = omega arith; goes = none_kept (no_decorator af (ap (one_of_kinds (at_sign ∷ [])) h.0)) ▹ skips af Static h.0 h.1 refl o };
   }
 
   word_plain : (same_kind RAngle p.token.kind ≡ false) × (one_of_kinds signs p.token.kind ≡ false)

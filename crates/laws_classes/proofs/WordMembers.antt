@@ -40,7 +40,7 @@ use Rattle.laws_classes.specs.Elements.{Begun, ElementOutcome, behind_element, e
 use Rattle.laws_classes.specs.Members.{accessor_line, constructor_line, constructors, field_line, forms, getter_line, kind_of_word, members, method_line, name_kinds, setter_line}
 use Rattle.laws_classes.specs.Names.{KeyRead, NoKey}
 use Rattle.laws_classes.proofs.ConstructorNames.{constructor_units, other_units}
-use Rattle.laws_classes.proofs.Elements.{begun_fails, element_by, element_part, no_element}
+use Rattle.laws_classes.proofs.Elements.{begun_fails, element_by, element_part, no_element, word_no_sign}
 use Rattle.laws_classes.proofs.Fields.{kept_between}
 use Rattle.laws_classes.proofs.Members.{No, Quiet, one_of_two, behind_look, no_bracket_field, no_bracket_key, no_field_word, quiet_fails, quiet_named, quiet_nothing, quiet_test, quiet_unnamed}
 use Rattle.laws_classes.proofs.Names.{key_part}
@@ -152,13 +152,13 @@ module _ {text : List ℕ} {f : Flags} {first p q : Parser} (st : Bool) (af : At
   no_name_behind = ap (one_of_kinds (Star ∷ name_kinds)) h
 
   getters_fail : (c : Bool) → No text first.prev_token_end (getter_line st c f)
-  getters_fail c = no_element st p method_definition (of Get) (element_flags st c) af b (no_getter_so a m c (λ k e. no_key_there m.at no_name_behind c))
+  getters_fail c = no_element st p method_definition (of Get) (element_flags st c) af b (word_no_sign p.token.kind w) (no_getter_so a m c (λ k e. no_key_there m.at no_name_behind c))
 
   setters_fail : (c : Bool) → No text first.prev_token_end (setter_line st c f)
-  setters_fail c = no_element st p method_definition (of Set) (element_flags st c) af b (no_setter_so a m c (λ k e. no_key_there m.at no_name_behind c))
+  setters_fail c = no_element st p method_definition (of Set) (element_flags st c) af b (word_no_sign p.token.kind w) (no_setter_so a m c (λ k e. no_key_there m.at no_name_behind c))
 
   accessors_fail : (c : Bool) → No text first.prev_token_end (accessor_line st c f)
-  accessors_fail c = no_element st p accessor_property no_op (element_flags st c) af b (no_accessor_so a m c (λ k e. by_line m.at (no_field_there m.at no_name_behind c)))
+  accessors_fail c = no_element st p accessor_property no_op (element_flags st c) af b (word_no_sign p.token.kind w) (no_accessor_so a m c (λ k e. by_line m.at (no_field_there m.at no_name_behind c)))
 
   abbrev no_parenthesis : Look
   no_parenthesis k w e = not (same_kind LParen k)
@@ -173,7 +173,7 @@ module _ {text : List ℕ} {f : Flags} {first p q : Parser} (st : Bool) (af : At
 
   fields_fail : (c : Bool) → No text first.prev_token_end (field_line st c f)
   unfolding covers
-  fields_fail c = fails_node (inside_plain {F' = behind_look} refl) (begun_fails st p af b (part_fails (word_no_field c) kept_between))
+  fields_fail c = fails_node (inside_plain {F' = behind_look} refl) (begun_fails st p af b (word_no_sign p.token.kind w) (part_fails (word_no_field c) kept_between))
 
   module _ {t : G} (quiet : Quiet t) where
     async_fails : (c s : Bool) → Fails rule (Lex text) (plain full) end ((tok Async ▸ no_newline) ▸ only s (tok Star) ▸ t ▸ name c true f ▸ method_left Method true s f) p.prev_token_end
@@ -193,10 +193,10 @@ module _ {text : List ℕ} {f : Flags} {first p q : Parser} (st : Bool) (af : At
     only_name r = left (fails_alt (async_fails false false) (async_fails false true)) ▹ (left (star_fails _) ▹ (done ▹ (done ▹ pass_over r)))
 
     method_part : {r : Parser} {id : NodeId} → Reads rule (Lex text) (plain full) end t p.prev_token_end p.prev_token_end (λ us. us) (still 0) → KeyRead text f false p r id → Partway text f (element_slots st f (plain_method t false true f)) (method_left Method false false f ▸ kept) first r [] (Some id ∷ [])
-    method_part r x = element_part st af b (part_from (only_name r) (key_part x))
+    method_part r x = element_part st af b (word_no_sign p.token.kind w) (part_from (only_name r) (key_part x))
 
   bracket_line_fails : No text first.prev_token_end (method_line st true f)
-  bracket_line_fails = no_element st p method_definition method_op (element_flags st true) af b (bracket_method_fails (quiet_test (st || true)))
+  bracket_line_fails = no_element st p method_definition method_op (element_flags st true) af b (word_no_sign p.token.kind w) (bracket_method_fails (quiet_test (st || true)))
 
   others_fail : No text first.prev_token_end (forms st true f)
   others_fail = fails_alt bracket_line_fails (fails_alt (getters_fail true) (fails_alt (setters_fail true) (fails_alt (fields_fail true) (accessors_fail true))))
@@ -212,12 +212,12 @@ static_method {text} {f} {first} w v start af b a i m h s x y = element_by text 
 plain_word_method : {text : List ℕ} {f : Flags} {first p q r : Parser} {id : NodeId} (w : Parser) (v : Result NodeId Stop) (start : ℕ) (af : At text f first) (b : Begun false text f first p) (a : At text f p) (i : one_of_kinds identifier_name_kinds p.token.kind ≡ true) (m : Moved text f p q) (h : q.token.kind ≡ LParen) → start ≡ first.token.span.start → KeyRead text f false p r id → (o : Bool) → same_kind Constructor p.token.kind ≡ o → ReadsMethod (record { start = start; is_static = false }) (cond o kind.Constructor kind.Method) (record { key = id; computed = false }) false false r w v → ElementOutcome text f (members false f) first w v
 plain_word_method {text} {f} {first} {p} w v start af b a i m h s x true o y =
     let k : p.token.kind ≡ Constructor = sym (kind_of_same Constructor p.token.kind o) in
-    let n : No text first.prev_token_end (method_line false false f) = no_element false p method_definition method_op (element_flags false false) af b (tested_fails false af b a i m h quiet_unnamed (unnamed_fails a i k)) in
+    let n : No text first.prev_token_end (method_line false false f) = no_element false p method_definition method_op (element_flags false false) af b (word_no_sign p.token.kind i) (tested_fails false af b a i m h quiet_unnamed (unnamed_fails a i k)) in
     let c : Goes rule (Lex text) behind_element end (members false f) first.prev_token_end (constructor_line f) first.prev_token_end (λ us. us) (still 0) = right (fails_alt (fails_alt n (fails_alt (getters_fail false af b a i m h false) (fails_alt (setters_fail false af b a i m h false) (fails_alt (fields_fail false af b a i m h false) (accessors_fail false af b a i m h false))))) (others_fail false af b a i m h)) in
     element_by text f first w v c (y text f first (element_slots false f (plain_method named_constructor false true f)) af s (method_part false af b a i m h quiet_named (named_reads a i k) x))
 plain_word_method {text} {f} {first} {p} w v start af b a i m h s x false o y =
     let k : p.token.kind ≡ Constructor → ⊥ = λ e. false≢true (sym o ∙ ap (same_kind Constructor) e) in
-    let n : No text first.prev_token_end (constructors false f) = no_element false p method_definition constructor_op (element_flags false false) af b (tested_fails false af b a i m h quiet_named (named_fails a i k)) in
+    let n : No text first.prev_token_end (constructors false f) = no_element false p method_definition constructor_op (element_flags false false) af b (word_no_sign p.token.kind i) (tested_fails false af b a i m h quiet_named (named_fails a i k)) in
     element_by text f first w v (only_method false af b a i m h n) (y text f first (element_slots false f (plain_method not_constructor false true f)) af s (method_part false af b a i m h quiet_unnamed (unnamed_reads a i k) x))
 
 method_read_so : {text : List ℕ} {f : Flags} {first p q r : Parser} {id : NodeId} (st : Bool) (w : Parser) (v : Result NodeId Stop) (start : ℕ) (af : At text f first) (b : Begun st text f first p) (a : At text f p) (i : one_of_kinds identifier_name_kinds p.token.kind ≡ true) (m : Moved text f p q) (h : q.token.kind ≡ LParen) → start ≡ first.token.span.start → KeyRead text f false p r id → ReadsMethod (record { start = start; is_static = st }) (kind_of_word st p.token.kind) (record { key = id; computed = false }) false false r w v → ElementOutcome text f (members st f) first w v

@@ -91,6 +91,6 @@ ReadsBehindWord h word old new r = (text : List ℕ) (f : Flags) (first p : Pars
 abbrev pub special_firsts : List Kind
 special_firsts = Str ∷ Star ∷ identifier_name_kinds
 
--- A member begins here whose name is a number or stands in brackets, behind `static` or not.
+-- A member begins here whose name is a number or a private name or stands in brackets, behind `static` or not.
 abbrev pub ReadsOtherMember : ElementHead → Parser → Parser → Result NodeId Stop → Type 0
 ReadsOtherMember h old new r = (text : List ℕ) (f : Flags) (first : Parser) → At text f first → h.start ≡ first.token.span.start → Begun h.is_static text f first old → ElementOutcome text f (members h.is_static f) first new r
