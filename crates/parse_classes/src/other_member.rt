@@ -1,4 +1,4 @@
-//! Members whose names are numbers or stand in brackets (ECMA-262, section 15.7).
+//! Members whose names are numbers, private names, or stand in brackets (ECMA-262, section 15.7).
 
 ghost use Rattle.std.specs.Prelude.{◌≡◌, ◌+◌, ◌≤◌, true, false};
 ghost use Rattle.parse_classes.specs.Prelude.{CanNest, name_kinds, one_of_kinds, ReadsOtherMember, room, special_firsts, Standing};
@@ -11,7 +11,7 @@ use laws_classes::forms::{ElementHead, FieldKind};
 use parse_shared::nested::Nested;
 use parse_shared::{MethodKind, NodeId, ParserConfig, ParserImpl, Stop};
 
-/// A method or a field whose name is a number or stands in brackets (ECMA-262, section 15.7).
+/// A method or a field whose name is a number or a private name, or stands in brackets (ECMA-262, section 15.7).
 pub fn parse_other_member<C: ParserConfig, N: Nested<C>>(
     p: &mut ParserImpl<'_, C>,
     nested: &N,

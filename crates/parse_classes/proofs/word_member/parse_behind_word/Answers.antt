@@ -1,10 +1,10 @@
-use Rattle.std.proofs.Common.{ap, arith, false, sym, ◌∙◌}
+use Rattle.std.proofs.Common.{ap, arith, sym, ◌∙◌}
 use Rattle.std.proofs.lemmas.Bool.{false≢true}
 use Rattle.js_base.specs.declared.token.Token.{Token}
 use Rattle.laws_classes.proofs.laws_primary.PropertyForms.{leaf_at, word_name}
 use Rattle.laws_classes.proofs.laws_primary.laws_shared.Moving.{standing}
 use Rattle.laws_classes.proofs.laws_primary.laws_shared.Nesting.{nests_later}
-use Rattle.laws_classes.proofs.Names.{key_read}
+use Rattle.laws_classes.proofs.Names.{word_key}
 use Rattle.laws_classes.proofs.WordFields.{word_field_read}
 use Rattle.parse_classes.proofs.word_member.parse_behind_word.Goals as goal
 
@@ -25,5 +25,5 @@ parse_field-requires-clause-before g c = let r = (leaf_at c.requires.at c.in_ok-
 
 pub returns : goal.returns
 returns g c = λ text f first p af s a b e i ms n.
-    let x = key_read false (word_name a i ms (ap (λ (t : Token). t.span) e) c.in_ok-key.ensures) in
+    let x = word_key a i (word_name a i ms (ap (λ (t : Token). t.span) e) c.in_ok-key.ensures) in
     word_field_read c.args.head.is_static af b a i (ms text f a) n (λ k. false≢true (sym c.if-at.false ∙ c.at.ensures.1 k)) _ c.parse_field.result c.args.head.start s (leaf_at (ms text f a).at c.in_ok-key.ensures).1 x c.parse_field.ensures
