@@ -1,4 +1,4 @@
-use Rattle.std.proofs.Common.{arith, ap}
+use Rattle.std.proofs.Common.{[], ◌∷◌, Some, arith, ap}
 use Rattle.std.proofs.lemmas.Result.{err_from_is_err_and}
 use Rattle.js_base.specs.declared.kind.Kind.TheVariants.{RAngle}
 use Rattle.js_base.specs.Kinds.{same_kind}
@@ -45,4 +45,4 @@ make_field-requires g c =
 pub returns : goal.returns
 returns g c = λ text f s h g0 first p a e d.
     let m = c.in_ok-advance.ensures text f d.named.whole.at in
-    value_taken a (node_of_field c.args.kind) (element_flags c.args.head.is_static c.args.name.computed) d c.requires.sign m (c.in_ok-value.ensures text f m.at) c.in_ok-end_field.ensures (field_made first c.args.kind e c.element_flags-flags.ensures c.in_ok-node.ensures)
+    value_taken a (node_of_field c.args.kind) (element_flags c.args.head.is_static c.args.name.computed) d c.requires.sign m (c.in_ok-value.ensures text f m.at) c.in_ok-end_field.ensures (field_made first {ids = Some c.args.name.key ∷ Some c.in_ok-value.value ∷ []} {n = element_flags c.args.head.is_static c.args.name.computed} c.args.kind e c.element_flags-flags.ensures c.in_ok-node.ensures)

@@ -17,4 +17,4 @@ make_method-requires g c =
 pub returns : goal.returns
 returns g c = λ text f first i a e x.
     let y = c.in_ok-function.ensures text f x.at in
-    method_taken a c.args.kind (element_flags c.args.head.is_static c.args.name.computed) (form_so c.args.is_async c.args.generator c.form_of_method.ensures x) y (method_made first c.args.kind e c.element_flags-flags.ensures c.in_ok-node.ensures)
+    method_taken a c.args.kind (element_flags c.args.head.is_static c.args.name.computed) (form_so c.args.is_async c.args.generator c.form_of_method.ensures x) y (method_made first {n = element_flags c.args.head.is_static c.args.name.computed} c.args.kind e c.element_flags-flags.ensures c.in_ok-node.ensures)
