@@ -53,7 +53,7 @@ use Rattle.laws_operators.proofs.Coalescing.{no_short}
 use Rattle.laws_operators.proofs.Exponents.{power_none}
 use Rattle.laws_operators.proofs.NotedClosings.{noted_false, noted_true}
 use Rattle.laws_operators.proofs.NotedHeads.{there_too}
-use Rattle.laws_operators.proofs.Operations.{fails_at_level}
+use Rattle.laws_operators.proofs.Operations.{fails_at_level, no_private}
 use Rattle.laws_operators.proofs.SlashedHeads.{found_there, only_no_operand}
 use Rattle.laws_operators.proofs.Updates.{nothing_read}
 
