@@ -1,10 +1,9 @@
 //! Tests of the libraries by their public calls, and these calls under their clauses alone.
 #![tactic(auto)]
 
-pub mod clauses;
-
 #[cfg(test)]
 mod base;
+pub mod clauses;
 #[cfg(test)]
 mod cursor;
 #[cfg(test)]

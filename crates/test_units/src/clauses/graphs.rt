@@ -10,12 +10,7 @@ use js_graph::{Graph, Resolution, Texts};
 use std::alloc::Global;
 
 /// `Graph::link`.
-pub fn link(
-    graph: &mut Graph,
-    number: usize,
-    request: &str,
-    target: usize,
-) -> Result<(), NoMemory>
+pub fn link(graph: &mut Graph, number: usize, request: &str, target: usize) -> Result<(), NoMemory>
     requires exists { number < length graph.old }
     requires target_exists { target < length graph.old }
     ensures ok { OnOk result (graph.new ≡ with_link graph.old number request.now target) }
