@@ -10,25 +10,17 @@ ghost use Rattle.js_core.specs.Kept.{KeepsRight};
 ghost use Rattle.js_core.specs.Readings.{read_at};
 ghost use Rattle.js_parser.specs.Parsed.{options_of, IsReturn, output_of};
 
-use js_base::{NoMemory, ParseOptions, SourceType};
+use js_base::NoMemory;
 use js_cursor::ParserConfig;
 use js_parser::{Parser, ParserReturn};
-use std::alloc::Global;
 
-/// `Parser::parse`, by these options and this config.
-pub fn parse<C: ParserConfig>(
-    alloc: Global,
-    source_text: &str,
-    source_type: SourceType,
-    options: ParseOptions,
-    config: C,
-) -> Result<ParserReturn, NoMemory>
-    ensures core_headline { IfOk result (λ r. IsUtf8 source_text.now → CoreSource source_text.now → options.preserve_parens ≡ true → IsCoreAnswer source_text.now source_type r.program.source_type options.allow_v8_intrinsics r.program.tree r.diagnostics) }
-    ensures kept { IfOk result (λ r. KeepsRight source_text.now (read_at (goal_of source_type)) (options_of options) (C.asks_for_tokens config) (output_of r)) }
-    ensures answers { IfOk result (λ r. IsReturn source_text.now source_type r.program.source_type options r.program.tree (output_of r) r.fatal_error) }
-    ensures overlong_record { IfOk result (λ r. MAX_LEN < length source_text.now → r.module_record ≡ record_of_parts []) }
+/// `Parser::parse`.
+pub fn parse<C: ParserConfig>(parser: Parser<'_, C>) -> Result<ParserReturn, NoMemory>
+    ensures core_headline { IfOk result (λ r. IsUtf8 parser.entry.source_text.now → CoreSource parser.entry.source_text.now → parser.entry.options.preserve_parens ≡ true → IsCoreAnswer parser.entry.source_text.now parser.entry.source_type r.program.source_type parser.entry.options.allow_v8_intrinsics r.program.tree r.diagnostics) }
+    ensures kept { IfOk result (λ r. KeepsRight parser.entry.source_text.now (read_at (goal_of parser.entry.source_type)) (options_of parser.entry.options) (C.asks_for_tokens parser.entry.config) (output_of r)) }
+    ensures answers { IfOk result (λ r. IsReturn parser.entry.source_text.now parser.entry.source_type r.program.source_type parser.entry.options r.program.tree (output_of r) r.fatal_error) }
+    ensures overlong_record { IfOk result (λ r. MAX_LEN < length parser.entry.source_text.now → r.module_record ≡ record_of_parts []) }
     ensures no_flow { IfOk result (λ r. r.is_flow_language ≡ false) }
 {
-    let parser = Parser::new(alloc, source_text, source_type);
-    parser.with_options(options).with_config(config).parse()
+    parser.parse()
 }
