@@ -3,9 +3,12 @@ pub mod Elements
 pub mod Fields
 pub mod AccessorMembers
 pub mod OtherMembers
+pub mod StringMembers
 pub mod WordFields
 pub mod WordMembers
+pub mod NamedMethods
 pub mod Names
+pub mod NameTests
 pub mod Members
 pub mod Methods
 pub use Rattle.laws_primary.proofs as laws_primary

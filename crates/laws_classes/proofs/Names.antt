@@ -1,7 +1,7 @@
 -- Names of elements of classes (ECMA-262, 15.7): those of properties, and private names.
 use Rattle.std.proofs.Common.{ℕ, ◌≡◌, max, Bool, true, false, not, List, [], ◌∷◌, Some, refl, ap, arith}
 use Rattle.std.specs.Prelude.{Result, Ok, Err}
-use Rattle.js_base.specs.declared.kind.Kind.TheVariants.{LBrack, PrivateIdentifier}
+use Rattle.js_base.specs.declared.kind.Kind.TheVariants.{LBrack, PrivateIdentifier, Str}
 use Rattle.js_base.specs.KindSets.{identifier_name_kinds}
 use Rattle.js_base.specs.Kinds.{one_of_kinds}
 use Rattle.js_grammar.specs.Trees.{end, tree}
@@ -58,6 +58,10 @@ module _ {text : List ℕ} {f : Flags} {p : Parser} (a : At text f p) (o : one_o
 pub word_key : {text : List ℕ} {f : Flags} {p q : Parser} {id : NodeId} → At text f p → one_of_kinds identifier_name_kinds p.token.kind ≡ true → NameRead text f false p q id → KeyRead text f false p q id
 unfolding apart
 word_key {p = p} a w x = key_read a (word_apart (PrivateIdentifier ∷ []) refl p.token.kind w) false x
+
+-- as a string
+pub string_key : {text : List ℕ} {f : Flags} {p q : Parser} {id : NodeId} → At text f p → p.token.kind ≡ Str → NameRead text f false p q id → KeyRead text f false p q id
+string_key a k x = key_read a (ap (one_of_kinds (PrivateIdentifier ∷ [])) k) false x
 
 pub names_public : (p q : Parser) (r : Result PropertyName Stop) → (p.token.kind ≡ PrivateIdentifier → ⊥) → NamesProperty p q r → NamesElement p q r
 names_public p q (Ok n) o x = λ text f a. key_read a (other_kind PrivateIdentifier p.token.kind o) n.computed (x text f a)

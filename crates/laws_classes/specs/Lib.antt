@@ -1,6 +1,7 @@
 pub mod Elements
 pub mod Fields
 pub mod Names
+pub mod SpecialMethods
 pub mod Members
 pub mod Methods
 pub use Rattle.laws_primary.specs as laws_primary

@@ -1,5 +1,5 @@
 -- Members of classes (ECMA-262, 15.7): the lines of an element but the static block, by what is read of them first.
-use Rattle.std.specs.Prelude.{ℕ, ◌≡◌, ◌⊎◌, Bool, true, false, not, cond, ◌&&◌, ◌||◌, List, [], ◌∷◌, ◌++◌, Result}
+use Rattle.std.specs.Prelude.{ℕ, ◌≡◌, ◌⊎◌, Bool, true, false, not, cond, ◌&&◌, ◌||◌, List, [], ◌∷◌, ◌++◌, Option, Result, bytes_eq, codes, unwrap_or}
 use Rattle.js_base.specs.declared.kind.Kind.{Kind}
 use Rattle.js_base.specs.declared.kind.Kind.TheVariants.{Accessor, Async, Constructor, Get, LBrack, LCurly, PrivateIdentifier, Set, Star, Static, Str}
 use Rattle.js_base.specs.KindSets.{identifier_name_kinds, number_kinds}
@@ -76,6 +76,13 @@ ReadsWordMethod h word old new r = (text : List ℕ) (f : Flags) (first p : Pars
 abbrev pub kind_of_word : Bool → Kind → MethodKind
 kind_of_word st k = cond (not st && same_kind Constructor k) kind.Constructor kind.Method
 
+-- the same by a string, of these code units (12.9.4.2)
+abbrev pub spells_constructor : Option (List ℕ) → Bool
+spells_constructor units = bytes_eq (codes "constructor") (unwrap_or units [])
+
+abbrev pub kind_of_string : Bool → Option (List ℕ) → MethodKind
+kind_of_string st units = cond (not st && spells_constructor units) kind.Constructor kind.Method
+
 -- A word that was passed is no prefix before what stands behind it.
 pub record NamesMember (st : Bool) (p q : Parser) : Type 0 where
   pub accessor_method : p.token.escaped ≡ false → one_of_kinds (Get ∷ Set ∷ []) p.token.kind ≡ true → one_of_kinds name_kinds q.token.kind ≡ false
@@ -87,10 +94,14 @@ pub record NamesMember (st : Bool) (p q : Parser) : Type 0 where
 abbrev pub ReadsBehindWord : ElementHead → Token → Parser → Parser → Result NodeId Stop → Type 0
 ReadsBehindWord h word old new r = (text : List ℕ) (f : Flags) (first p : Parser) → At text f first → h.start ≡ first.token.span.start → At text f p → Begun h.is_static text f first p → word ≡ p.token → one_of_kinds identifier_name_kinds p.token.kind ≡ true → Moves p old → NamesMember h.is_static p old → ElementOutcome text f (members h.is_static f) first new r
 
--- words, strings and `*`, with which the other members begin
-abbrev pub special_firsts : List Kind
-special_firsts = Str ∷ Star ∷ identifier_name_kinds
+-- words and `*`, which may begin a member before its name
+abbrev pub prefix_kinds : List Kind
+prefix_kinds = Star ∷ identifier_name_kinds
 
--- A member begins here whose name is a number or a private name or stands in brackets, behind `static` or not.
-abbrev pub ReadsOtherMember : ElementHead → Parser → Parser → Result NodeId Stop → Type 0
-ReadsOtherMember h old new r = (text : List ℕ) (f : Flags) (first : Parser) → At text f first → h.start ≡ first.token.span.start → Begun h.is_static text f first old → ElementOutcome text f (members h.is_static f) first new r
+-- these and strings
+abbrev pub special_firsts : List Kind
+special_firsts = Str ∷ prefix_kinds
+
+-- A member begins here, behind `static` or not.
+abbrev pub ReadsMember : ElementHead → Parser → Parser → Result NodeId Stop → Type 0
+ReadsMember h old new r = (text : List ℕ) (f : Flags) (first : Parser) → At text f first → h.start ≡ first.token.span.start → Begun h.is_static text f first old → ElementOutcome text f (members h.is_static f) first new r

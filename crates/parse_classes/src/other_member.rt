@@ -1,7 +1,7 @@
 //! Members whose names are numbers, private names, or stand in brackets (ECMA-262, section 15.7).
 
 ghost use Rattle.std.specs.Prelude.{◌≡◌, ◌+◌, ◌≤◌, true, false};
-ghost use Rattle.parse_classes.specs.Prelude.{CanNest, name_kinds, one_of_kinds, ReadsOtherMember, room, special_firsts, Standing};
+ghost use Rattle.parse_classes.specs.Prelude.{CanNest, name_kinds, one_of_kinds, ReadsMember, room, special_firsts, Standing};
 
 use crate::element_name::parse_element_name;
 use crate::field::parse_field;
@@ -22,7 +22,7 @@ pub fn parse_other_member<C: ParserConfig, N: Nested<C>>(
     requires before { head.start ≤ p.old.token.span.start }
     requires plain { one_of_kinds special_firsts p.old.token.kind ≡ false }
     requires name { one_of_kinds name_kinds p.old.token.kind ≡ true }
-    ensures { ReadsOtherMember head p.old p.new result }
+    ensures { ReadsMember head p.old p.new result }
 {
     let name = parse_element_name(p, nested)?;
     if p.at(Kind::LParen) {
