@@ -1,8 +1,9 @@
 -- Getters, setters and the fields of `accessor` (ECMA-262, 15.4, 15.7, and the proposal of decorators), from their names on.
 use Rattle.std.proofs.Common.{ℕ, ◌≡◌, Bool, true, false, not, ◌&&◌, ◌||◌, List, [], ◌∷◌, Some, refl, sym, ap, subst, arith, ◌∙◌}
 use Rattle.std.specs.Prelude.{Result}
+use Rattle.std.proofs.lemmas.Bool.{or_right}
 use Rattle.js_base.specs.declared.kind.Kind.{Kind}
-use Rattle.js_base.specs.declared.kind.Kind.TheVariants.{Accessor, Async, At as at_sign, Eq, Get, LParen, RAngle, Set, Static}
+use Rattle.js_base.specs.declared.kind.Kind.TheVariants.{Accessor, Async, At as at_sign, Eq, Get, LParen, RAngle, Set, Star, Static}
 use Rattle.js_base.specs.Kinds.{same_kind, one_of_kinds}
 use Rattle.js_base.specs.KindSets.{identifier_name_kinds}
 use Rattle.js_grammar.specs.Trees.{accessor_property, constructor_op, end, method_definition, method_op, no_op, of}
@@ -155,7 +156,7 @@ module _ {text : List ℕ} {f : Flags} {first p q : Parser} (st : Bool) (af : At
     accessor_no_async = ap (one_of_kinds (Async ∷ [])) k
 
     accessor_fields : (c : Bool) → No text first.prev_token_end (field_line st c f)
-    accessor_fields c = no_field_element accessor_word c (no_line_field a accessor_word m i st c l)
+    accessor_fields c = no_field_element accessor_word c (no_line_field a accessor_word m (or_right (same_kind Star q.token.kind) (one_of_kinds name_kinds q.token.kind) i) st c l)
 
     no_accessor_named : (c : Bool) → NoKey text c f q.prev_token_end → No text first.prev_token_end (accessor_line st c f)
     no_accessor_named c n = no_element st p accessor_property no_op (element_flags st c) af b (ap (one_of_kinds (at_sign ∷ [])) k) (token Accessor a k e refl m ⟶✗ (same_line m.at l ▹✗ fails_ended {X' = plain full} (no_first n) (λ cs j ls mid l d h. (refl, refl))))

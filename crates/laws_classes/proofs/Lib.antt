@@ -8,6 +8,7 @@ pub mod WordFields
 pub mod WordMembers
 pub mod NamedMethods
 pub mod Names
+pub mod SpecialMethods
 pub mod NameTests
 pub mod Members
 pub mod Methods

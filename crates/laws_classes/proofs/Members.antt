@@ -239,15 +239,25 @@ module _ {text : List ℕ} {f : Flags} {p q : Parser} (a : At text f p) (w : one
     no_prefix_field st true n k = no_bracket_field false false
     no_prefix_field st false n k = no_field_word no_name (not st) true (prefix_to (not st) n k) (λ y l e. false≢true (sym (ap not (ap (one_of_kinds name_kinds) (name_there y l) ∙ i)) ∙ e)) no_value_there
 
-    -- and no word is one before a name on its line
+  -- ---- before a name or `*` on its line, no word is a field
+
+  module _ (i : one_of_kinds (Star ∷ name_kinds) q.token.kind ≡ true) where
+    behind_there : (y : Lexeme) → Lex text q.prev_token_end y → y.kind ≡ q.token.kind
+    unfolding apart
+    behind_there y l = kind_here m.at refl (kinds_apart (Star ∷ name_kinds) unsettled refl q.token.kind i) y l
+
+    no_value_behind : one_of_kinds (Eq ∷ []) q.token.kind ≡ false
+    unfolding apart
+    no_value_behind = kinds_apart (Star ∷ name_kinds) (Eq ∷ []) refl q.token.kind i
+
     pub no_line_field : (st c : Bool) → q.token.is_on_new_line ≡ false → No text p.prev_token_end (field c (not st) true f)
     unfolding apart
     no_line_field st true n = no_bracket_field false false
     no_line_field st false n = no_field_word closes_or_line (not st) true
         (λ x z l h. either_of (seen (is Semicolon) z) _ h (λ v. covered semicolon_look closes_or_line semicolon_closes z.kind z.newline z.escaped v) (λ v. covered (may_omit (after_name (not st) true x)) closes_or_line (omitted_so (after_name (not st) true x)) z.kind z.newline z.escaped (and_parts _ _ v).0))
-        (λ y l e. no_close_there y l e) no_value_there
+        (λ y l e. no_close_there y l e) no_value_behind
       where
         no_close_there : (y : Lexeme) → Lex text q.prev_token_end y → IsTrue (seen closes_or_line y) → ⊥
         no_close_there y l e = either_of (one_of_kinds closers y.kind) y.newline e
-            (λ v. false≢true (sym (kinds_apart name_kinds closers refl y.kind (ap (one_of_kinds name_kinds) (name_there y l) ∙ i)) ∙ v))
+            (λ v. false≢true (sym (kinds_apart (Star ∷ name_kinds) closers refl y.kind (ap (one_of_kinds (Star ∷ name_kinds)) (behind_there y l) ∙ i)) ∙ v))
             (λ v. false≢true (sym (newline_here m.at y l ∙ n) ∙ v))

@@ -31,6 +31,8 @@ use Rattle.laws_classes.specs.Elements.{Begun, ElementOutcome}
 use Rattle.laws_classes.specs.Members.{kind_of_string, members, name_kinds, prefix_kinds, spells_constructor}
 use Rattle.laws_classes.specs.Methods.{ReadsMethod}
 use Rattle.laws_classes.specs.Names.{KeyRead}
+use Rattle.laws_classes.specs.SpecialMethods.{BeginsMethod}
+use Rattle.laws_classes.proofs.NamedMethods.{named_method_read}
 use Rattle.laws_classes.proofs.NameTests.{string_tested}
 use Rattle.laws_classes.proofs.Names.{string_key}
 use Rattle.laws_classes.proofs.OtherMembers.{string_method_read}
@@ -82,3 +84,9 @@ module _ {text : List ℕ} {f : Flags} {p q : Parser} {id : NodeId} (a : At text
       let i = e ∙ ap (kind_of_string st) units_are in
       string_method_read st (spells_constructor (string_units (string_inside (spelled_at p.text p.token)))) w v start af b a (ap (one_of_kinds prefix_kinds) k) (ap (one_of_kinds name_kinds) k) s string_read h (string_tested a k)
       (subst (λ (u : MethodKind). ReadsMethod (record { start = start; is_static = st }) u (record { key = id; computed = false }) false false q w v) i y)
+
+  -- the same behind what begins a method of another kind
+  pub string_named_method : {first : Parser} {b s : Bool} (st : Bool) (w : Parser) (v : Result NodeId Stop) (start : ℕ) → At text f first → BeginsMethod text f st b s first p → start ≡ first.token.span.start → (o : MethodKind) → o ≡ kind_of_string st (units_of (node_at q.nodes id) q.text) → ReadsMethod (record { start = start; is_static = st }) o (record { key = id; computed = false }) b s q w v → ElementOutcome text f (members st f) first w v
+  string_named_method {b = b} {s = s} st w v start af x i o e y =
+      named_method_read st false (spells_constructor (string_units (string_inside (spelled_at p.text p.token)))) w v start af x i string_read (string_tested a k)
+      (subst (λ (u : MethodKind). ReadsMethod (record { start = start; is_static = st }) u (record { key = id; computed = false }) b s q w v) (e ∙ ap (kind_of_string st) units_are) y)

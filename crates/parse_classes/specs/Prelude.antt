@@ -1,6 +1,6 @@
 -- The names by which the contracts of this crate speak: each definition stands where its line says.
 pub use Rattle.js_base.specs.Kinds.{one_of_kinds}
-pub use Rattle.js_base.specs.declared.kind.Kind.TheVariants.{Eq, LParen, Str}
+pub use Rattle.js_base.specs.declared.kind.Kind.TheVariants.{Eq, LParen, Star, Str}
 pub use Rattle.js_grammar.specs.Productions.{Assignment, at, field_of}
 pub use Rattle.laws_classes.specs.Elements.{behind_kinds, element_flags, other_behind_kinds}
 pub use Rattle.laws_classes.specs.Fields.{EndsFieldOr, ReadsField, field_label, node_of_field}
@@ -17,3 +17,4 @@ pub use Rattle.laws_classes.specs.Members.{ReadsAccessorField, ReadsAccessorMeth
 pub use Rattle.js_base.specs.Spans.{LiesIn}
 pub use Rattle.laws_classes.specs.laws_primary.js_tree.Nodes.{node_at}
 pub use Rattle.laws_classes.specs.laws_primary.js_tree.Sources.{IsString, units_of}
+pub use Rattle.laws_classes.specs.SpecialMethods.{ReadsAsyncMethod, ReadsNamedMethod}

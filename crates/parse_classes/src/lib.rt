@@ -6,6 +6,7 @@ pub mod element_name;
 pub mod field;
 pub mod method;
 pub mod other_member;
+pub mod special_method;
 pub mod string_member;
 pub mod word_member;
 

@@ -38,7 +38,7 @@ pub fn parse_string_member<C: ParserConfig, N: Nested<C>>(
 
 /// Which method it is that has the string of a node as its name: the constructor, where no `static` stands before it and
 /// the string is `constructor` (ECMA-262, sections 12.9.4 and 15.7).
-fn kind_of_string<C: ParserConfig>(
+pub(crate) fn kind_of_string<C: ParserConfig>(
     p: &ParserImpl<'_, C>,
     is_static: bool,
     key: NodeId,

@@ -62,7 +62,7 @@ fn parse_word_method<C: ParserConfig, N: Nested<C>>(
 }
 
 /// Which method it is that has this word as its name.
-fn kind_of_word(is_static: bool, word: Kind) -> MethodKind
+pub(crate) fn kind_of_word(is_static: bool, word: Kind) -> MethodKind
     ensures { result ≡ kind_of_word is_static word }
 {
     if is_static {
