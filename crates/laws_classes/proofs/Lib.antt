@@ -3,6 +3,7 @@ pub mod Elements
 pub mod Fields
 pub mod AccessorMembers
 pub mod OtherMembers
+pub mod Prefixes
 pub mod StringMembers
 pub mod WordFields
 pub mod WordMembers

@@ -1,5 +1,5 @@
 -- Members of classes (ECMA-262, 15.7): the lines of an element but the static block, by what is read of them first.
-use Rattle.std.specs.Prelude.{ℕ, ◌≡◌, ◌⊎◌, Bool, true, false, not, cond, ◌&&◌, ◌||◌, List, [], ◌∷◌, ◌++◌, Option, Result, bytes_eq, codes, unwrap_or}
+use Rattle.std.specs.Prelude.{ℕ, ◌≡◌, ◌⊎◌, Bool, true, false, not, cond, ◌&&◌, ◌||◌, List, [], ◌∷◌, ◌++◌, Option, Some, None, if◌then◌else◌, Result, bytes_eq, codes, unwrap_or}
 use Rattle.js_base.specs.declared.kind.Kind.{Kind}
 use Rattle.js_base.specs.declared.kind.Kind.TheVariants.{Accessor, Async, Constructor, Get, LBrack, LCurly, PrivateIdentifier, Set, Star, Static, Str}
 use Rattle.js_base.specs.KindSets.{identifier_name_kinds, number_kinds}
@@ -19,9 +19,12 @@ use Rattle.laws_primary.specs.laws_shared.States.{At}
 use Rattle.laws_classes.specs.declared.forms.ElementHead.{ElementHead}
 use Rattle.laws_classes.specs.Elements.{Begun, ElementOutcome, element_flags, element_slots}
 
--- what a name begins with
+-- what a name begins with; first what is neither a number nor a word
+abbrev pub other_name_kinds : List Kind
+other_name_kinds = Str ∷ PrivateIdentifier ∷ LBrack ∷ []
+
 abbrev pub name_kinds : List Kind
-name_kinds = (Str ∷ PrivateIdentifier ∷ LBrack ∷ []) ++ number_kinds ++ identifier_name_kinds
+name_kinds = other_name_kinds ++ number_kinds ++ identifier_name_kinds
 
 -- st: behind `static`; c: with a name in brackets
 abbrev pub method_line : Bool → Bool → Flags → G
@@ -82,6 +85,17 @@ spells_constructor units = bytes_eq (codes "constructor") (unwrap_or units [])
 
 abbrev pub kind_of_string : Bool → Option (List ℕ) → MethodKind
 kind_of_string st units = cond (not st && spells_constructor units) kind.Constructor kind.Method
+
+-- which accessor a word begins before another lexeme, if one
+abbrev pub accessor_of : Kind → Kind → Option MethodKind
+accessor_of word behind = if not (one_of_kinds name_kinds behind) then None else (if same_kind Get word then Some kind.Get else (if same_kind Set word then Some kind.Set else None))
+
+-- whether it is the `async` of a method, or the `accessor` of a field, before a lexeme that stands on a new line or not
+abbrev pub begins_async : Kind → Kind → Bool → Bool
+begins_async word behind w = if not (one_of_kinds (Star ∷ name_kinds) behind) || w then false else same_kind Async word
+
+abbrev pub begins_accessor : Kind → Kind → Bool → Bool
+begins_accessor word behind w = if not (one_of_kinds name_kinds behind) || w then false else same_kind Accessor word
 
 -- A word that was passed is no prefix before what stands behind it.
 pub record NamesMember (st : Bool) (p q : Parser) : Type 0 where

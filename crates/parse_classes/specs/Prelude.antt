@@ -1,6 +1,7 @@
 -- The names by which the contracts of this crate speak: each definition stands where its line says.
+pub use Rattle.js_base.specs.KindSets.{identifier_name_kinds}
 pub use Rattle.js_base.specs.Kinds.{one_of_kinds}
-pub use Rattle.js_base.specs.declared.kind.Kind.TheVariants.{Eq, LParen, Star, Str}
+pub use Rattle.js_base.specs.declared.kind.Kind.TheVariants.{Eq, LParen, Star, Static, Str}
 pub use Rattle.js_grammar.specs.Productions.{Assignment, at, field_of}
 pub use Rattle.laws_classes.specs.Elements.{behind_kinds, element_flags, other_behind_kinds}
 pub use Rattle.laws_classes.specs.Fields.{EndsFieldOr, ReadsField, field_label, node_of_field}
@@ -13,7 +14,7 @@ pub use Rattle.laws_classes.specs.laws_primary.laws_shared.Moves.{MadeHere}
 pub use Rattle.laws_classes.specs.laws_primary.laws_shared.Nesting.{CanNest, room}
 pub use Rattle.laws_classes.specs.laws_primary.laws_shared.NodeTexts.{SpellsName, is_textual}
 pub use Rattle.laws_classes.specs.laws_primary.laws_shared.States.{Standing}
-pub use Rattle.laws_classes.specs.Members.{ReadsAccessorField, ReadsAccessorMethod, ReadsBehindWord, ReadsMember, ReadsWordMethod, kind_of_string, kind_of_word, name_kinds, special_firsts}
+pub use Rattle.laws_classes.specs.Members.{ReadsAccessorField, ReadsAccessorMethod, ReadsBehindWord, ReadsMember, ReadsWordMethod, accessor_of, begins_accessor, begins_async, kind_of_string, kind_of_word, name_kinds, other_name_kinds, special_firsts}
 pub use Rattle.js_base.specs.Spans.{LiesIn}
 pub use Rattle.laws_classes.specs.laws_primary.js_tree.Nodes.{node_at}
 pub use Rattle.laws_classes.specs.laws_primary.js_tree.Sources.{IsString, units_of}

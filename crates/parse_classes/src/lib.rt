@@ -4,6 +4,7 @@
 pub mod accessor_member;
 pub mod element_name;
 pub mod field;
+pub mod member;
 pub mod method;
 pub mod other_member;
 pub mod special_method;
