@@ -2,6 +2,7 @@ pub mod ConstructorNames
 pub mod Elements
 pub mod Fields
 pub mod AccessorMembers
+pub mod NoMembers
 pub mod OtherMembers
 pub mod Prefixes
 pub mod StringMembers

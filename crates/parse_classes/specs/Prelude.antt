@@ -1,7 +1,7 @@
 -- The names by which the contracts of this crate speak: each definition stands where its line says.
 pub use Rattle.js_base.specs.KindSets.{identifier_name_kinds}
 pub use Rattle.js_base.specs.Kinds.{one_of_kinds}
-pub use Rattle.js_base.specs.declared.kind.Kind.TheVariants.{Eq, LParen, Star, Static, Str}
+pub use Rattle.js_base.specs.declared.kind.Kind.TheVariants.{At, Eq, LParen, Star, Static, Str}
 pub use Rattle.js_grammar.specs.Productions.{Assignment, at, field_of}
 pub use Rattle.laws_classes.specs.Elements.{behind_kinds, element_flags, other_behind_kinds}
 pub use Rattle.laws_classes.specs.Fields.{EndsFieldOr, ReadsField, field_label, node_of_field}

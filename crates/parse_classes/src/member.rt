@@ -1,10 +1,12 @@
-//! Members that begin with a word (ECMA-262, section 15.7).
+//! Members of classes, behind their `static` (ECMA-262, section 15.7).
 
 ghost use Rattle.std.specs.Prelude.{◌≡◌, ◌+◌, ◌≤◌, ◌∷◌, true, false};
-ghost use Rattle.parse_classes.specs.Prelude.{accessor_of, begins_accessor, begins_async, CanNest, identifier_name_kinds, name_kinds, one_of_kinds, other_name_kinds, ReadsMember, room, Standing, Star, Static};
+ghost use Rattle.parse_classes.specs.Prelude.{accessor_of, At, begins_accessor, begins_async, CanNest, identifier_name_kinds, name_kinds, one_of_kinds, other_name_kinds, ReadsMember, room, Standing, Star, Static};
 
 use crate::accessor_member::{parse_accessor_field, parse_accessor_method};
-use crate::special_method::parse_async_method;
+use crate::other_member::parse_other_member;
+use crate::special_method::{parse_async_method, parse_generator_method};
+use crate::string_member::parse_string_member;
 use crate::word_member::parse_behind_word;
 use js_base::{Kind, Token};
 use laws_classes::forms::ElementHead;
@@ -12,9 +14,38 @@ use parse_shared::lexemes::{advance, keyword_of};
 use parse_shared::nested::Nested;
 use parse_shared::{MethodKind, NodeId, ParserConfig, ParserImpl, Stop};
 
+/// A member: a method, a getter, a setter or a field (ECMA-262, section 15.7). No decorator stands before it; and where no
+/// `static` was passed, none stands here.
+pub fn parse_member<C: ParserConfig, N: Nested<C>>(
+    p: &mut ParserImpl<'_, C>,
+    nested: &N,
+    head: ElementHead,
+) -> Result<NodeId, Stop>
+    requires at { Standing p.old }
+    requires nests { CanNest (N.can nested.now) (room p.old + 1) }
+    requires before { head.start ≤ p.old.token.span.start }
+    requires undecorated { p.old.token.kind ≡ At → ⊥ }
+    requires member { head.is_static ≡ false → p.old.token.kind ≡ Static → p.old.token.escaped ≡ false → ⊥ }
+    ensures { ReadsMember head p.old p.new result }
+{
+    if p.cur_kind().is_identifier_name() {
+        return parse_word_member(p, nested, head);
+    }
+    if p.at(Kind::Star) {
+        return parse_generator_method(p, nested, head);
+    }
+    if p.at(Kind::Str) {
+        return parse_string_member(p, nested, head);
+    }
+    if !begins_name(p.cur_kind()) {
+        return Err(p.set_unexpected());
+    }
+    parse_other_member(p, nested, head)
+}
+
 /// A member that begins with a word: which is its name, or begins another member (ECMA-262, section 15.7). Where no `static`
 /// was passed, none stands here.
-pub fn parse_word_member<C: ParserConfig, N: Nested<C>>(
+fn parse_word_member<C: ParserConfig, N: Nested<C>>(
     p: &mut ParserImpl<'_, C>,
     nested: &N,
     head: ElementHead,
