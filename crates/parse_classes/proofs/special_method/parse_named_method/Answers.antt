@@ -1,14 +1,10 @@
-use Rattle.std.proofs.Common.{◌||◌, ap, arith, sym, subst, ◌∙◌}
+use Rattle.std.proofs.Common.{◌||◌, ap, arith, sym, ◌∙◌}
 use Rattle.std.proofs.lemmas.Bool.{false≢true}
 use Rattle.std.proofs.lemmas.Result.{err_from_is_err_and}
-use Rattle.js_base.specs.declared.kind.Kind.TheVariants.{Constructor}
-use Rattle.js_base.specs.Kinds.{same_kind}
 use Rattle.laws_classes.specs.Members.{kind_of_word}
-use Rattle.laws_classes.specs.Methods.{ReadsMethod}
-use Rattle.laws_classes.specs.laws_primary.js_tree.declared.op.MethodKind.{MethodKind}
 use Rattle.laws_classes.proofs.laws_primary.laws_shared.Moving.{standing}
 use Rattle.laws_classes.proofs.laws_primary.laws_shared.Nesting.{later_room, nests_later}
-use Rattle.laws_classes.proofs.NamedMethods.{name_tested, named_stops, plain_method_read}
+use Rattle.laws_classes.proofs.NamedMethods.{named_stops, plain_method_read}
 use Rattle.parse_classes.proofs.special_method.parse_named_method.Goals as goal
 
 pub parse_string_method-requires-clause-string : goal.parse_string_method-requires-clause-string
