@@ -2,13 +2,9 @@
 use Rattle.std.proofs.Common.{ℕ, ◌≡◌, inl, inr, max, Bool, true, false, not, ◌&&◌, ◌||◌, List, [], ◌∷◌, length, Option, Some, None, IsTrue, refl, sym, ap, subst, arith, ◌∙◌}
 use Rattle.std.specs.Prelude.{Result, Ok, Err}
 use Rattle.std.proofs.lemmas.Bool.{false≢true, and_from, and_parts, or_left, or_right}
-use Rattle.std.proofs.Math.Bool.{beq}
-use Rattle.std.specs.Cmp.{booleans_Decides}
-use Rattle.js_base.proofs.KindLemmas.{at_each}
 use Rattle.js_base.specs.declared.kind.Kind.{Kind}
 use Rattle.js_base.specs.declared.kind.Kind.TheVariants.{Comma, Eof, Eq, LParen, Semicolon}
-use Rattle.js_base.specs.Kinds.{kinds, same_kind, one_of_kinds}
-use Rattle.js_base.specs.KindSets.{identifier_name_kinds, number_kinds}
+use Rattle.js_base.specs.Kinds.{same_kind, one_of_kinds}
 use Rattle.js_grammar.specs.Trees.{Label, NodeKind, Slots, end, hole, tree, no_op}
 use Rattle.js_grammar.specs.Grammar.{Lexeme, Lexemes, Look, begins_with_brace, ended, empty_slot, here, is, kept, may_omit, nothing, seen, semicolon, Takes, is_empty_slot, is_left, is_lexeme, is_look, is_kept, is_node, is_right, is_seq, is_such, ◌▸◌}
 use Rattle.js_grammar.specs.Insertion.{Row, after_name, by_edge, by_field, goes_on}
@@ -54,7 +50,7 @@ use Rattle.laws_primary.proofs.laws_shared.Verdicts.{after as grown_behind}
 use Rattle.laws_primary.proofs.Properties.{kinds_apart}
 use Rattle.laws_statements.proofs.Statements.{◌⟝◌, Ended, closer_here, closers, ended_so, no_semicolon, omits_stopped, semicolon_path, unended, whole_semicolon}
 use Rattle.parse_declarations.specs.Declarations.{stops_row}
-use Rattle.laws_classes.specs.Elements.{ElementTaken, NoElement, behind_element, behind_kinds, other_behind_kinds}
+use Rattle.laws_classes.specs.Elements.{ElementTaken, NoElement, behind_element, behind_kinds}
 use Rattle.laws_classes.specs.Fields.{Begins, EndsField, EndsFieldOr, FieldNamed, NoFieldEnd, field_label, field_parts, node_of_field}
 use Rattle.laws_classes.proofs.Names.{key_path}
 use Rattle.laws_classes.proofs.Elements.{element_answers, kept_none}
@@ -364,17 +360,3 @@ end_told p q (Err NoMemory) a i e = tt
 
 pub no_end_told : {text : List ℕ} {f : Flags} (p q : Parser) (e : Stop) → At text f p → one_of_kinds behind_kinds p.token.kind ≡ false → GivesUp (IsUnexpected p) p q e → Stops p q e (NoFieldEnd p)
 no_end_told p q e a i g = gives_up_here p q e a g (inl i)
-
--- by which of the lists it is one of them
-followed : (k : Kind) → (one_of_kinds other_behind_kinds k || (one_of_kinds number_kinds k || one_of_kinds identifier_name_kinds k)) ≡ one_of_kinds behind_kinds k
-unfolding kinds
-followed k = (booleans_Decides _ _).0 (at_each (λ k'. beq (one_of_kinds other_behind_kinds k' || (one_of_kinds number_kinds k' || one_of_kinds identifier_name_kinds k')) (one_of_kinds behind_kinds k')) refl k)
-
-pub followed_first : (k : Kind) → one_of_kinds other_behind_kinds k ≡ true → true ≡ one_of_kinds behind_kinds k
-followed_first k h = sym (ap (λ (b : Bool). b || (one_of_kinds number_kinds k || one_of_kinds identifier_name_kinds k)) h) ∙ followed k
-
-pub followed_number : (k : Kind) → one_of_kinds other_behind_kinds k ≡ false → one_of_kinds number_kinds k ≡ true → true ≡ one_of_kinds behind_kinds k
-followed_number k n h = sym (ap (λ (b : Bool). b || (one_of_kinds number_kinds k || one_of_kinds identifier_name_kinds k)) n ∙ ap (λ (b : Bool). b || one_of_kinds identifier_name_kinds k) h) ∙ followed k
-
-pub followed_word : (k : Kind) → one_of_kinds other_behind_kinds k ≡ false → one_of_kinds number_kinds k ≡ false → one_of_kinds identifier_name_kinds k ≡ one_of_kinds behind_kinds k
-followed_word k n m = sym (ap (λ (b : Bool). b || (one_of_kinds number_kinds k || one_of_kinds identifier_name_kinds k)) n ∙ ap (λ (b : Bool). b || one_of_kinds identifier_name_kinds k) m) ∙ followed k

@@ -20,12 +20,16 @@ use Rattle.laws_primary.specs.laws_shared.Moves.{Moved}
 use Rattle.laws_primary.specs.laws_shared.Stands.{StandsHere}
 use Rattle.laws_primary.specs.laws_shared.States.{At, Same}
 
--- What may stand behind an element: another one, a semicolon alone, or the end of the class. First what is neither a number nor a word.
-abbrev pub other_behind_kinds : List Kind
-other_behind_kinds = Str ∷ PrivateIdentifier ∷ LBrack ∷ Star ∷ at_sign ∷ Semicolon ∷ RCurly ∷ []
+-- what a name begins with; first what is neither a number nor a word
+abbrev pub other_name_kinds : List Kind
+other_name_kinds = Str ∷ PrivateIdentifier ∷ LBrack ∷ []
 
+abbrev pub name_kinds : List Kind
+name_kinds = other_name_kinds ++ number_kinds ++ identifier_name_kinds
+
+-- What may stand behind an element: another one, a semicolon alone, or the end of the class.
 abbrev pub behind_kinds : List Kind
-behind_kinds = other_behind_kinds ++ number_kinds ++ identifier_name_kinds
+behind_kinds = Star ∷ at_sign ∷ Semicolon ∷ RCurly ∷ name_kinds
 
 abbrev pub behind_element : Test
 behind_element = plain (λ k w e. one_of_kinds behind_kinds k)

@@ -1,8 +1,8 @@
 -- Members of classes (ECMA-262, 15.7): the lines of an element but the static block, by what is read of them first.
-use Rattle.std.specs.Prelude.{ℕ, ◌≡◌, ◌⊎◌, Bool, true, false, not, cond, ◌&&◌, ◌||◌, List, [], ◌∷◌, ◌++◌, Option, Some, None, if◌then◌else◌, Result, bytes_eq, codes, unwrap_or}
+use Rattle.std.specs.Prelude.{ℕ, ◌≡◌, ◌⊎◌, Bool, true, false, not, cond, ◌&&◌, ◌||◌, List, [], ◌∷◌, Option, Some, None, if◌then◌else◌, Result, bytes_eq, codes, unwrap_or}
 use Rattle.js_base.specs.declared.kind.Kind.{Kind}
-use Rattle.js_base.specs.declared.kind.Kind.TheVariants.{Accessor, Async, Constructor, Get, LBrack, LCurly, PrivateIdentifier, Set, Star, Static, Str}
-use Rattle.js_base.specs.KindSets.{identifier_name_kinds, number_kinds}
+use Rattle.js_base.specs.declared.kind.Kind.TheVariants.{Accessor, Async, Constructor, Get, LCurly, Set, Star, Static, Str}
+use Rattle.js_base.specs.KindSets.{identifier_name_kinds}
 use Rattle.js_base.specs.Kinds.{same_kind, one_of_kinds}
 use Rattle.js_base.specs.declared.token.Token.{Token}
 use Rattle.js_grammar.specs.Trees.{accessor_property, constructor_op, method_definition, method_op, no_op, of, property_definition}
@@ -18,13 +18,7 @@ use Rattle.laws_primary.specs.laws_shared.Moves.{Moved, Moves}
 use Rattle.laws_primary.specs.laws_shared.States.{At}
 use Rattle.laws_classes.specs.declared.forms.ElementHead.{ElementHead}
 use Rattle.laws_classes.specs.Elements.{Begun, ElementOutcome, element_flags, element_slots}
-
--- what a name begins with; first what is neither a number nor a word
-abbrev pub other_name_kinds : List Kind
-other_name_kinds = Str ∷ PrivateIdentifier ∷ LBrack ∷ []
-
-abbrev pub name_kinds : List Kind
-name_kinds = other_name_kinds ++ number_kinds ++ identifier_name_kinds
+pub use Rattle.laws_classes.specs.Elements.{name_kinds, other_name_kinds}
 
 -- st: behind `static`; c: with a name in brackets
 abbrev pub method_line : Bool → Bool → Flags → G

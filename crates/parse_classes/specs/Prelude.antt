@@ -3,7 +3,7 @@ pub use Rattle.js_base.specs.KindSets.{identifier_name_kinds}
 pub use Rattle.js_base.specs.Kinds.{one_of_kinds}
 pub use Rattle.js_base.specs.declared.kind.Kind.TheVariants.{At, Eq, LParen, Star, Static, Str}
 pub use Rattle.js_grammar.specs.Productions.{Assignment, at, field_of}
-pub use Rattle.laws_classes.specs.Elements.{behind_kinds, element_flags, other_behind_kinds}
+pub use Rattle.laws_classes.specs.Elements.{behind_kinds, element_flags}
 pub use Rattle.laws_classes.specs.Fields.{EndsFieldOr, ReadsField, field_label, node_of_field}
 pub use Rattle.laws_classes.specs.Methods.{ReadsMethod, form_of_method, method_label}
 pub use Rattle.laws_classes.specs.Names.{NamesElement}

@@ -1,8 +1,9 @@
 //! Fields of classes (ECMA-262, section 15.7).
 
 ghost use Rattle.std.specs.Prelude.{◌≡◌, ◌+◌, ◌≤◌, ◌∷◌, [], IfOk, Some, true, false};
-ghost use Rattle.parse_classes.specs.Prelude.{Answers, Assignment, at, behind_kinds, CanNest, EndsFieldOr, EntersMethod, Eq, field_label, field_of, is_textual, kind_of, MadeHere, node_of_field, number_of, one_of_kinds, other_behind_kinds, ReadsField, room, Standing};
+ghost use Rattle.parse_classes.specs.Prelude.{Answers, Assignment, at, behind_kinds, CanNest, EndsFieldOr, EntersMethod, Eq, field_label, field_of, is_textual, kind_of, MadeHere, node_of_field, number_of, one_of_kinds, ReadsField, room, Standing};
 
+use crate::member::begins_name;
 use crate::method::element_flags;
 use js_base::{Context, Kind, NoMemory};
 use laws_classes::forms::{ElementHead, FieldKind};
@@ -97,29 +98,10 @@ fn end_field<C: ParserConfig>(p: &mut ParserImpl<'_, C>) -> Result<(), Stop>
 fn follows_element(kind: Kind) -> bool
     ensures { result ≡ one_of_kinds behind_kinds kind }
 {
-    if begins_element(kind) {
-        return true;
+    match kind {
+        Kind::Star | Kind::At | Kind::Semicolon | Kind::RCurly => true,
+        _ => begins_name(kind),
     }
-    if kind.is_number() {
-        return true;
-    }
-    kind.is_identifier_name()
-}
-
-/// Whether it begins an element whose name is no word and no number, or ends a class or an element.
-fn begins_element(kind: Kind) -> bool
-    ensures { result ≡ one_of_kinds other_behind_kinds kind }
-{
-    matches!(
-        kind,
-        Kind::Str
-            | Kind::PrivateIdentifier
-            | Kind::LBrack
-            | Kind::Star
-            | Kind::At
-            | Kind::Semicolon
-            | Kind::RCurly
-    )
 }
 
 /// The node of a field that began at a place: its name, and its initialiser or none.

@@ -73,7 +73,7 @@ fn parse_word_member<C: ParserConfig, N: Nested<C>>(
 }
 
 /// Whether the name of an element begins with such a lexeme.
-fn begins_name(kind: Kind) -> bool
+pub(crate) fn begins_name(kind: Kind) -> bool
     ensures { result ≡ one_of_kinds name_kinds kind }
 {
     if begins_other_name(kind) {
