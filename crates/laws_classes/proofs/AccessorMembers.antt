@@ -1,9 +1,8 @@
 -- Getters, setters and the fields of `accessor` (ECMA-262, 15.4, 15.7, and the proposal of decorators), from their names on.
-use Rattle.std.proofs.Common.{ℕ, ◌≡◌, Bool, true, false, not, ◌&&◌, ◌||◌, List, [], ◌∷◌, Some, refl, sym, ap, subst, arith, ◌∙◌}
+use Rattle.std.proofs.Common.{ℕ, ◌≡◌, Bool, true, false, not, ◌&&◌, ◌||◌, List, [], ◌∷◌, Some, refl, ap, subst, arith, ◌∙◌}
 use Rattle.std.specs.Prelude.{Result}
 use Rattle.std.proofs.lemmas.Bool.{or_right}
-use Rattle.js_base.specs.declared.kind.Kind.{Kind}
-use Rattle.js_base.specs.declared.kind.Kind.TheVariants.{Accessor, Async, At as at_sign, Eq, Get, LParen, RAngle, Set, Star, Static}
+use Rattle.js_base.specs.declared.kind.Kind.TheVariants.{Accessor, Async, At as at_sign, Eq, Get, LParen, Set, Star, Static}
 use Rattle.js_base.specs.Kinds.{same_kind, one_of_kinds}
 use Rattle.js_base.specs.KindSets.{identifier_name_kinds}
 use Rattle.js_grammar.specs.Trees.{accessor_property, constructor_op, end, method_definition, method_op, no_op, of}
@@ -12,30 +11,28 @@ use Rattle.js_grammar.specs.Insertion.{after_name}
 use Rattle.js_grammar.specs.Parsing.{plain, full, still, Goes}
 use Rattle.js_grammar.specs.Productions.{G, Flags, make, no_newline, tok}
 use Rattle.js_grammar.specs.Table.{rule, field, getter, setter}
-use Rattle.js_grammar.proofs.Looks.{covers, apart, not_both}
+use Rattle.js_grammar.proofs.Looks.{covers}
 use Rattle.js_grammar.proofs.Calculus.{◌▹◌, ◌▹✗◌, done, fails_ended, fails_never, fails_node, inside_plain, part_by, part_fails}
 use Rattle.laws_primary.specs.declared.forms.PropertyName.{PropertyName}
 use Rattle.laws_primary.specs.js_tree.declared.id.NodeId.{NodeId}
 use Rattle.laws_primary.specs.js_tree.declared.op.MethodKind.{MethodKind}
 use Rattle.laws_primary.specs.js_tree.declared.op.MethodKind.TheVariants as kind
-use Rattle.laws_primary.specs.js_cursor.Moves.{is_last}
 use Rattle.laws_primary.specs.js_cursor.Parsers.{Parser}
 use Rattle.laws_primary.specs.js_cursor.declared.stop.Stop.{Stop}
 use Rattle.laws_primary.specs.Objects.{method_left}
 use Rattle.laws_primary.specs.laws_shared.Answers.{Stops}
 use Rattle.laws_primary.specs.laws_shared.Arguments.{Partway}
-use Rattle.laws_primary.specs.laws_shared.Lexemes.{Lex, is_read_kind, signs}
+use Rattle.laws_primary.specs.laws_shared.Lexemes.{Lex}
 use Rattle.laws_primary.specs.laws_shared.Moves.{Moved}
 use Rattle.laws_primary.specs.laws_shared.States.{At, Same}
 use Rattle.laws_primary.specs.laws_shared.declared.nested.MethodForm.TheVariants.{Getter, Setter}
-use Rattle.laws_primary.proofs.laws_shared.Here.{found, settled_kind, told, uncut, unsettled}
 use Rattle.laws_primary.proofs.laws_shared.Moving.{same_both, stops_behind}
 use Rattle.laws_primary.proofs.laws_shared.Parts.{part_sign, parts}
-use Rattle.laws_primary.proofs.laws_shared.Paths.{◌⟶✗◌, one_read, skips, token, walked_both, walked_one}
+use Rattle.laws_primary.proofs.laws_shared.Paths.{◌⟶✗◌, skips, token, walked_both, walked_one}
 use Rattle.laws_primary.proofs.laws_shared.Verdicts.{grown_then}
 use Rattle.laws_primary.proofs.AsyncWords.{any_between, same_line}
 use Rattle.laws_primary.proofs.Methods.{no_first}
-use Rattle.laws_primary.proofs.Properties.{kinds_apart}
+use Rattle.laws_classes.proofs.NameLexemes.{name_lexeme}
 use Rattle.laws_classes.specs.declared.forms.ElementHead.{ElementHead}
 use Rattle.laws_classes.specs.declared.forms.FieldKind.TheVariants as field_kind
 use Rattle.laws_classes.specs.Elements.{Begun, ElementOutcome, behind_element, element_flags, element_slots}
@@ -199,25 +196,6 @@ module _ {text : List ℕ} {f : Flags} {first p q : Parser} (st : Bool) (af : At
       goes = record { reach = 0; near = omega arith; goes = none_kept (no_decorator af (ap (one_of_kinds (at_sign ∷ [])) h.0)) ▹ (skips af Static h.0 h.1 refl n ▹ accessor_passed c) };
     }
 
-    -- its first lexeme
-    name_plain : (same_kind RAngle q.token.kind ≡ false) × (one_of_kinds signs q.token.kind ≡ false)
-    unfolding apart
-    name_plain = settled_kind q.token.kind (kinds_apart name_kinds unsettled refl q.token.kind i)
-
-    name_passable : is_last q.token.kind ≡ false
-    unfolding apart
-    name_passable = by (is_last q.token.kind) refl
-      where
-        by : (d : Bool) → is_last q.token.kind ≡ d → is_last q.token.kind ≡ false
-        by true h = absurd (not_both (λ k w e. one_of_kinds name_kinds k) (λ k w e. is_last k) refl q.token.kind false false i h)
-        by false h = h
-
-    first_lexeme : (y : Lexeme) × ((z : Lexeme) → Lex text q.prev_token_end z → z ≡ y)
-    first_lexeme =
-        let u = uncut m.at name_plain.0 in
-        let o = found m.at u name_passable in
-        (o.0, λ z j. one_read m.at name_plain.1 j (o.1, subst (λ (v : Kind). is_read_kind v ≡ true) (sym (told m.at u name_plain.1 z j).kind ∙ o.2.kind) j.1))
-
     -- no word is a prefix there
     or_none : (x : Bool) → ((x || false) || false) ≡ x
     or_none true = refl
@@ -228,7 +206,7 @@ module _ {text : List ℕ} {f : Flags} {first p q : Parser} (st : Bool) (af : At
     no_prefix false x y = or_none (one_of_kinds (Eq ∷ LParen ∷ []) y.kind)
 
     accessor_named : {r : Parser} {id : NodeId} (c : Bool) → KeyRead text f c q r id → FieldNamed text f (not c && false) (not c && false) c (element_slots st f (accessor_slots c)) first q r id
-    accessor_named c x = record { begins = accessor_begins st c b; named = x; word = first_lexeme.0; only = first_lexeme.1; plain = λ y j. no_prefix c first_lexeme.0 y }
+    accessor_named c x = record { begins = accessor_begins st c b; named = x; word = (name_lexeme m.at i).0; only = (name_lexeme m.at i).2; plain = λ y j. no_prefix c (name_lexeme m.at i).0 y }
 
     pub accessor_field_read : {r : Parser} (w : Parser) (v : Result NodeId Stop) (h : ElementHead) (n : PropertyName) → h.is_static ≡ st → h.start ≡ first.token.span.start → KeyRead text f n.computed q r n.key → ReadsField h field_kind.Accessor n r w v → ElementOutcome text f (members st f) first w v
     accessor_field_read w v h n t s x y = element_by text f first w v (accessor_only n.computed x) (subst (λ (u : Bool). ElementOutcome text f (accessor_line_of u) first w v) t (y text f (not n.computed && false) (not n.computed && false) (element_slots st f (accessor_slots n.computed)) first q af s (accessor_named n.computed x)))

@@ -9,6 +9,7 @@ pub mod StringMembers
 pub mod WordFields
 pub mod WordMembers
 pub mod NamedMethods
+pub mod NameLexemes
 pub mod Names
 pub mod SpecialMethods
 pub mod NameTests

@@ -3,7 +3,7 @@ use Rattle.std.proofs.Common.{ℕ, ◌≡◌, Bool, true, false, not, ◌&&◌, 
 use Rattle.std.specs.Prelude.{Result}
 use Rattle.std.proofs.lemmas.Bool.{false≢true, and_parts, or_parts}
 use Rattle.js_base.specs.declared.kind.Kind.{Kind}
-use Rattle.js_base.specs.declared.kind.Kind.TheVariants.{Accessor, Async, At as at_sign, Eq, Get, LCurly, LParen, RAngle, Semicolon, Set, Star, Static, Str}
+use Rattle.js_base.specs.declared.kind.Kind.TheVariants.{Accessor, Async, At as at_sign, Eq, Get, LCurly, LParen, Semicolon, Set, Star, Static, Str}
 use Rattle.js_base.specs.Kinds.{same_kind, one_of_kinds}
 use Rattle.js_base.specs.KindSets.{identifier_name_kinds}
 use Rattle.js_base.specs.Texts.{words}
@@ -17,30 +17,29 @@ use Rattle.js_grammar.specs.Productions.{G, Flags, field_of, no_newline, slot, t
 use Rattle.js_grammar.specs.Productions.{sym as symbol}
 use Rattle.js_grammar.specs.Table.{rule, rule_of, field, name, named_constructor, not_constructor, plain_method}
 use Rattle.js_grammar.proofs.Finding.{either_of}
-use Rattle.js_grammar.proofs.Looks.{covers, covered, apart, not_both}
+use Rattle.js_grammar.proofs.Looks.{covers, covered, apart}
 use Rattle.js_grammar.proofs.Calculus.{closes, ◌▹◌, ◌▹✗◌, done, fails_alt, fails_ended, fails_look, fails_never, fails_node, fails_nothing, here_at, inside_plain, left, part_fails, passes_none, reads_empty_slot, right, stay}
 use Rattle.laws_primary.specs.js_tree.declared.id.NodeId.{NodeId}
 use Rattle.laws_primary.specs.js_cursor.Parsers.{Parser}
 use Rattle.laws_primary.specs.Objects.{method_left}
 use Rattle.laws_primary.specs.declared.forms.PropertyName.{PropertyName}
-use Rattle.laws_primary.specs.js_cursor.Moves.{is_last}
 use Rattle.laws_primary.specs.js_cursor.declared.stop.Stop.{Stop}
-use Rattle.laws_primary.specs.js_cursor.js_lex.Reading.{Tells}
 use Rattle.laws_primary.specs.js_tree.declared.op.MethodKind.TheVariants as method_kind
 use Rattle.laws_primary.specs.laws_shared.Answers.{Stops}
+use Rattle.laws_classes.proofs.NameLexemes.{name_lexeme}
 use Rattle.laws_classes.specs.declared.forms.FieldKind.TheVariants as field_kind
 use Rattle.laws_classes.specs.Methods.{ReadsMethod}
 use Rattle.laws_primary.proofs.laws_shared.Moving.{same_itself, stops_behind, stops_so}
 use Rattle.laws_primary.proofs.laws_shared.Verdicts.{grown_then}
 use Rattle.laws_primary.proofs.Properties.{kinds_apart}
 use Rattle.laws_primary.specs.laws_shared.Arguments.{Partway}
-use Rattle.laws_primary.specs.laws_shared.Lexemes.{Lex, is_read_kind, nowhere, signs}
+use Rattle.laws_primary.specs.laws_shared.Lexemes.{Lex, nowhere}
 use Rattle.laws_primary.specs.laws_shared.States.{At}
 use Rattle.laws_primary.specs.laws_shared.declared.nested.MethodForm.TheVariants.{Method}
 use Rattle.laws_primary.proofs.laws_shared.Ahead.{pass_over}
-use Rattle.laws_primary.proofs.laws_shared.Here.{found, kind_here, settled_kind, told, uncut, unsettled}
+use Rattle.laws_primary.proofs.laws_shared.Here.{kind_here}
 use Rattle.laws_primary.proofs.laws_shared.Parts.{part_from}
-use Rattle.laws_primary.proofs.laws_shared.Paths.{◌⟶✗◌, fails_at, not_here, one_read, skips, walked_one}
+use Rattle.laws_primary.proofs.laws_shared.Paths.{◌⟶✗◌, fails_at, not_here, skips, walked_one}
 use Rattle.laws_primary.proofs.laws_shared.Signs.{other_kind}
 use Rattle.laws_primary.proofs.Methods.{no_first}
 use Rattle.laws_classes.specs.Elements.{Begun, ElementOutcome, behind_element, element_flags, element_slots}
@@ -202,24 +201,6 @@ module _ {text : List ℕ} {f : Flags} {first p : Parser} (st : Bool) (af : At t
     only_field h = one_of_two st f c others_fail (no_constructors (unparametered quiet_named false (plainly_unfollowed c x h)) st b)
         ▹ (right (no_element st p method_definition method_op (element_flags st c) af b no_sign (unparametered (quiet_test (st || c)) c (unfollowed c x h))) ▹ (right (getters_fail c) ▹ (right (setters_fail c) ▹ left (accessors_fail c))))
 
-    name_plain : (same_kind RAngle p.token.kind ≡ false) × (one_of_kinds signs p.token.kind ≡ false)
-    unfolding apart
-    name_plain = settled_kind p.token.kind (kinds_apart name_kinds unsettled refl p.token.kind i)
-
-    name_passable : is_last p.token.kind ≡ false
-    unfolding apart
-    name_passable = by (is_last p.token.kind) refl
-      where
-        by : (d : Bool) → is_last p.token.kind ≡ d → is_last p.token.kind ≡ false
-        by true h = absurd (not_both (λ k w e. one_of_kinds name_kinds k) (λ k w e. is_last k) refl p.token.kind false false i h)
-        by false h = h
-
-    first_lexeme : (y : Lexeme) × Tells y p.token × ((z : Lexeme) → Lex text p.prev_token_end z → z ≡ y)
-    first_lexeme =
-        let u = uncut a name_plain.0 in
-        let o = found a u name_passable in
-        (o.0, o.2, λ z j. one_read a name_plain.1 j (o.1, subst (λ (v : Kind). is_read_kind v ≡ true) (sym (told a u name_plain.1 z j).kind ∙ o.2.kind) j.1))
-
     off : (s e k o : Bool) → k ≡ false → (((s && not e) && k) && o) ≡ false
     off true true k o h = refl
     off true false k o h = rw h refl
@@ -229,11 +210,11 @@ module _ {text : List ℕ} {f : Flags} {first p : Parser} (st : Bool) (af : At t
     or_none true y z i j = refl
     or_none false y z i j = rw (i, j) refl
 
-    no_prefix : (s g : Bool) (y : Lexeme) → seen (after_name s g first_lexeme.0) y ≡ one_of_kinds (Eq ∷ LParen ∷ []) y.kind
+    no_prefix : (s g : Bool) (y : Lexeme) → seen (after_name s g (name_lexeme a i).0) y ≡ one_of_kinds (Eq ∷ LParen ∷ []) y.kind
     unfolding covers
     no_prefix s g y =
-        let x = first_lexeme.0 in
-        let t = first_lexeme.1 in
+        let x = (name_lexeme a i).0 in
+        let t = (name_lexeme a i).1 in
         or_none (one_of_kinds (Eq ∷ LParen ∷ []) y.kind) _ _
         (off g x.escaped (one_of_kinds (Get ∷ Set ∷ []) x.kind) (seen begins_name y) (sym (ap (one_of_kinds (Get ∷ Set ∷ [])) t.kind) ∙ none_of (Get ∷ Set ∷ []) refl p.token.kind n))
         (off s x.escaped (same_kind Static x.kind) (seen begins_name y || one_of_kinds (Star ∷ LCurly ∷ []) y.kind) (sym (ap (same_kind Static) t.kind) ∙ no_static (same_kind Static p.token.kind) (none_of (Static ∷ []) refl p.token.kind n)))
@@ -265,7 +246,7 @@ module _ {text : List ℕ} {f : Flags} {first p : Parser} (st : Bool) (af : At t
     }
 
     field_named : FieldNamed text f (not c && not st) (not c && true) c (element_slots st f (field c (not st) true f)) first p q id
-    field_named = record { begins = name_begins st b; named = x; word = first_lexeme.0; only = first_lexeme.2; plain = λ y l. no_prefix (not c && not st) (not c && true) y }
+    field_named = record { begins = name_begins st b; named = x; word = (name_lexeme a i).0; only = (name_lexeme a i).2; plain = λ y l. no_prefix (not c && not st) (not c && true) y }
 
   -- ---- the answers
 

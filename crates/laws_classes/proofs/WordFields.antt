@@ -2,8 +2,7 @@
 use Rattle.std.proofs.Common.{ℕ, ◌≡◌, ◌⊎◌, inl, inr, Bool, true, false, not, ◌&&◌, ◌||◌, List, [], ◌∷◌, refl, sym, ap, subst, arith, ◌∙◌}
 use Rattle.std.specs.Prelude.{Result}
 use Rattle.std.proofs.lemmas.Bool.{false≢true}
-use Rattle.js_base.specs.declared.kind.Kind.{Kind}
-use Rattle.js_base.specs.declared.kind.Kind.TheVariants.{At as at_sign, Eq, Get, LCurly, LParen, RAngle, Set, Star, Static}
+use Rattle.js_base.specs.declared.kind.Kind.TheVariants.{At as at_sign, Eq, Get, LCurly, LParen, Set, Star, Static}
 use Rattle.js_base.specs.Kinds.{same_kind, one_of_kinds}
 use Rattle.js_base.specs.KindSets.{identifier_name_kinds}
 use Rattle.js_base.specs.Texts.{words}
@@ -14,25 +13,23 @@ use Rattle.js_grammar.specs.Insertion.{after_name, begins_name}
 use Rattle.js_grammar.specs.Parsing.{plain, full, still, Goes, Fails}
 use Rattle.js_grammar.specs.Productions.{G, Flags, no_newline, only, tok}
 use Rattle.js_grammar.specs.Table.{rule, field, name, plain_method}
-use Rattle.js_grammar.proofs.Looks.{covers, covered, apart, not_both}
+use Rattle.js_grammar.proofs.Looks.{covers, covered, apart}
 use Rattle.js_grammar.proofs.Calculus.{◌▹◌, ◌▹✗◌, done, fails_alt, fails_ended, fails_never, fails_node, inside_plain, left, part_fails, right}
 use Rattle.laws_primary.specs.js_tree.declared.id.NodeId.{NodeId}
-use Rattle.laws_primary.specs.js_cursor.Moves.{is_last}
 use Rattle.laws_primary.specs.js_cursor.Parsers.{Parser}
 use Rattle.laws_primary.specs.js_cursor.declared.stop.Stop.{Stop}
 use Rattle.laws_primary.specs.Objects.{method_left}
-use Rattle.laws_primary.specs.laws_shared.Lexemes.{Lex, is_read_kind, nowhere, signs}
+use Rattle.laws_primary.specs.laws_shared.Lexemes.{Lex, nowhere}
 use Rattle.laws_primary.specs.laws_shared.Moves.{Moved}
 use Rattle.laws_primary.specs.laws_shared.States.{At}
 use Rattle.laws_primary.specs.laws_shared.declared.nested.MethodForm.TheVariants.{Method}
-use Rattle.laws_primary.specs.js_cursor.js_lex.Reading.{Tells}
-use Rattle.laws_primary.proofs.laws_shared.Here.{found, settled_kind, told, uncut, unsettled}
 use Rattle.laws_primary.proofs.laws_shared.Moving.{same_itself}
-use Rattle.laws_primary.proofs.laws_shared.Paths.{fails_at, not_here, one_read, skips, walked_one}
+use Rattle.laws_primary.proofs.laws_shared.Paths.{fails_at, not_here, skips, walked_one}
 use Rattle.laws_primary.proofs.laws_shared.Signs.{other_kind}
 use Rattle.laws_primary.proofs.AsyncWords.{no_same_line}
 use Rattle.laws_primary.proofs.Methods.{no_first}
-use Rattle.laws_primary.proofs.Properties.{kinds_apart, word_apart}
+use Rattle.laws_primary.proofs.Properties.{word_apart}
+use Rattle.laws_classes.proofs.NameLexemes.{word_lexeme}
 use Rattle.laws_classes.specs.declared.forms.FieldKind.TheVariants as field_kind
 use Rattle.laws_classes.specs.Elements.{Begun, ElementOutcome, behind_element, element_flags, element_slots}
 use Rattle.laws_classes.specs.Fields.{Begins, FieldNamed, ReadsField}
@@ -111,24 +108,6 @@ module _ {text : List ℕ} {f : Flags} {first p q : Parser} (st : Bool) (af : At
     goes = record { reach = 0; near = omega arith; goes = none_kept (no_decorator af (ap (one_of_kinds (at_sign ∷ [])) h.0)) ▹ skips af Static h.0 h.1 refl o };
   }
 
-  word_plain : (same_kind RAngle p.token.kind ≡ false) × (one_of_kinds signs p.token.kind ≡ false)
-  unfolding apart
-  word_plain = settled_kind p.token.kind (kinds_apart identifier_name_kinds unsettled refl p.token.kind w)
-
-  word_passable : is_last p.token.kind ≡ false
-  unfolding apart
-  word_passable = by (is_last p.token.kind) refl
-    where
-      by : (d : Bool) → is_last p.token.kind ≡ d → is_last p.token.kind ≡ false
-      by true h = absurd (not_both (λ k w e. one_of_kinds identifier_name_kinds k) (λ k w e. is_last k) refl p.token.kind false false w h)
-      by false h = h
-
-  word_lexeme : (y : Lexeme) × Tells y p.token × ((z : Lexeme) → Lex text p.prev_token_end z → z ≡ y)
-  word_lexeme =
-      let u = uncut a word_plain.0 in
-      let o = found a u word_passable in
-      (o.0, o.2, λ z j. one_read a word_plain.1 j (o.1, subst (λ (v : Kind). is_read_kind v ≡ true) (sym (told a u word_plain.1 z j).kind ∙ o.2.kind) j.1))
-
   -- ---- what stands behind it is no part of another member
 
   pub off : (s e k o : Bool) → (s ≡ true → e ≡ false → k ≡ true → o ≡ false) → (((s && not e) && k) && o) ≡ false
@@ -172,16 +151,16 @@ module _ {text : List ℕ} {f : Flags} {first p q : Parser} (st : Bool) (af : At
   negated true h = absurd (false≢true h)
   negated false h = refl
 
-  no_prefix : (y : Lexeme) → Lex text q.prev_token_end y → seen (after_name (not st) true word_lexeme.0) y ≡ one_of_kinds (Eq ∷ LParen ∷ []) y.kind
+  no_prefix : (y : Lexeme) → Lex text q.prev_token_end y → seen (after_name (not st) true (word_lexeme a w).0) y ≡ one_of_kinds (Eq ∷ LParen ∷ []) y.kind
   no_prefix y l =
-      let x = word_lexeme.0 in
-      let t = word_lexeme.1 in
+      let x = (word_lexeme a w).0 in
+      let t = (word_lexeme a w).1 in
       or_none (one_of_kinds (Eq ∷ LParen ∷ []) y.kind) _ _
       (off true x.escaped (one_of_kinds (Get ∷ Set ∷ []) x.kind) (seen begins_name y) (λ s e k. no_name_there (n.accessor_method (t.escaped ∙ e) (ap (one_of_kinds (Get ∷ Set ∷ [])) t.kind ∙ k)) y l))
       (off (not st) x.escaped (same_kind Static x.kind) (seen more_names y) (λ s e k. no_more_there (n.static_member (negated st s) (t.escaped ∙ e) (t.kind ∙ sym (kind_of_same Static x.kind k))) y l))
 
   word_named : {u : Parser} {id : NodeId} → u.prev_token_end ≡ q.prev_token_end → KeyRead text f false p u id → FieldNamed text f (not st) true false (element_slots st f (field false (not st) true f)) first p u id
-  word_named {u} e x = record { begins = word_begins st b; named = x; word = word_lexeme.0; only = word_lexeme.2; plain = λ y l. no_prefix y (subst (λ (v : ℕ). Lex text v y) e l) }
+  word_named {u} e x = record { begins = word_begins st b; named = x; word = (word_lexeme a w).0; only = (word_lexeme a w).2; plain = λ y l. no_prefix y (subst (λ (v : ℕ). Lex text v y) e l) }
 
   pub word_field_read : {u : Parser} {id : NodeId} (v : Parser) (r : Result NodeId Stop) (start : ℕ) → start ≡ first.token.span.start → u.prev_token_end ≡ q.prev_token_end → KeyRead text f false p u id → ReadsField (record { start = start; is_static = st }) field_kind.Property (record { key = id; computed = false }) u v r → ElementOutcome text f (members st f) first v r
   word_field_read v r start s e x y = element_by text f first v r only_field (y text f (not st) true (element_slots st f (field false (not st) true f)) first p af s (word_named e x))
