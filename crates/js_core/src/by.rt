@@ -41,6 +41,11 @@ impl<F: Fn(&mut ParserImpl<'_, RuntimeParserConfig>, Nonterminal) -> Result<Node
     }
 
     #[inline(always)]
+    fn left_hand_side(&self, p: &mut ParserImpl<'_, RuntimeParserConfig>) -> Result<NodeId, Stop> {
+        (self.0)(p, Nonterminal::LeftHandSide)
+    }
+
+    #[inline(always)]
     fn exponentiation(&self, p: &mut ParserImpl<'_, RuntimeParserConfig>) -> Result<NodeId, Stop> {
         (self.0)(p, Nonterminal::Exponentiation)
     }
@@ -63,6 +68,11 @@ impl<F: Fn(&mut ParserImpl<'_, RuntimeParserConfig>, Nonterminal) -> Result<Node
     #[inline(always)]
     fn body(&self, p: &mut ParserImpl<'_, RuntimeParserConfig>) -> Result<NodeId, Stop> {
         (self.0)(p, Nonterminal::Body)
+    }
+
+    #[inline(always)]
+    fn class_body(&self, p: &mut ParserImpl<'_, RuntimeParserConfig>) -> Result<NodeId, Stop> {
+        (self.0)(p, Nonterminal::ClassBody)
     }
 
     #[inline(always)]

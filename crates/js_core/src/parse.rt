@@ -1,12 +1,13 @@
 //! The one function that recurses, and the calls for others.
 
 ghost use Rattle.std.specs.Prelude.{◌≡◌, true, not, MatchResult};
-ghost use Rattle.js_core.specs.Prelude.{AllRefused, AllTaken, Answers, Assignment, at, Binding, Body, CanNest, Exponent, Expression, has_flag, in_flag, is_single, LeftHandSide, NamesProperty, parameters_of, Params, placed, AnswersFor, ReadsWhole, Ready, room, Standing, TakesStatement, Text, TriesArrow};
+ghost use Rattle.js_core.specs.Prelude.{AllRefused, AllTaken, Answers, Assignment, at, Binding, Body, CanNest, ClassBody, Exponent, Expression, has_flag, in_flag, is_single, LeftHandSide, NamesProperty, parameters_of, Params, placed, AnswersFor, ReadsWhole, Ready, room, Standing, TakesStatement, Text, TriesArrow};
 ghost use Rattle.js_core.specs.Calls.{above};
 
 use crate::by::By;
 use js_base::{Kind, Precedence, StatementContext};
 use parse_arrows::arrow;
+use parse_classes::class_body;
 use parse_members::left_hand_side;
 use parse_operators::assignment::parse_assignment_expression;
 use parse_operators::operators::{self, parse_exponentiation_expression, parse_operators};
@@ -42,11 +43,13 @@ pub fn parse_nonterminal<C: ParserConfig, N: Sequences<C>>(
         Nonterminal::Expression => parse_sequence_expression(p, nested),
         Nonterminal::Assignment | Nonterminal::Element => parse_assignment_expression(p, nested),
         Nonterminal::Unary => parse_unary_expression_or_higher(p, nested),
+        Nonterminal::LeftHandSide => parse_left_hand_side(p, nested),
         Nonterminal::Exponentiation => parse_exponentiation(p, nested),
         Nonterminal::Binding => binding::parse_binding_pattern(p, nested),
         Nonterminal::Statement => statement::parse_statement(p, nested),
         Nonterminal::ListItem => statement::parse_statement_list_item(p, nested),
         Nonterminal::Body => parse_body(p, nested),
+        Nonterminal::ClassBody => parse_class_body(p, nested),
         Nonterminal::Params => parse_parameters(p, nested),
         Nonterminal::MethodParameters(form) => parse_parameters_of_method(p, nested, form),
     }
@@ -63,6 +66,32 @@ fn parse_exponentiation<C: ParserConfig, N: Nested<C>>(
     ensures { Answers (at Exponent) p.old p.new result }
 {
     parse_exponentiation_expression(p, nested)
+}
+
+/// A LeftHandSideExpression (ECMA-262, section 13.3), in a frame of its own too.
+#[inline(never)]
+fn parse_left_hand_side<C: ParserConfig, N: Nested<C>>(
+    p: &mut ParserImpl<'_, C>,
+    nested: &N,
+) -> Result<NodeId, Stop>
+    requires at { Standing p.old }
+    requires nests { CanNest (N.can nested.now) (room p.old) }
+    ensures { Answers (at LeftHandSide) p.old p.new result }
+{
+    left_hand_side::parse_lhs_expression_or_higher(p, nested)
+}
+
+/// A ClassBody in its braces (ECMA-262, section 15.7), in a frame of its own too.
+#[inline(never)]
+fn parse_class_body<C: ParserConfig, N: Sequences<C>>(
+    p: &mut ParserImpl<'_, C>,
+    nested: &N,
+) -> Result<NodeId, Stop>
+    requires at { Standing p.old }
+    requires nests { CanNest (N.can nested.now) (room p.old) }
+    ensures { Answers (at ClassBody) p.old p.new result }
+{
+    class_body::parse_class_body(p, nested)
 }
 
 /// A FunctionBody in its braces (ECMA-262, section 15.2), in a frame of its own too.

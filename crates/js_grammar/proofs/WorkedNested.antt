@@ -48,11 +48,11 @@ expression p = through (operand p)
 around : {t : Label} {cs : Slots} {i j : ℕ} {x y : Lexeme} {ls rest : Lexemes} → IsTrue (seen (is LBrack) x) → IsTrue (seen (is RBrack) y) → Takes rule (rule (at Assignment F)) end (tree t cs end) x.to ls end j (next y rest)
     → Takes rule (rule (at Primary F)) end (tree (label array_expression no_op 0 x.from y.to) (tree t cs end) end) i (next x ls) end y.to rest
 unfolding rule rule_of
-around o c d = is_right (is_right (is_right (is_right (is_right (is_right (is_right (is_right (is_right (is_right (is_left (is_node (is_seq (is_lexeme o) (is_seq (is_seq (is_many (is_right is_nothing)) (is_left (is_such (through d) refl))) (is_lexeme c))))))))))))))
+around o c d = is_right (is_right (is_right (is_right (is_right (is_right (is_right (is_right (is_right (is_right (is_right (is_left (is_node (is_seq (is_lexeme o) (is_seq (is_seq (is_many (is_right is_nothing)) (is_left (is_such (through d) refl))) (is_lexeme c)))))))))))))))
 
 empty : {i : ℕ} {x y : Lexeme} {rest : Lexemes} → IsTrue (seen (is LBrack) x) → IsTrue (seen (is RBrack) y) → Takes rule (rule (at Primary F)) end (tree (label array_expression no_op 0 x.from y.to) end end) i (next x (next y rest)) end y.to rest
 unfolding rule rule_of
-empty o c = is_right (is_right (is_right (is_right (is_right (is_right (is_right (is_right (is_right (is_right (is_left (is_node (is_seq (is_lexeme o) (is_seq (is_seq (is_many (is_right is_nothing)) (is_right (is_right is_nothing))) (is_lexeme c))))))))))))))
+empty o c = is_right (is_right (is_right (is_right (is_right (is_right (is_right (is_right (is_right (is_right (is_right (is_left (is_node (is_seq (is_lexeme o) (is_seq (is_seq (is_many (is_right is_nothing)) (is_right (is_right is_nothing))) (is_lexeme c)))))))))))))))
 
 -- A text that is one expression.
 alone : {t : Label} {cs : Slots} {i e : ℕ} {ls : Lexemes} → IsTrue (seen (other (is_one_of (LCurly ∷ 'function' ∷ 'class' ∷ At ∷ []))) (here ls)) → IsTrue (seen (other (is 'async')) (here ls)) → IsTrue (seen (other (is 'let')) (here ls))
@@ -186,9 +186,9 @@ in_parens : {t : Label} {cs : Slots} {i j a b : ℕ} {ls rest : Lexemes} → Tak
     → Takes rule (rule (at Primary F)) end (tree (label parenthesized_expression no_op 0 a (j + 1)) (tree (label assignment_expression (of Eq) 0 (a + 1) j) (tree (label identifier_reference no_op 0 (a + 1) (a + 1 + 1)) end (tree t cs end)) end) end) i (next (placed LParen a []) (next (placed Ident (a + 1) (codes "a")) (next (placed Eq b []) ls))) end (j + 1) rest
 unfolding rule rule_of
 in_parens d =
-    is_right (is_right (is_right (is_right (is_right (is_right (is_right (is_right (is_right (is_right (is_right (is_left (is_node (is_seq (is_lexeme refl) (is_seq
+    is_right (is_right (is_right (is_right (is_right (is_right (is_right (is_right (is_right (is_right (is_right (is_right (is_left (is_node (is_seq (is_lexeme refl) (is_seq
     (is_marked (through (is_right (is_right (is_right (is_left (is_left (is_node (is_seq (is_such (through (is_node (is_lexeme refl))) refl) (is_seq (is_lexeme refl) (is_such d refl)))))))))))
-    (is_lexeme refl)))))))))))))))
+    (is_lexeme refl))))))))))))))))
 
 assignments_derived : (k i a : ℕ) (rest : Lexemes) → Takes rule (rule (at Primary F)) end (tree (node_label k a) (node_slots k a) end) i (assignments k a rest) end (close k a) rest
 assignments_derived zero i a rest = a_number

@@ -100,14 +100,14 @@ templates_cooked text us = cooked_at text anywhere us
 -- Modules.
 
 -- the value of a key, in code units
-abbrev key_units : List ℕ → Label → Option (List ℕ)
+abbrev pub key_units : List ℕ → Label → Option (List ℕ)
 key_units text l = of_kind l.kind (characters_at text l)
   where
     of_kind : NodeKind → List ℕ → Option (List ℕ)
     of_kind string_literal w = string_units (string_inside w)
     of_kind _ w = elim (name_points w) [ None ↦ None | Some cs ↦ Some (code_units cs) ]
 
-abbrev same_value : Option (List ℕ) → Option (List ℕ) → Bool
+abbrev pub same_value : Option (List ℕ) → Option (List ℕ) → Bool
 same_value (Some a) (Some b) = bytes_eq a b
 same_value _ _ = false
 
@@ -136,35 +136,35 @@ attribute_keys_differ text l cs = of_kind l.kind
 
 -- Classes (15.7.1). A name in brackets is no name here.
 
-abbrev is_named : List ℕ → NodeKind → List ℕ → Label → Bool
+abbrev pub is_named : List ℕ → NodeKind → List ℕ → Label → Bool
 is_named text identifier_name name l = same_value (key_units text l) (Some name)
 is_named text string_literal name l = same_value (key_units text l) (Some name)
 is_named text _ name l = false
 
 -- the member, of this label and these slots, isn't computed and has this name
-abbrev has_name : List ℕ → List ℕ → Label → Slots → Bool
+abbrev pub has_name : List ℕ → List ℕ → Label → Slots → Bool
 has_name text name l (tree k ks us) = not (has_flag computed_flag l.flags) && is_named text k.kind name k
 has_name text name l _ = false
 
-abbrev is_member : NodeKind → Bool
+abbrev pub is_member : NodeKind → Bool
 is_member method_definition = true
 is_member property_definition = true
 is_member accessor_property = true
 is_member _ = false
 
-abbrev is_field : NodeKind → Bool
+abbrev pub is_field : NodeKind → Bool
 is_field property_definition = true
 is_field accessor_property = true
 is_field _ = false
 
-abbrev is_static : Label → Bool
+abbrev pub is_static : Label → Bool
 is_static l = has_flag static_flag l.flags
 
-abbrev is_private_constructor : List ℕ → NodeKind → Label → Bool
+abbrev pub is_private_constructor : List ℕ → NodeKind → Label → Bool
 is_private_constructor text private_identifier l = elim (characters_at text l) [ [] ↦ false | c ∷ cs ↦ elim (name_points cs) [ None ↦ false | Some ps ↦ bytes_eq ps (codes "constructor") ] ]
 is_private_constructor text _ l = false
 
-abbrev has_private_constructor : List ℕ → Slots → Bool
+abbrev pub has_private_constructor : List ℕ → Slots → Bool
 has_private_constructor text (tree k ks us) = is_private_constructor text k.kind k
 has_private_constructor text _ = false
 
@@ -181,13 +181,13 @@ abbrev pub no_static_prototype : List ℕ → Rule
 no_static_prototype text l cs = not (is_member l.kind && (is_static l && has_name text (codes "prototype") l cs))
 
 -- an accessor method, or one whose function is a generator or async
-abbrev is_special : Op → Slots → Bool
+abbrev pub is_special : Op → Slots → Bool
 is_special method_op (tree k ks (tree f fs us)) = has_flag generator_flag f.flags || has_flag async_flag f.flags
 is_special constructor_op (tree k ks (tree f fs us)) = has_flag generator_flag f.flags || has_flag async_flag f.flags
 is_special (of k) cs = true
 is_special _ cs = false
 
-abbrev is_method : NodeKind → Bool
+abbrev pub is_method : NodeKind → Bool
 is_method method_definition = true
 is_method _ = false
 
@@ -207,6 +207,11 @@ pub record EarlyOk (text : List ℕ) (t : Tree) : Type 0 where
   pub no_static_prototype : IsTrue (everywhere (no_static_prototype text) (tree t.label t.slots end))
   pub plain_constructor : IsTrue (everywhere (plain_constructor text) (tree t.label t.slots end))
 
+-- Those that a tree may break that the productions derive which are built: not that of `default` and that of `try`, which the table leaves out, and not that of attributes, which no such tree has.
 pub record MeetsEarlyRules (text : List ℕ) (t : Tree) : Type 0 where
   pub not_u_and_v : IsTrue (everywhere (not_u_and_v text) (tree t.label t.slots end))
   pub cooked : IsTrue (templates_cooked text (tree t.label t.slots end))
+  pub no_private_constructor : IsTrue (everywhere (no_private_constructor text) (tree t.label t.slots end))
+  pub no_field_constructor : IsTrue (everywhere (no_field_constructor text) (tree t.label t.slots end))
+  pub no_static_prototype : IsTrue (everywhere (no_static_prototype text) (tree t.label t.slots end))
+  pub plain_constructor : IsTrue (everywhere (plain_constructor text) (tree t.label t.slots end))

@@ -160,7 +160,7 @@ rule_of Directive f = mk directive (ended by_edge string)
 -- ScriptBody (16.1), ModuleItem (16.2)
 rule_of Item f = sym ListItem f
 -- StatementListItem (14.2); an expression statement here does not begin with `let` and a name or `{`
-rule_of ListItem f = sym Statement f ◇ not_then (is 'let') (word_or (LCurly ∷ [])) ▸ sym ExprStmt f ◇ sym Function f ◇ sym Lexical f
+rule_of ListItem f = sym Statement f ◇ not_then (is 'let') (word_or (LCurly ∷ [])) ▸ sym ExprStmt f ◇ sym Function f ◇ sym Class f ◇ sym Lexical f
 -- a Statement as the body of another; function declarations there (B.3.1, B.3.3)
 rule_of Sub f = sym Statement f ◇ sym ExprStmt f ◇ function_of function_declaration (sym BindingIdentifier f) false false f
 -- Statement (14), expression statements aside
@@ -247,8 +247,8 @@ rule_of Element f = each (λ st. each (λ c. element method_definition method_op
     ◇ element accessor_property no_op st c f (tok 'accessor' ▸ no_newline ▸ field c false false f)))
     ◇ element method_definition constructor_op false false f (plain_method named_constructor false true f)
     ◇ mk static_block (tok 'static' ▸ braces (many (sym ListItem (static_of f))))
--- Decorator (of the proposal Decorators; no section of ECMA-262)
-rule_of Decorator f = mk decorator (tok At ▸ (sym DecoratorMember f ◇ mk call_expression (sym DecoratorMember f ▸ args f) ◇ paren_expression f))
+-- no Decorator: its line stands among those that aren't built
+rule_of Decorator f = if_next (λ k w e. false)
 -- DecoratorMemberExpression (of the proposal)
 rule_of DecoratorMember f = sym IdentifierReference f ◇ mk static_member_expression (sym DecoratorMember f ▸ tok Dot ▸ sym IdentifierName f) ◇ mk private_field_expression (sym DecoratorMember f ▸ tok Dot ▸ sym PrivateName f)
 -- ObjectLiteral (13.2.5)
@@ -321,7 +321,7 @@ rule_of Super f = mk super_expression (tok 'super')
 rule_of Argument f = sym Assignment (plus_in f) ◇ mk spread_element (tok Dot3 ▸ sym Assignment (plus_in f))
 -- PrimaryExpression (13.2), with ArrayLiteral (13.2.4) and a call of V8
 rule_of Primary f = mk this_expression (tok 'this') ◇ sym IdentifierReference f ◇ mk null_literal (tok 'null') ◇ mk boolean_literal (any_of ('true' ∷ 'false' ∷ [])) ◇ number ◇ string
-    ◇ sym Object f ◇ sym FuncExpr f ◇ mk reg_exp_literal (tok RegExp) ◇ sym Template f
+    ◇ sym Object f ◇ sym FuncExpr f ◇ sym ClassExpr f ◇ mk reg_exp_literal (tok RegExp) ◇ sym Template f
     ◇ mk array_expression (tok LBrack ▸ items (mk elision (tok Comma)) (sym Argument f) never ▸ tok RBrack)
     ◇ paren_expression f
     ◇ when f.v8 (mk v8_intrinsic_expression (tok Percent ▸ sym IdentifierName f ▸ parens (opt (commas true (sym Assignment (plus_in f))))))
@@ -390,11 +390,11 @@ rule_of ExportDecl f = mk export_all_declaration (tok 'export' ▸ tok Star ▸ 
 -- The head of an arrow function with its parameters in parentheses, before what stands behind `=>` is looked at (CoverParenthesizedExpressionAndArrowParameterList, 13.2; CoverCallExpressionAndAsyncArrowHead, 13.3): a newline may stand before `=>`.
 rule_of LooseHead f = each (λ a. only a (tok 'async' ▸ no_newline) ▸ sym Params (record f { await_ = f.await_ || a }) ▸ tok Arrow)
 
--- The lines of the language that no parse function reads yet, beside those above: those that begin with `class`, `import`, `export` and decorators.
+-- The lines of the language that no parse function reads yet, beside those above: those that begin with `import`, `export` and decorators.
 unfoldable pub unbuilt_of : Name → Flags → G
 unbuilt_of Item f = when f.module_goal (sym ImportDecl f ◇ sym ExportDecl f)  -- ModuleItem (16.2)
-unbuilt_of ListItem f = sym Class f  -- Declaration (14)
-unbuilt_of Primary f = sym ClassExpr f  -- PrimaryExpression (13.2)
+-- Decorator (of the proposal Decorators; no section of ECMA-262)
+unbuilt_of Decorator f = mk decorator (tok At ▸ (sym DecoratorMember f ◇ mk call_expression (sym DecoratorMember f ▸ args f) ◇ paren_expression f))
 unbuilt_of Member f = when f.module_goal (mk import_meta (tok 'import' ▸ tok Dot ▸ tok 'meta'))  -- ImportMeta (13.3)
 -- ImportCall (13.3)
 unbuilt_of Call f = mk import_expression (tok 'import' ▸ parens (sym Assignment (plus_in f) ▸ slot (tok Comma ▸ sym Assignment (plus_in f)) ▸ opt (tok Comma)))

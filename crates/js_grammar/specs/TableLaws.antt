@@ -3,7 +3,7 @@ use Rattle.std.specs.Prelude.{ℕ, List, [], ◌∷◌, Bool, not, ◌≡◌, Is
 use Rattle.js_base.specs.declared.kind.Kind.{Kind}
 use Rattle.js_base.specs.declared.kind.Kind.TheVariants.{At, RCurly, Slash, RegExp, TemplateMiddle, TemplateTail}
 use Rattle.js_base.specs.Kinds.{one_of_kinds}
-use Rattle.js_grammar.specs.Words.{'class', 'import', 'export'}
+use Rattle.js_grammar.specs.Words.{'import', 'export'}
 use Rattle.js_grammar.specs.Trees.{Tree, end, put}
 use Rattle.js_grammar.specs.Grammar.{Lexemes, last, next, here, seen, may_omit, Derives}
 use Rattle.js_grammar.specs.Insertion.{by_edge}
@@ -42,7 +42,7 @@ OmissionEnds = (f : Flags) (t : Tree) (i j : ℕ) (ls rest : Lexemes) → Derive
 
 -- with what each line begins that isn't built
 abbrev pub begins_unbuilt : Kind → Bool
-begins_unbuilt k = one_of_kinds ('class' ∷ 'import' ∷ 'export' ∷ At ∷ []) k
+begins_unbuilt k = one_of_kinds ('import' ∷ 'export' ∷ At ∷ []) k
 
 -- none of these lexemes begins such a line
 abbrev pub BeginNoUnbuilt : Lexemes → Type 0

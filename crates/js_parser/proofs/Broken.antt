@@ -1,12 +1,11 @@
 -- The walk that finds the nodes that break an early rule.
-use Rattle.std.proofs.Common.{◌≡◌, ℕ, ◌+◌, ◌<◌, Bool, true, false, cond, List, [], ◌∷◌, ◌++◌, length, map, take, drop, Option, Some, None, get_or, slice_get, nat_lt, refl, ap, sym, ◌∙◌, subst, arith, lt-ltb, ltb-true, ltb-false, append_assoc, append-nil}
+use Rattle.std.proofs.Common.{◌≡◌, ℕ, ◌+◌, ◌<◌, ◌≤◌, Bool, true, false, ◌||◌, cond, List, [], ◌∷◌, ◌++◌, length, map, take, drop, Option, Some, None, get_or, nat_lt, refl, ap, sym, ◌∙◌, subst, arith, lt-ltb, ltb-true, ltb-false, append_assoc, append-nil}
 use Rattle.std.specs.Prelude.{is_some}
 use Rattle.std.proofs.lemmas.List.{map-append}
-use Rattle.std.proofs.lemmas.Bool.{false≢true}
+use Rattle.std.proofs.lemmas.Bool.{false≢true, or_parts}
 use Rattle.js_base.specs.declared.diagnostic.Diagnostic.{Diagnostic}
-use Rattle.js_base.specs.declared.diagnostic.DiagnosticKind.{DiagnosticKind}
 use Rattle.js_grammar.specs.NodeNames.{characters_at}
-use Rattle.js_grammar.specs.Trees.{NodeKind, reg_exp_literal, template_element, Label, Slots, Tree}
+use Rattle.js_grammar.specs.Trees.{NodeKind, program, reg_exp_literal, template_element, Label, Slots, Tree}
 use Rattle.js_tree.specs.declared.id.NodeId.{NodeId}
 use Rattle.js_tree.specs.Labels.{kind_of}
 use Rattle.js_tree.specs.Nodes.{Node, label, node_at, empty_program}
@@ -16,7 +15,9 @@ use Rattle.js_tree.specs.Parts.{below_all}
 use Rattle.js_tree.proofs.CountLemmas.{children_lighter}
 use Rattle.js_tree.proofs.StackLemmas.{Stacked, bottom, Stacked-push, Stacked-pop, Stacked-none}
 use Rattle.js_tree.proofs.WeightLemmas.{stack_weight}
-use Rattle.js_parser.specs.Broken.{past, within, broken_rule, told_rule, told_in, rule_at, told_of, pending, pending_within, pending_alike, first_end}
+use Rattle.js_parser.specs.Broken.{past, within, broken_rule, told_rule, told_here, told_in, rule_at, told_of, name_fault, told_fault, child_labels, name_fault_at, breaks, pending, pending_within, pending_alike, first_end}
+use Rattle.js_grammar.specs.EarlyRules.{is_member}
+use Rattle.js_parser.proofs.MemberNames.{fault_kept, no_member, past_all}
 use Rattle.js_parser.specs.declared.early.Pending.{Pending}
 use Rattle.js_parser.specs.declared.early.Position.{Position}
 use Rattle.js_parser.specs.declared.early.Position.TheVariants.{Anywhere, Tag, Tagged, InTemplate}
@@ -70,7 +71,7 @@ within_lighter ns ps n =
 
 -- of a node and its slots
 abbrev pub told_from : List ℕ → Position → Label → Slots → List Diagnostic
-told_from text p l cs = told_rule (broken_rule p l.kind (characters_at text l)) (placed l.span) ++ told_in text (within p l.kind) cs
+told_from text p l cs = told_here text p l cs ++ told_in text (within p l.kind) cs
 
 -- an item of the stack: what is told of what it stands for
 pub record Means (text : List ℕ) (ns : List Node) (n : Pending) (v : List Diagnostic) : Type 0 where
@@ -88,7 +89,7 @@ stacked_all p ps u no_slots r = rw append-nil r
 stacked_all {text} {ns} {below} p ps u (next_child {id = id} {ids = ids} {l = l} {cs = cs} {us = us} {rs = rs} {ss = ss} b h a) r =
     let n : Pending = record { id = id; position = p } in
     let s = Stacked-push (ps ++ pending (past p) below ids) n (told_in text (past p) us ++ u) (told_from text p l cs) (stacked_all (past p) ps u a r) (record { label = l; slots = cs; numbers = rs; stands = h; is = refl }) in
-    rw (lt-ltb id.0 below b, ← append_assoc ps (pending (past p) below ids) (n ∷ [])) (subst (λ (t : List Diagnostic). Stacked (Means text ns) (ps ++ pending (past p) below ids ++ n ∷ []) t) (before_rest (told_rule (broken_rule p l.kind (characters_at text l)) (placed l.span)) (told_in text (within p l.kind) cs) u (told_in text (past p) us)) s)
+    rw (lt-ltb id.0 below b, ← append_assoc ps (pending (past p) below ids) (n ∷ [])) (subst (λ (t : List Diagnostic). Stacked (Means text ns) (ps ++ pending (past p) below ids ++ n ∷ []) t) (before_rest (told_here text p l cs) (told_in text (within p l.kind) cs) u (told_in text (past p) us)) s)
 stacked_all p ps u (next_hole a) r = stacked_all p ps u a r
 
 -- these were told, and the stack has the others
@@ -105,10 +106,11 @@ opened : {text : List ℕ} {ns : List Node} {l : Label} {cs : Slots} {rs : List 
 opened {text} {ns} n m ps u told whole e (stands {cs} {rs} k h a) r q =
     let one = label (get_or ns k empty_program) in
     let inner = told_in text (within n.position one.kind) cs in
+    let rule = told_rule (broken_rule n.position one.kind (characters_at text one)) (placed one.span) in
     rw e record {
       rest = inner ++ u;
       stacked = stacked_all (within n.position one.kind) ps u a r;
-      parts = q ∙ regrouped told (told_rule (broken_rule n.position one.kind (characters_at text one)) (placed one.span)) inner u;
+      parts = q ∙ (ap (λ (v : Option Diagnostic). told ++ (((rule ++ told_fault v) ++ inner) ++ u)) (fault_kept text one a) ∙ regrouped told (rule ++ told_fault (name_fault text one (child_labels ns (get_or ns k empty_program).children))) inner u);
     }
   where
     regrouped : (a b c d : List Diagnostic) → a ++ ((b ++ c) ++ d) ≡ (a ++ b) ++ (c ++ d)
@@ -133,30 +135,56 @@ most_asked Tagged template_element w e = refl
 most_asked InTemplate template_element w e = e
 most_asked p k w e = refl
 
-module _ (text : List ℕ) {ns : List Node} (n : (id : NodeId) → id.0 < length ns → rule_at text ns id InTemplate ≡ None) where
+-- neither by its text nor by its name
+is_none : {X : Type 0} (o : Option X) → is_some o ≡ false → o ≡ None
+is_none None e = refl
+is_none (Some x) e = absurd (false≢true (sym e))
+
+neither_broken : (text : List ℕ) (ns : List Node) (id : NodeId) → breaks text ns id ≡ false → (rule_at text ns id InTemplate ≡ None) × (name_fault_at text ns id ≡ None)
+neither_broken text ns id e = let p = or_parts (is_some (rule_at text ns id InTemplate)) (is_some (name_fault_at text ns id)) e in (is_none (rule_at text ns id InTemplate) p.0, is_none (name_fault_at text ns id) p.1)
+
+module _ (text : List ℕ) {ns : List Node} (n : (id : NodeId) → id.0 < length ns → breaks text ns id ≡ false) where
   mutual
     none_from : {id : ℕ} {l : Label} {cs : Slots} {rs : List ℕ} (p : Position) → Stands ns id l cs rs → told_from text p l cs ≡ []
     none_from p (stands {cs} {rs} id h a) =
         let one = label (get_or ns id empty_program) in
-        let none : broken_rule p one.kind (characters_at text one) ≡ None = most_asked p one.kind (characters_at text one) (n (record { 0 = id }) h) in
-        rw none (none_all (within p one.kind) a)
+        let f = neither_broken text ns (record { 0 = id }) (n (record { 0 = id }) h) in
+        let none : broken_rule p one.kind (characters_at text one) ≡ None = most_asked p one.kind (characters_at text one) f.0 in
+        let unnamed : name_fault text one cs ≡ None = fault_kept text one a ∙ f.1 in
+        let inner = none_all (within p one.kind) a in
+        λ i. (told_rule (none i) (placed one.span) ++ told_fault (unnamed i)) ++ inner i
 
     none_all : {b : ℕ} {ids : List (Option NodeId)} {cs : Slots} {rs : List ℕ} (p : Position) → StandsAll ns b ids cs rs → told_in text p cs ≡ []
     none_all p no_slots = refl
-    none_all p (next_child {l = l} {cs = cs} {us = us} b h a) = sym (append_assoc (told_rule (broken_rule p l.kind (characters_at text l)) (placed l.span)) (told_in text (within p l.kind) cs) (told_in text (past p) us)) ∙ (ap (λ (v : List Diagnostic). v ++ told_in text (past p) us) (none_from p h) ∙ none_all (past p) a)
+    none_all p (next_child {l = l} {cs = cs} {us = us} b h a) = sym (append_assoc (told_here text p l cs) (told_in text (within p l.kind) cs) (told_in text (past p) us)) ∙ (ap (λ (v : List Diagnostic). v ++ told_in text (past p) us) (none_from p h) ∙ none_all (past p) a)
     none_all p (next_hole a) = none_all p a
 
   pub none_told : (t : Tree) → IsTree ns t → told_in text Anywhere t.slots ≡ []
   none_told t h = none_all Anywhere (h.children).stands
 
 -- up to a number none breaks a rule, and that one doesn't
-pub one_more : (text : List ℕ) (ns : List Node) (i : ℕ) → ((id : NodeId) → id.0 < i → rule_at text ns id InTemplate ≡ None) → rule_at text ns (record { 0 = i }) InTemplate ≡ None → (id : NodeId) → id.0 < i + 1 → rule_at text ns id InTemplate ≡ None
+pub one_more : (text : List ℕ) (ns : List Node) (i : ℕ) → ((id : NodeId) → id.0 < i → breaks text ns id ≡ false) → breaks text ns (record { 0 = i }) ≡ false → (id : NodeId) → id.0 < i + 1 → breaks text ns id ≡ false
 one_more text ns i n e id h = go (nat_lt id.0 i) refl
   where
-    go : (b : Bool) → nat_lt id.0 i ≡ b → rule_at text ns id InTemplate ≡ None
+    go : (b : Bool) → nat_lt id.0 i ≡ b → breaks text ns id ≡ false
     go true q = n id (ltb-true id.0 i q)
-    go false q = let w = ltb-false id.0 i q in let z : id.0 ≡ i = omega arith in subst (λ (m : ℕ). rule_at text ns (record { 0 = m }) InTemplate ≡ None) (sym z) e
+    go false q = let w = ltb-false id.0 i q in let z : id.0 ≡ i = omega arith in subst (λ (m : ℕ). breaks text ns (record { 0 = m }) ≡ false) (sym z) e
 
-pub no_rule : (r : Option DiagnosticKind) → is_some r ≡ false → r ≡ None
-no_rule None e = refl
-no_rule (Some k) e = absurd (false≢true (sym e))
+-- what a kind alone tells
+pub by_kind_none : (text : List ℕ) (ns : List Node) (id : NodeId) → ((p : Position) (w : List ℕ) → broken_rule p (kind_of (node_at ns id).kind) w ≡ None) → is_member (kind_of (node_at ns id).kind) ≡ false → breaks text ns id ≡ false
+by_kind_none text ns id r m = λ i. is_some (r InTemplate (characters_at text (label (node_at ns id))) i) || is_some (no_member text (label (node_at ns id)) (child_labels ns (node_at ns id).children) m i)
+
+-- as soon as the first is one, or by the second
+pub first_broken : (a b : Bool) → a ≡ true → (a || b) ≡ true
+first_broken true b e = refl
+first_broken false b e = absurd (false≢true e)
+
+-- of a number without a node nothing is told
+pub none_there : (text : List ℕ) (ns : List Node) (n : Pending) → length ns ≤ n.id.0 → told_of text ns n ≡ []
+none_there text ns n h = ap (λ (m : Node). told_rule (broken_rule n.position (kind_of m.kind) (characters_at text (label m))) m.span ++ told_fault (name_fault text (label m) (child_labels ns m.children))) (past_all ns n.id.0 h) ∙ none_of n.position
+  where
+    none_of : (p : Position) → told_rule (broken_rule p program (characters_at text (label empty_program))) (empty_program.span) ++ [] ≡ []
+    none_of Anywhere = refl
+    none_of Tag = refl
+    none_of Tagged = refl
+    none_of InTemplate = refl

@@ -1,14 +1,15 @@
 -- The trees that the productions that are built derive: which early errors they can't have, that they add nothing to the record of a module, and that none of their nodes is marked as pure.
-use Rattle.std.proofs.Common.{ℕ, ◌≡◌, ◌+◌, ◌/◌, ◌%◌, ◌-◌, ◌++◌, ◌∷◌, Bool, true, false, not, cond, ◌&&◌, ◌||◌, List, [], refl, sym, subst, ap, ◌∙◌, rules, IsTrue}
+use Rattle.std.proofs.Common.{ℕ, ◌≡◌, ◌+◌, ◌/◌, ◌%◌, ◌-◌, ◌++◌, ◌∷◌, Bool, true, false, not, cond, ◌&&◌, ◌||◌, List, [], refl, sym, subst, ap, ◌∙◌, rules, IsTrue, arith, eqb-true}
+use Rattle.std.specs.Prelude.{codes, nat_eq}
 use Rattle.std.proofs.lemmas.Bool.{false≢true, not-true, and_parts, and_from}
-use Rattle.js_grammar.specs.Trees.{NodeKind, switch_statement, switch_case, try_statement, template_literal, with_clause, method_definition, property_definition, accessor_property, import_declaration, export_all_declaration, export_from_declaration, export_named_declaration, export_declaration, export_default_declaration, import_expression, import_meta, function_expression, arrow_function_expression, Op, no_op, Label, Span, Slots, end, hole, tree, Tree, append}
+use Rattle.js_grammar.specs.Trees.{NodeKind, switch_statement, switch_case, try_statement, template_literal, with_clause, import_declaration, export_all_declaration, export_from_declaration, export_named_declaration, export_declaration, export_default_declaration, import_expression, import_meta, function_expression, arrow_function_expression, Op, no_op, Label, Span, Slots, end, hole, tree, Tree, append, identifier_name, private_identifier, string_literal, method_op, constructor_op}
 use Rattle.js_grammar.specs.Grammar.{Make, Lexemes, ◌▸◌, ◌◇◌, empty_slot, ahead, seq, alt, when, many, commas, such, marked, node, ended, keep, label_of, Takes, Derives, is_nothing, is_lexeme, is_look, is_text, is_ahead, is_empty_slot, is_seq, is_left, is_right, is_when, is_many, is_commas, is_such, is_marked, is_node, is_ended, is_keep, is_kept}
-use Rattle.js_grammar.specs.Productions.{Flags, Name, Symbol, G, at, tok, opt, mk, parens, braces, slot, Program, Case, Switch, Try, Expression, Block, Catch, ListItem, Class, ClassExpr, ClassBody, Element, Decorator, DecoratorMember, ImportDecl, Spec, ExportName, Attrs, Attr, ExportDecl, pure_flag, has_flag, with_pife}
+use Rattle.js_grammar.specs.Productions.{Flags, Name, Symbol, G, at, tok, opt, mk, parens, braces, slot, Program, Case, Switch, Try, Expression, Block, Catch, ListItem, ImportDecl, Spec, ExportName, Attrs, Attr, ExportDecl, pure_flag, has_flag, with_pife, async_flag, computed_flag, generator_flag, static_flag, without_flag}
 use Rattle.js_grammar.specs.Productions.{sym as symbol}
 use Rattle.js_base.specs.declared.kind.Kind.TheVariants.{Colon}
 use Rattle.js_grammar.specs.Words.{'default', 'finally', 'switch', 'try'}
 use Rattle.js_grammar.specs.Table.{rule, rule_of}
-use Rattle.js_grammar.specs.EarlyRules.{Rule, everywhere, one_default, catch_or_finally, not_u_and_v, Place, anywhere, tag, tagged, cooked_at, templates_cooked, attribute_keys_differ, no_private_constructor, no_field_constructor, no_static_prototype, plain_constructor, EarlyOk}
+use Rattle.js_grammar.specs.EarlyRules.{Rule, everywhere, one_default, catch_or_finally, not_u_and_v, Place, anywhere, tag, tagged, cooked_at, templates_cooked, attribute_keys_differ, no_private_constructor, no_field_constructor, no_static_prototype, plain_constructor, EarlyOk, MeetsEarlyRules, is_named, has_name, is_member, is_field, is_private_constructor, has_private_constructor, is_special, is_method}
 use Rattle.js_grammar.specs.Modules.{adds, record_errors}
 use Rattle.js_grammar.proofs.CoverInitialisers.{line_marked}
 use Rattle.js_grammar.proofs.Renamed.{remarked, first_of, second_of, mark_of}
@@ -18,12 +19,6 @@ use Rattle.js_grammar.specs.TreeForms.{with_labels, not_pure, without_pure}
 
 -- nonterminals that no production that is built leads to
 abbrev pub far : Name → Bool
-far Class = true
-far ClassExpr = true
-far ClassBody = true
-far Element = true
-far Decorator = true
-far DecoratorMember = true
 far ImportDecl = true
 far Spec = true
 far ExportName = true
@@ -35,9 +30,6 @@ far _ = false
 -- kinds of nodes that only those make
 abbrev absent : NodeKind → Bool
 absent with_clause = true
-absent method_definition = true
-absent property_definition = true
-absent accessor_property = true
 absent import_declaration = true
 absent export_all_declaration = true
 absent export_from_declaration = true
@@ -378,39 +370,18 @@ keys_spared : (text : List ℕ) → OfAbsent (attribute_keys_differ text)
 keys_spared text with_clause o n s cs h = absurd (false≢true (sym h))
 keys_spared text k o n s cs h = refl
 
-private_spared : (text : List ℕ) → OfAbsent (no_private_constructor text)
-private_spared text method_definition o n s cs h = absurd (false≢true (sym h))
-private_spared text property_definition o n s cs h = absurd (false≢true (sym h))
-private_spared text accessor_property o n s cs h = absurd (false≢true (sym h))
-private_spared text k o n s cs h = refl
-
-field_spared : (text : List ℕ) → OfAbsent (no_field_constructor text)
-field_spared text property_definition o n s cs h = absurd (false≢true (sym h))
-field_spared text accessor_property o n s cs h = absurd (false≢true (sym h))
-field_spared text k o n s cs h = refl
-
-static_spared : (text : List ℕ) → OfAbsent (no_static_prototype text)
-static_spared text method_definition o n s cs h = absurd (false≢true (sym h))
-static_spared text property_definition o n s cs h = absurd (false≢true (sym h))
-static_spared text accessor_property o n s cs h = absurd (false≢true (sym h))
-static_spared text k o n s cs h = refl
-
-constructor_spared : (text : List ℕ) → OfAbsent (plain_constructor text)
-constructor_spared text method_definition o n s cs h = absurd (false≢true (sym h))
-constructor_spared text k o n s cs h = refl
-
--- All early rules hold of it, if those of regular expressions and templates do.
-pub early_fine : (text : List ℕ) (t : Tree) → everywhere fine_label (tree t.label t.slots end) ≡ true → IsTrue (everywhere (not_u_and_v text) (tree t.label t.slots end)) → IsTrue (templates_cooked text (tree t.label t.slots end)) → EarlyOk text t
-early_fine text t h a b = let us = tree t.label t.slots end in record {
+-- All early rules hold of it, if those hold that such trees may break.
+pub early_fine : (text : List ℕ) (t : Tree) → everywhere fine_label (tree t.label t.slots end) ≡ true → MeetsEarlyRules text t → EarlyOk text t
+early_fine text t h m = let us = tree t.label t.slots end in record {
   one_default = all_spared one_default default_spared us h;
   catch_or_finally = all_spared catch_or_finally catch_spared us h;
-  not_u_and_v = a;
-  templates_cooked = b;
+  not_u_and_v = m.not_u_and_v;
+  templates_cooked = m.cooked;
   attribute_keys_differ = all_spared (attribute_keys_differ text) (of_absent (attribute_keys_differ text) (keys_spared text)) us h;
-  no_private_constructor = all_spared (no_private_constructor text) (of_absent (no_private_constructor text) (private_spared text)) us h;
-  no_field_constructor = all_spared (no_field_constructor text) (of_absent (no_field_constructor text) (field_spared text)) us h;
-  no_static_prototype = all_spared (no_static_prototype text) (of_absent (no_static_prototype text) (static_spared text)) us h;
-  plain_constructor = all_spared (plain_constructor text) (of_absent (plain_constructor text) (constructor_spared text)) us h;
+  no_private_constructor = m.no_private_constructor;
+  no_field_constructor = m.no_field_constructor;
+  no_static_prototype = m.no_static_prototype;
+  plain_constructor = m.plain_constructor;
 }
 
 -- nothing is added to a record
@@ -427,15 +398,86 @@ mark_fine l cs h = ap (λ (n : ℕ). record l { flags = n }) (ap (λ (b : Bool).
 pub pure_fine : (t : Tree) → everywhere fine_label (tree t.label t.slots end) ≡ true → without_pure t ≡ t
 pure_fine t h = without_marks fine_label mark_fine t h
 
--- ---- the two rules don't look at the mark
-
-flags_unmarked : (text : List ℕ) (us : Slots) → everywhere (not_u_and_v text) (with_labels not_pure us) ≡ everywhere (not_u_and_v text) us
-flags_unmarked text end = refl
-flags_unmarked text (hole us) = flags_unmarked text us
-flags_unmarked text (tree l cs us) = λ i. not_u_and_v text l cs && (flags_unmarked text cs i && flags_unmarked text us i)
+-- ---- the rules don't look at the mark
 
 abbrev unmarked : Slots → Slots
 unmarked us = with_labels not_pure us
+
+-- the same of a node with the mark and without it, whatever stands in it
+abbrev Blind : Rule → Type 0
+Blind r = (l : Label) (cs : Slots) → r (not_pure l) (unmarked cs) ≡ r l cs
+
+blind_everywhere : {r : Rule} → Blind r → (us : Slots) → everywhere r (unmarked us) ≡ everywhere r us
+blind_everywhere b end = refl
+blind_everywhere b (hole us) = blind_everywhere b us
+blind_everywhere b (tree l cs us) = λ i. b l cs i && (blind_everywhere b cs i && blind_everywhere b us i)
+
+-- of a flag below the mark
+below_mark : (g : ℕ → ℕ) (n : ℕ) → ((m : ℕ) → g (m + 4096) ≡ g m) → g (without_flag pure_flag n) ≡ g n
+below_mark g n h = go (has_flag pure_flag n) refl
+  where
+    go : (b : Bool) → has_flag pure_flag n ≡ b → g (cond b (n - 4096) n) ≡ g n
+    go false e = refl
+    go true e = let k : n / 4096 % 2 ≡ 1 = eqb-true (n / 4096 % 2) 1 e in let o : n - 4096 + 4096 ≡ n = omega arith in sym (h (n - 4096)) ∙ ap g o
+
+computed_blind : (n : ℕ) → has_flag computed_flag (without_flag pure_flag n) ≡ has_flag computed_flag n
+computed_blind n = ap (λ (m : ℕ). nat_eq m 1) (below_mark (λ m. m / 4 % 2) n (λ m. omega arith))
+
+static_blind : (n : ℕ) → has_flag static_flag (without_flag pure_flag n) ≡ has_flag static_flag n
+static_blind n = ap (λ (m : ℕ). nat_eq m 1) (below_mark (λ m. m / 256 % 2) n (λ m. omega arith))
+
+generator_blind : (n : ℕ) → has_flag generator_flag (without_flag pure_flag n) ≡ has_flag generator_flag n
+generator_blind n = ap (λ (m : ℕ). nat_eq m 1) (below_mark (λ m. m / 64 % 2) n (λ m. omega arith))
+
+async_blind : (n : ℕ) → has_flag async_flag (without_flag pure_flag n) ≡ has_flag async_flag n
+async_blind n = ap (λ (m : ℕ). nat_eq m 1) (below_mark (λ m. m / 32 % 2) n (λ m. omega arith))
+
+flags_blind : (text : List ℕ) → Blind (not_u_and_v text)
+flags_blind text l cs = refl
+
+-- the name of a member, by its node
+private_same : (text : List ℕ) (k : NodeKind) (l : Label) → is_private_constructor text k (not_pure l) ≡ is_private_constructor text k l
+private_same text private_identifier l = refl
+private_same text k l = refl
+
+named_same : (text : List ℕ) (k : NodeKind) (name : List ℕ) (l : Label) → is_named text k name (not_pure l) ≡ is_named text k name l
+named_same text identifier_name name l = refl
+named_same text string_literal name l = refl
+named_same text k name l = refl
+
+has_private_same : (text : List ℕ) (cs : Slots) → has_private_constructor text (unmarked cs) ≡ has_private_constructor text cs
+has_private_same text end = refl
+has_private_same text (hole us) = refl
+has_private_same text (tree k ks us) = private_same text k.kind k
+
+has_name_same : (text name : List ℕ) (l : Label) (cs : Slots) → has_name text name (not_pure l) (unmarked cs) ≡ has_name text name l cs
+has_name_same text name l end = refl
+has_name_same text name l (hole us) = refl
+has_name_same text name l (tree k ks us) = λ i. not (computed_blind l.flags i) && named_same text k.kind name k i
+
+special_same : (o : Op) (cs : Slots) → is_special o (unmarked cs) ≡ is_special o cs
+special_same method_op (tree k ks (tree f fs us)) = λ i. generator_blind f.flags i || async_blind f.flags i
+special_same constructor_op (tree k ks (tree f fs us)) = λ i. generator_blind f.flags i || async_blind f.flags i
+special_same o end = search (rules)
+special_same o (hole us) = search (rules)
+special_same o (tree k ks end) = search (rules)
+special_same o (tree k ks (hole us)) = search (rules)
+special_same o (tree k ks (tree f fs us)) = search (rules)
+
+private_blind : (text : List ℕ) → Blind (no_private_constructor text)
+private_blind text l cs = λ i. not (is_member l.kind && has_private_same text cs i)
+
+field_blind : (text : List ℕ) → Blind (no_field_constructor text)
+field_blind text l cs = λ i. not (is_field l.kind && has_name_same text (codes "constructor") l cs i)
+
+prototype_blind : (text : List ℕ) → Blind (no_static_prototype text)
+prototype_blind text l cs = λ i. not (is_member l.kind && (static_blind l.flags i && has_name_same text (codes "prototype") l cs i))
+
+constructor_blind : (text : List ℕ) → Blind (plain_constructor text)
+constructor_blind text l cs = λ i. not (is_method l.kind && (not (static_blind l.flags i) && (has_name_same text (codes "constructor") l cs i && special_same l.op cs i)))
+
+names_without : (r : Rule) (t : Tree) → Blind r → IsTrue (everywhere r (tree t.label t.slots end)) → IsTrue (everywhere r (tree (without_pure t).label (without_pure t).slots end))
+names_without r t b h = blind_everywhere b (tree t.label t.slots end) ∙ h
 
 -- a template's slots
 abbrev of_template : Slots → Slots
@@ -474,8 +516,16 @@ stays w (tree l cs us) =
           and_from _ _ (and_from _ _ b.0 (and_parts _ _ (u.1 (and_from _ _ b.1 (and_from _ _ v refl)))).0) (and_from _ _ (node_stays w anywhere l.kind l.op l.flags l.span cs us c u d) refl)),
     )
 
-pub flags_without : (w : List ℕ) (t : Tree) → IsTrue (everywhere (not_u_and_v w) (tree t.label t.slots end)) → IsTrue (everywhere (not_u_and_v w) (tree (without_pure t).label (without_pure t).slots end))
-flags_without w t h = flags_unmarked w (tree t.label t.slots end) ∙ h
-
-pub cooked_without : (w : List ℕ) (t : Tree) → IsTrue (templates_cooked w (tree t.label t.slots end)) → IsTrue (templates_cooked w (tree (without_pure t).label (without_pure t).slots end))
+cooked_without : (w : List ℕ) (t : Tree) → IsTrue (templates_cooked w (tree t.label t.slots end)) → IsTrue (templates_cooked w (tree (without_pure t).label (without_pure t).slots end))
 cooked_without w t h = (stays w (tree t.label t.slots end)).0 anywhere h
+
+-- The early rules that such trees may break hold without the mark, where all hold with it.
+pub rules_without : (w : List ℕ) (t : Tree) → EarlyOk w t → MeetsEarlyRules w (without_pure t)
+rules_without w t e = record {
+  not_u_and_v = names_without (not_u_and_v w) t (flags_blind w) e.not_u_and_v;
+  cooked = cooked_without w t e.templates_cooked;
+  no_private_constructor = names_without (no_private_constructor w) t (private_blind w) e.no_private_constructor;
+  no_field_constructor = names_without (no_field_constructor w) t (field_blind w) e.no_field_constructor;
+  no_static_prototype = names_without (no_static_prototype w) t (prototype_blind w) e.no_static_prototype;
+  plain_constructor = names_without (plain_constructor w) t (constructor_blind w) e.plain_constructor;
+}

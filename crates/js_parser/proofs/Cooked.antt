@@ -15,7 +15,7 @@ one_line true j c t f n a b = a
 one_line false true c t f n a b = b
 one_line false false c t f n a b = ap (λ (v : Bool). v || has_backslash f) n ∙ b
 
-feeds : (carriage : Bool) (cs : List ℕ) → has_backslash cs ≡ false → has_backslash (line_feeds_after carriage cs) ≡ false
+pub feeds : (carriage : Bool) (cs : List ℕ) → has_backslash cs ≡ false → has_backslash (line_feeds_after carriage cs) ≡ false
 feeds carriage [] h = refl
 feeds carriage (c ∷ cs) h =
     let r = neither-right (c == 92) (has_backslash cs) h in

@@ -7,13 +7,15 @@ use Rattle.js_base.specs.declared.diagnostic.Diagnostic.{Diagnostic}
 use Rattle.js_base.specs.declared.diagnostic.DiagnosticKind.{DiagnosticKind}
 use Rattle.js_base.specs.declared.diagnostic.DiagnosticKind.TheVariants.{RegExpFlagUAndV, TemplateLiteral}
 use Rattle.js_base.specs.declared.span.Span.{Span as PlacedSpan}
-use Rattle.js_grammar.specs.EarlyRules.{everywhere, not_u_and_v, cooked_at, Place, anywhere, tag, tagged, parts_cooked}
+use Rattle.js_grammar.specs.EarlyRules.{Rule, everywhere, not_u_and_v, no_private_constructor, no_field_constructor, no_static_prototype, plain_constructor, cooked_at, Place, anywhere, tag, tagged, parts_cooked}
 use Rattle.js_grammar.specs.NodeNames.{characters_at}
 use Rattle.js_grammar.specs.Trees.{NodeKind, reg_exp_literal, tagged_template_expression, template_literal, template_element, Label, Op, Span, Slots, end, hole, tree, Tree}
 use Rattle.js_tree.specs.Covering.{placed}
 use Rattle.js_core.proofs.Lists.{first_empty}
 use Rattle.js_core.proofs.laws_shared.Verdicts.{ending}
-use Rattle.js_parser.specs.Broken.{past, within, broken_rule, told_rule, told_in}
+use Rattle.js_parser.specs.Broken.{past, within, broken_rule, told_rule, told_here, told_in, name_fault, told_fault}
+use Rattle.js_parser.proofs.MemberNames.{names_right, right_if_none, none_if_right}
+use Rattle.js_grammar.proofs.EachNode.{each_so}
 use Rattle.js_core.specs.EarlyErrors.{MeetsEarlyRules}
 use Rattle.js_parser.specs.FlagScans.{has_both}
 use Rattle.js_parser.specs.declared.early.Position.{Position}
@@ -35,6 +37,7 @@ asked text p us = not (in_template p) || parts_cooked text us
 
 record Meets (text : List ℕ) (p : Position) (us : Slots) : Type 0 where
   flags : everywhere (not_u_and_v text) us ≡ true
+  names : everywhere (names_right text) us ≡ true
   cooked : cooked_at text (place_of p) us ≡ true
   parts : asked text p us ≡ true
 
@@ -72,7 +75,7 @@ or_some : (b : Bool) (k : DiagnosticKind) (s : PlacedSpan) → b ≡ true → to
 or_some true k s e = refl
 or_some false k s e = absurd (false≢true e)
 
--- what is told of a node itself
+-- what is told of a node by its text
 abbrev own : List ℕ → Position → Label → List Diagnostic
 own text p l = told_rule (broken_rule p l.kind (characters_at text l)) (placed l.span)
 
@@ -105,37 +108,73 @@ none_asked text p = refl
 -- ---- both ways
 
 meets : (text : List ℕ) (p : Position) (us : Slots) → told_in text p us ≡ [] → Meets text p us
-meets text p end e = record { flags = refl; cooked = refl; parts = none_asked text p }
-meets text p (hole us) e = let x = meets text p us e in record { flags = x.flags; cooked = x.cooked; parts = x.parts }
+meets text p end e = record { flags = refl; names = refl; cooked = refl; parts = none_asked text p }
+meets text p (hole us) e = let x = meets text p us e in record { flags = x.flags; names = x.names; cooked = x.cooked; parts = x.parts }
 meets text p (tree l cs us) e =
-    let first = own text p l in
+    let first = told_here text p l cs in
     let inner = told_in text (within p l.kind) cs in
     let behind = told_in text (past p) us in
     let others = ending first (inner ++ behind) e in
-    let none = first_empty first (inner ++ behind) e in
+    let here = first_empty first (inner ++ behind) e in
+    let none = first_empty (own text p l) (told_fault (name_fault text l cs)) here in
+    let right = right_if_none text l cs (ending (own text p l) (told_fault (name_fault text l cs)) here) in
     let x = meets text (within p l.kind) cs (first_empty inner behind others) in
     let y = meets text (past p) us (ending inner behind others) in
     record {
       flags = and_from _ _ (flags_right text p l.kind l.op l.flags l.span cs none) (and_from _ _ x.flags y.flags);
+      names = and_from _ _ right (and_from _ _ x.names y.names);
       cooked = at_node text p l.kind l.op l.flags l.span cs us ∙ and_from _ _ x.parts (and_from _ _ x.cooked y.cooked);
       parts = part_right text p l.kind l.op l.flags l.span cs us none (asked_past text p us y.parts);
     }
 
 nothing : (text : List ℕ) (p : Position) (us : Slots) → Meets text p us → told_in text p us ≡ []
 nothing text p end m = refl
-nothing text p (hole us) m = nothing text p us (record { flags = m.flags; cooked = m.cooked; parts = m.parts })
+nothing text p (hole us) m = nothing text p us (record { flags = m.flags; names = m.names; cooked = m.cooked; parts = m.parts })
 nothing text p (tree l cs us) m =
     let f = and_parts (not_u_and_v text l cs) _ m.flags in
     let g = and_parts (everywhere (not_u_and_v text) cs) _ f.1 in
+    let v = and_parts (names_right text l cs) _ m.names in
+    let w = and_parts (everywhere (names_right text) cs) _ v.1 in
     let c = and_parts (asked text (within p l.kind) cs) _ (sym (at_node text p l.kind l.op l.flags l.span cs us) ∙ m.cooked) in
     let d = and_parts (cooked_at text (place_of (within p l.kind)) cs) _ c.1 in
     let none = none_own text p l.kind l.op l.flags l.span cs us f.0 m.parts in
-    let x = nothing text (within p l.kind) cs (record { flags = g.0; cooked = d.0; parts = c.0 }) in
-    let y = nothing text (past p) us (record { flags = g.1; cooked = d.1; parts = asked_behind text p l cs us m.parts }) in
-    λ i. none i ++ (x i ++ y i)
+    let unnamed = none_if_right text l cs v.0 in
+    let x = nothing text (within p l.kind) cs (record { flags = g.0; names = w.0; cooked = d.0; parts = c.0 }) in
+    let y = nothing text (past p) us (record { flags = g.1; names = w.1; cooked = d.1; parts = asked_behind text p l cs us m.parts }) in
+    λ i. (none i ++ unnamed i) ++ (x i ++ y i)
+
+-- two rules are one
+both_each : (q r : Rule) (us : Slots) → everywhere q us ≡ true → everywhere r us ≡ true → everywhere (λ l cs. q l cs && r l cs) us ≡ true
+both_each q r end a b = refl
+both_each q r (hole us) a b = both_each q r us a b
+both_each q r (tree l cs us) a b =
+    let c = and_parts (q l cs) _ a in
+    let d = and_parts (everywhere q cs) _ c.1 in
+    let e = and_parts (r l cs) _ b in
+    let f = and_parts (everywhere r cs) _ e.1 in
+    and_from _ _ (and_from _ _ c.0 e.0) (and_from _ _ (both_each q r cs d.0 f.0) (both_each q r us d.1 f.1))
 
 pub none_broken : (text : List ℕ) (t : Tree) → told_in text Anywhere (tree t.label t.slots end) ≡ [] → MeetsEarlyRules text t
-none_broken text t e = let x = meets text Anywhere (tree t.label t.slots end) e in record { not_u_and_v = x.flags; cooked = x.cooked }
+none_broken text t e =
+    let us = tree t.label t.slots end in
+    let x = meets text Anywhere us e in
+    record {
+      not_u_and_v = x.flags;
+      cooked = x.cooked;
+      no_private_constructor = each_so (names_right text) (no_private_constructor text) (λ l cs r. (and_parts (no_private_constructor text l cs) _ r).0) us x.names;
+      no_static_prototype = each_so (names_right text) (no_static_prototype text) (λ l cs r. (and_parts (no_static_prototype text l cs) _ (and_parts (no_private_constructor text l cs) _ r).1).0) us x.names;
+      no_field_constructor = each_so (names_right text) (no_field_constructor text) (λ l cs r. (and_parts (no_field_constructor text l cs) _ (and_parts (no_static_prototype text l cs) _ (and_parts (no_private_constructor text l cs) _ r).1).1).0) us x.names;
+      plain_constructor = each_so (names_right text) (plain_constructor text) (λ l cs r. (and_parts (no_field_constructor text l cs) _ (and_parts (no_static_prototype text l cs) _ (and_parts (no_private_constructor text l cs) _ r).1).1).1) us x.names;
+    }
 
 pub nothing_told : (text : List ℕ) (t : Tree) → MeetsEarlyRules text t → told_in text Anywhere (tree t.label t.slots end) ≡ []
-nothing_told text t m = nothing text Anywhere (tree t.label t.slots end) (record { flags = m.not_u_and_v; cooked = m.cooked; parts = refl })
+nothing_told text t m =
+    let us = tree t.label t.slots end in
+    let a : Rule = λ l cs. no_field_constructor text l cs && plain_constructor text l cs in
+    let b : Rule = λ l cs. no_static_prototype text l cs && a l cs in
+    nothing text Anywhere us (record {
+      flags = m.not_u_and_v;
+      names = both_each (no_private_constructor text) b us m.no_private_constructor (both_each (no_static_prototype text) a us m.no_static_prototype (both_each (no_field_constructor text) (plain_constructor text) us m.no_field_constructor m.plain_constructor));
+      cooked = m.cooked;
+      parts = refl;
+    })

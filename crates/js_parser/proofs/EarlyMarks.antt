@@ -1,5 +1,5 @@
--- A regular expression in a tree stands where a lexeme does, and a template's part between the delimiters of one; so what is told of them has its mark.
-use Rattle.std.proofs.Common.{ℕ, ◌≡◌, Bool, true, false, not, cond, ◌||◌, List, [], ◌++◌, Some, None, nat_eq, ◌&&◌, ◌≤◌, ◌+◌, ◌-◌, arith, refl, sym, ap, subst, ◌∙◌}
+-- A regular expression in a tree stands where a lexeme does, and so does a name of a member; a template's part stands between the delimiters of one. So what is told of them has its mark.
+use Rattle.std.proofs.Common.{ℕ, ◌≡◌, Bool, true, false, not, cond, ◌||◌, List, [], ◌++◌, Option, Some, None, nat_eq, ◌&&◌, ◌≤◌, ◌+◌, ◌-◌, arith, refl, sym, ap, subst, ◌∙◌}
 use Rattle.std.specs.List.{All}
 use Rattle.std.specs.Prelude.{is_some, IsTrue}
 use Rattle.std.proofs.lemmas.Bool.{false≢true, not-true, and_parts, eqb-true}
@@ -7,8 +7,8 @@ use Rattle.std.proofs.lemmas.List.Elements.{All-nil, All-cons, All-append}
 use Rattle.js_base.specs.part_text.Decoding.{cooked}
 use Rattle.js_base.specs.Spans.{LiesIn}
 use Rattle.js_base.specs.declared.diagnostic.DiagnosticKind.{DiagnosticKind}
-use Rattle.js_base.specs.declared.diagnostic.DiagnosticKind.TheVariants.{RegExpFlagUAndV, TemplateLiteral}
-use Rattle.js_grammar.specs.Trees.{NodeKind, reg_exp_literal, template_element, function_expression, arrow_function_expression, Label, Op, Span, Slots, end, hole, tree, Tree, append}
+use Rattle.js_base.specs.declared.diagnostic.DiagnosticKind.TheVariants.{RegExpFlagUAndV, TemplateLiteral, PrivateNameConstructor, StaticPrototype, FieldConstructor, ConstructorAccessor, ConstructorGetterSetter, ConstructorAsync, ConstructorGenerator}
+use Rattle.js_grammar.specs.Trees.{NodeKind, reg_exp_literal, template_element, identifier_name, string_literal, private_identifier, function_expression, arrow_function_expression, Label, Op, Span, Slots, end, hole, tree, Tree, append}
 use Rattle.js_grammar.specs.Grammar.{Look, seen, Extent, exact, inside, whole_text, Make, Lexeme, Lexemes, next, lexeme, ahead, seq, alt, when, many, commas, marked, node, ended, keep, span_of, label_of, commas_once, Takes, Derives, is_nothing, is_lexeme, is_look, is_text, is_ahead, is_empty_slot, is_seq, is_left, is_right, is_when, is_many, is_commas, is_such, is_marked, is_node, is_ended, is_keep, is_kept, nothing, never, look, text, empty_slot, such, kept}
 use Rattle.js_grammar.specs.Lexed.{Lexes}
 use Rattle.js_grammar.specs.Productions.{G, Flags, Name, Symbol, at, with_pife, Program}
@@ -22,7 +22,8 @@ use Rattle.js_grammar.proofs.CoverInitialisers.{Led, line_marked}
 use Rattle.js_grammar.proofs.Renamed.{remarked, first_of, second_of, mark_of}
 use Rattle.js_grammar.proofs.Finding.{holds_if}
 use Rattle.js_tree.specs.Covering.{placed}
-use Rattle.js_parser.specs.Broken.{past, within as inner, broken_rule, told_rule, told_in}
+use Rattle.js_parser.specs.Broken.{past, within as inner, broken_rule, told_rule, told_here, told_in, fault_at, name_fault, told_fault}
+use Rattle.js_parser.proofs.MemberNames.{each_told_at, is_name_kind, unnamed}
 use Rattle.js_parser.specs.FlagScans.{has_both}
 use Rattle.js_parser.specs.NodeSpans.{SlotsLie}
 use Rattle.js_core.specs.laws_shared.Told.{unrelated_at}
@@ -32,7 +33,17 @@ use Rattle.js_parser.specs.declared.early.Position.TheVariants.{Anywhere, InTemp
 abbrev is_lexical : NodeKind → Bool
 is_lexical reg_exp_literal = true
 is_lexical template_element = true
+is_lexical identifier_name = true
+is_lexical string_literal = true
+is_lexical private_identifier = true
 is_lexical _ = false
+
+-- names of members are among them
+name_lexical : (k : NodeKind) → is_lexical k ≡ false → is_name_kind k ≡ false
+name_lexical identifier_name e = e
+name_lexical string_literal e = e
+name_lexical private_identifier e = e
+name_lexical k e = refl
 
 -- a template part, with as much at its end as its delimiter takes
 abbrev is_part_less : ℕ → Look
@@ -197,12 +208,24 @@ module _ (goal : Goal) (text : List ℕ) where
   own_marked InTemplate template_element w s e h = marked_unless (is_some (cooked w)) TemplateLiteral s (mark_of_one TemplateLiteral s (λ x. (x, (refl, refl))) (e refl) h)
   own_marked p k w s e h = All-nil (Mark goal text)
 
+  name_marked : (l : Label) (cs : Slots) → Each Edged cs → SlotsLie text cs → All (Mark goal text) (told_fault (name_fault text l cs))
+  name_marked l end e h = All-nil (Mark goal text)
+  name_marked l (hole us) e h = All-nil (Mark goal text)
+  name_marked l (tree k ks us) e h = go (is_lexical k.kind) refl
+    where
+      one : (d : DiagnosticKind) → (EdgeOf goal text k.span.from × EdgeOf goal text k.span.to → StandsAt d goal text (placed k.span) None None) → Edged k.span → Mark goal text (unrelated_at d (placed k.span))
+      one d f x = mark_of_one d k.span f x h.0
+
+      go : (b : Bool) → is_lexical k.kind ≡ b → All (Mark goal text) (told_fault (name_fault text l (tree k ks us)))
+      go true q = let x = e.0 q in each_told_at (Mark goal text) (placed k.span) (one PrivateNameConstructor (λ y. (y, (refl, refl))) x) (one StaticPrototype (λ y. (y, (refl, refl))) x) (one FieldConstructor (λ y. (y, (refl, refl))) x) (one ConstructorAccessor (λ y. (y, (refl, refl))) x) (one ConstructorGetterSetter (λ y. (y, (refl, refl))) x) (one ConstructorAsync (λ y. (y, (refl, refl))) x) (one ConstructorGenerator (λ y. (y, (refl, refl))) x) text l (tree k ks us)
+      go false q = subst (λ (r : Option DiagnosticKind). All (Mark goal text) (told_fault (fault_at r (placed k.span)))) (sym (unnamed text l k ks us (name_lexical k.kind q))) (All-nil (Mark goal text))
+
   all_marked : (p : Position) (us : Slots) → Each Edged us → SlotsLie text us → All (Mark goal text) (told_in text p us)
   all_marked p end e h = All-nil (Mark goal text)
   all_marked p (hole us) e h = all_marked p us e h
   all_marked p (tree l cs us) e h =
-      All-append (Mark goal text) (told_rule (broken_rule p l.kind (characters_at text l)) (placed l.span)) (told_in text (inner p l.kind) cs ++ told_in text (past p) us)
-      (own_marked p l.kind (characters_at text l) l.span e.0 h.0)
+      All-append (Mark goal text) (told_here text p l cs) (told_in text (inner p l.kind) cs ++ told_in text (past p) us)
+      (All-append (Mark goal text) (told_rule (broken_rule p l.kind (characters_at text l)) (placed l.span)) (told_fault (name_fault text l cs)) (own_marked p l.kind (characters_at text l) l.span e.0 h.0) (name_marked l cs e.1.0 h.1))
       (All-append (Mark goal text) (told_in text (inner p l.kind) cs) (told_in text (past p) us) (all_marked (inner p l.kind) cs e.1.0 h.1) (all_marked (past p) us e.1.1 h.2))
 
   pub told_marked : (f : Flags) (t : Tree) {i j : ℕ} {ls rest : Lexemes} → Lexes (Led text) i ls → Derives rule (at Program f) t i ls j rest → SlotsLie text t.slots → All (Mark goal text) (told_in text Anywhere t.slots)

@@ -1,5 +1,5 @@
 -- From what the cover grammar derives to readings: where no shorthand has an initialiser (ECMA-262, 13.2.5.1), and no early rule is broken.
-use Rattle.std.proofs.Common.{Bool, ℕ, ◌≡◌, inl, List, [], ◌∷◌, ◌++◌, map, cond, append-nil, true, false, refl, sym, subst}
+use Rattle.std.proofs.Common.{Bool, ℕ, ◌≡◌, ◌∙◌, ap, Option, inl, List, [], ◌∷◌, ◌++◌, map, cond, append-nil, true, false, refl, sym, subst}
 use Rattle.std.specs.List.{All}
 use Rattle.std.specs.Prelude.{None, Some, is_some}
 use Rattle.std.proofs.lemmas.List.Elements.{All-nil, All-cons, All-head, All-tail, All-append, All-map, All-weaker}
@@ -32,7 +32,8 @@ use Rattle.js_core.specs.laws_shared.Told.{unrelated_at}
 use Rattle.js_core.proofs.laws_shared.Kept.{faults_aside}
 use Rattle.js_core.proofs.laws_shared.Verdicts.{ending}
 use Rattle.js_core.specs.Kept.{IsKeptOf}
-use Rattle.js_parser.specs.Broken.{past, within, broken_rule, told_rule, told_in}
+use Rattle.js_parser.specs.Broken.{past, within, broken_rule, told_rule, told_here, told_in, name_fault, told_fault}
+use Rattle.js_parser.proofs.MemberNames.{each_told, no_member}
 use Rattle.js_parser.specs.FlagScans.{has_both}
 use Rattle.js_parser.specs.declared.early.Position.{Position}
 use Rattle.js_parser.specs.declared.early.Position.TheVariants.{Anywhere, InTemplate}
@@ -115,7 +116,7 @@ pub in_program : (t : Tree) → t.label.kind ≡ program → initialised_in (tre
 in_program t k = rw k (append-nil (initialised_in t.slots))
 
 pub told_in_program : (text : List ℕ) (s : Span) (cs : Slots) → told_in text Anywhere (tree (program_tree s cs).label cs end) ≡ told_in text Anywhere cs
-told_in_program text s cs = append-nil (told_in text Anywhere cs)
+told_in_program text s cs = ap (λ (v : Option Diagnostic). told_fault v ++ (told_in text Anywhere cs ++ [])) (no_member text (program_tree s cs).label cs refl) ∙ append-nil (told_in text Anywhere cs)
 
 -- what is told of the shorthands has its mark
 module _ (goal : Goal) (text : List ℕ) where
@@ -146,8 +147,8 @@ pub all_early : (text : List ℕ) (p : Position) (us : Slots) → All IsEarly (t
 all_early text p end = All-nil IsEarly
 all_early text p (hole us) = all_early text p us
 all_early text p (tree l cs us) =
-    All-append IsEarly (told_rule (broken_rule p l.kind (characters_at text l)) (made l.span)) (told_in text (within p l.kind) cs ++ told_in text (past p) us)
-    (rule_early p l.kind (characters_at text l) (made l.span))
+    All-append IsEarly (told_here text p l cs) (told_in text (within p l.kind) cs ++ told_in text (past p) us)
+    (All-append IsEarly (told_rule (broken_rule p l.kind (characters_at text l)) (made l.span)) (told_fault (name_fault text l cs)) (rule_early p l.kind (characters_at text l) (made l.span)) (each_told IsEarly (λ s. refl) (λ s. refl) (λ s. refl) (λ s. refl) (λ s. refl) (λ s. refl) (λ s. refl) text l cs))
     (All-append IsEarly (told_in text (within p l.kind) cs) (told_in text (past p) us) (all_early text (within p l.kind) cs) (all_early text (past p) us))
 
 told_early : (kind : DiagnosticKind) → class_of kind ≡ Early → (spans : List Span) → All IsEarly (told_at kind spans)

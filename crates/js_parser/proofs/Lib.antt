@@ -5,6 +5,9 @@ pub mod CoreTexts
 pub mod FlagScans
 pub mod Broken
 pub mod Cooked
+pub mod KeyNames
+pub mod MemberNames
+mod NameExamples
 pub mod EarlyErrors
 pub mod EarlyMarks
 pub mod Leftovers

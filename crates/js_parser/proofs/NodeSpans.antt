@@ -1,13 +1,12 @@
 -- Where nodes stand in a text, and where those of the tree that they stand for.
 use Rattle.std.proofs.Common.{ℕ, List, Option, drop}
-use Rattle.std.proofs.lemmas.List.Elements.{All-cons, All-drop, All-get_or, All-weaker}
+use Rattle.std.proofs.lemmas.List.Elements.{All-cons, All-drop, All-get_or}
 use Rattle.js_base.specs.Spans.{LiesIn}
 use Rattle.js_grammar.specs.Trees.{Label, Slots}
 use Rattle.js_tree.specs.declared.id.NodeId.{NodeId}
 use Rattle.js_tree.specs.Nodes.{Node, empty_program}
 use Rattle.js_tree.specs.Holding.{Stands, stands, StandsAll, no_slots, next_child, next_hole, with_program}
 use Rattle.std.specs.Prelude.{chars}
-use Rattle.std.specs.List.{All}
 use Rattle.js_tree.specs.Sources.{text_of}
 use Rattle.js_core.specs.laws_shared.NodeTexts.{NodeFits, Texted}
 use Rattle.js_core.specs.laws_shared.States.{NodesLie}
@@ -25,7 +24,3 @@ mutual
 -- with Program's node
 pub program_lie : {text : List ℕ} (n : Node) → Texted n.kind n.name (chars (text_of n text)) → (ns : List Node) → LiesIn n.span text → NodesLie text ns → NodesLie text (with_program n ns)
 program_lie {text} n x ns s h = All-cons (NodeFits text) n (drop 1 ns) (record { lies = s; texted = x }) (All-drop (NodeFits text) 1 ns h)
-
--- all of them lie in the text
-pub spans_lie : (text : List ℕ) (ns : List Node) → NodesLie text ns → All (λ (n : Node). LiesIn n.span text) ns
-spans_lie text ns h = All-weaker (NodeFits text) (λ (n : Node). LiesIn n.span text) (λ n k. k.lies) ns h

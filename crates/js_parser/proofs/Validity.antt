@@ -29,7 +29,7 @@ use Rattle.js_core.specs.laws_shared.Lexemes.{Faultless, is_read}
 use Rattle.js_parser.specs.Language.{is_built, AllBuilt, AreBuilt, ReadingsAreValid}
 use Rattle.js_grammar.specs.BuiltTexts as built
 use Rattle.js_core.specs.Readings.{parameters, AreRead, Reading, from_text_start, behind_a_hashbang}
-use Rattle.js_parser.proofs.BuiltTrees.{derived_fine, early_fine, record_fine, pure_fine, flags_without, cooked_without}
+use Rattle.js_parser.proofs.BuiltTrees.{derived_fine, early_fine, record_fine, pure_fine, rules_without}
 use Rattle.js_parser.proofs.CoreTexts.{plainly}
 use Rattle.js_core.proofs.Fronts.{kind_of_hashbang}
 
@@ -119,7 +119,7 @@ module _ {text : List ℕ} (goal : Goal) (o : Options) where
           final = d.final;
           derived = subst (λ (v : Tree). Derives whole (at Program (parameters goal o)) v 0 d.lexemes d.place (last d.final)) (sym (pure_fine t h)) (in_whole (at Program (parameters goal o)) t d.derived);
         };
-        early = early_fine text t h r.early.not_u_and_v r.early.cooked;
+        early = early_fine text t h r.early;
         exports = differ_by_record text t (record_fine text t h);
       }
 
@@ -136,7 +136,7 @@ module _ {text : List ℕ} (goal : Goal) (o : Options) where
           is_end = sym (kind_of_same Eof d.final.kind (ends_behind (at Program (parameters goal o)) (without_pure t) b d.lexed.ends));
           derived = b;
         };
-        early = record { not_u_and_v = flags_without text t w.early.not_u_and_v; cooked = cooked_without text t w.early.templates_cooked };
+        early = rules_without text t w.early;
       }
 
 pub readings_are_valid : ReadingsAreValid

@@ -1,5 +1,6 @@
 pub mod FlagScans
 pub mod Broken
+pub mod MemberNodes
 pub mod Parsed
 pub mod NodeSpans
 pub mod CoreAnswers

@@ -1,9 +1,7 @@
 //! Early rules (ECMA-262, section 5.2.7) that a tree is looked through for, since the grammar doesn't have them.
 
 ghost use Rattle.std.specs.Prelude.{◌≡◌, ◌<◌, ◌≤◌, ◌++◌, ℕ, List, chars, is_some, length, true, false, None, IfOk, OnOk};
-ghost use Rattle.std.specs.List.{All};
 ghost use Rattle.js_base.specs.part_text.Decoding.{cooked};
-ghost use Rattle.js_base.specs.Spans.{LiesIn};
 ghost use Rattle.js_grammar.specs.Names as names;
 ghost use Rattle.js_grammar.specs.Trees.{Tree as SeenTree};
 ghost use Rattle.js_tree.specs.Holding.{IsTree};
@@ -13,9 +11,13 @@ ghost use Rattle.js_tree.specs.Sources.{text_of};
 ghost use Rattle.js_parser.specs.declared.early.Position.{Position as Standing};
 ghost use Rattle.js_parser.specs.declared.early.Position.TheVariants.{Anywhere, InTemplate};
 ghost use Rattle.js_parser.specs.Broken as broken;
-ghost use Rattle.js_parser.specs.Broken.{past, within, rule_at, told_of, told_in, pending, pending_within, pending_alike, first_end};
+ghost use Rattle.js_parser.specs.Broken.{past, within, rule_at, breaks, name_fault_at, told_of, told_fault, told_in, told_rule, pending, pending_within, pending_alike, first_end};
+ghost use Rattle.js_grammar.specs.EarlyRules.{is_member};
+ghost use Rattle.js_core.specs.laws_shared.NodeTexts.{NodeFits};
+ghost use Rattle.js_core.specs.laws_shared.States.{NodesLie};
 
 use crate::flags::has_u_and_v;
+use crate::member_names::{is_member, name_fault};
 use js_base::{Diagnostic, DiagnosticKind, Diagnostics, NoMemory};
 use js_tree::{NodeId, NodeKind, Tree};
 use std::alloc::Global;
@@ -67,10 +69,11 @@ struct Pending {
 }
 
 /// A diagnostic for each node of the tree that breaks a rule, in its order: a regular expression with the flags `u` and
-/// `v`, both (section 22.2.3.4), and a part without a cooked text of a template that isn't tagged (sections 13.2.8.1 and
-/// 12.9.6.2). The only error is want of memory.
+/// `v`, both (section 22.2.3.4), a part without a cooked text of a template that isn't tagged (sections 13.2.8.1 and
+/// 12.9.6.2), and a member of a class that may not be named as it is (section 15.7.1), which is told at its key. The only
+/// error is want of memory.
 pub fn early_errors(alloc: Global, tree: &Tree, source: &str) -> Result<Diagnostics, NoMemory>
-    requires { All (λ n. LiesIn n.span source.now) tree.now }
+    requires { NodesLie source.now tree.now }
     ensures { IfOk result (λ told. (t : SeenTree) → IsTree tree.now t → told ≡ told_in source.now Anywhere t.slots) }
 {
     let mut told = Diagnostics::new(alloc);
@@ -93,9 +96,9 @@ pub fn early_errors(alloc: Global, tree: &Tree, source: &str) -> Result<Diagnost
 
 /// Whether any node breaks a rule where most is asked, in the tree or not. A walk of the tree is due only then.
 fn has_suspect(alloc: Global, tree: &Tree, source: &str) -> Result<bool, NoMemory>
-    requires { All (λ n. LiesIn n.span source.now) tree.now }
+    requires { NodesLie source.now tree.now }
     ensures some { IfOk result (λ found. found ≡ true → 0 < length tree.now) }
-    ensures none { IfOk result (λ found. found ≡ false → (id : NodeId) → id.0 < length tree.now → rule_at source.now tree.now id InTemplate ≡ None) }
+    ensures none { IfOk result (λ found. found ≡ false → (id : NodeId) → id.0 < length tree.now → breaks source.now tree.now id ≡ false) }
 {
     for i in 0..tree.kinds().len() {
         if breaks_in_template(alloc, tree, NodeId(i), source)? {
@@ -114,22 +117,27 @@ fn breaks_in_template(
     source: &str,
 ) -> Result<bool, NoMemory>
     requires contained { id.0 < length tree.now }
-    requires lies { LiesIn (node_at tree.now id).span source.now }
-    ensures { IfOk result (λ found. found ≡ is_some (rule_at source.now tree.now id InTemplate)) }
+    requires fit { NodesLie source.now tree.now }
+    ensures { IfOk result (λ found. found ≡ breaks source.now tree.now id) }
 {
     if !may_break(tree.kind(id)) {
         return Ok(false);
     }
     let rule = broken_rule(alloc, tree, id, Position::InTemplate, source)?;
-    Ok(rule.is_some())
+    if rule.is_some() {
+        return Ok(true);
+    }
+    let fault = name_fault(alloc, tree, id, source)?;
+    Ok(fault.is_some())
 }
 
-/// Whether a node of this kind breaks a rule, by what its text is and where it stands.
+/// Whether a node of this kind breaks a rule, by what its text is and where it stands, or by its name.
 #[inline(always)]
 fn may_break(kind: NodeKind) -> bool
-    ensures { result ≡ false → (p : Standing) (w : List ℕ) → broken.broken_rule p (kind_of kind) w ≡ None }
+    ensures rule { result ≡ false → (p : Standing) (w : List ℕ) → broken.broken_rule p (kind_of kind) w ≡ None }
+    ensures name { result ≡ false → is_member (kind_of kind) ≡ false }
 {
-    matches!(kind, NodeKind::RegExpLiteral | NodeKind::TemplateElement)
+    matches!(kind, NodeKind::RegExpLiteral | NodeKind::TemplateElement) || is_member(kind)
 }
 
 /// The rule that the node breaks, standing at the position.
@@ -142,7 +150,7 @@ fn broken_rule(
     source: &str,
 ) -> Result<Option<DiagnosticKind>, NoMemory>
     requires contained { id.0 < length tree.now }
-    requires lies { LiesIn (node_at tree.now id).span source.now }
+    requires fits { NodeFits source.now (node_at tree.now id) }
     ensures { IfOk result (λ kind. kind ≡ rule_at source.now tree.now id position) }
 {
     match (tree.kind(id), position) {
@@ -160,7 +168,7 @@ fn broken_rule(
 /// Whether the part of a template has a cooked text (section 12.9.6.1), as it does where no backslash stands in it.
 fn has_cooked(alloc: Global, tree: &Tree, id: NodeId, source: &str) -> Result<bool, NoMemory>
     requires contained { id.0 < length tree.now }
-    requires lies { LiesIn (node_at tree.now id).span source.now }
+    requires fits { NodeFits source.now (node_at tree.now id) }
     ensures { IfOk result (λ has. has ≡ is_some (cooked (chars (text_of (node_at tree.now id) source.now)))) }
 {
     if !has_backslash(tree.text(id, source)) {
@@ -171,7 +179,7 @@ fn has_cooked(alloc: Global, tree: &Tree, id: NodeId, source: &str) -> Result<bo
 }
 
 /// Whether a backslash stands in a text.
-fn has_backslash(text: &str) -> bool
+pub fn has_backslash(text: &str) -> bool
     ensures { result ≡ names.has_backslash (chars text.now) }
 {
     for c in text.chars() {
@@ -190,12 +198,28 @@ fn tell(
     node: Pending,
     source: &str,
 ) -> Result<(), NoMemory>
-    requires { All (λ n. LiesIn n.span source.now) tree.now }
+    requires { NodesLie source.now tree.now }
     ensures { OnOk result (told.new ≡ told.old ++ told_of source.now tree.now node) }
 {
     if !tree.contains(node.id) {
         return Ok(());
     }
+    tell_rule(told, alloc, tree, node, source)?;
+    tell_name(told, alloc, tree, node.id, source)
+}
+
+/// Tells that it breaks one by what its text is and where it stands.
+fn tell_rule(
+    told: &mut Diagnostics,
+    alloc: Global,
+    tree: &Tree,
+    node: Pending,
+    source: &str,
+) -> Result<(), NoMemory>
+    requires contained { node.id.0 < length tree.now }
+    requires fits { NodeFits source.now (node_at tree.now node.id) }
+    ensures { OnOk result (told.new ≡ told.old ++ told_rule (rule_at source.now tree.now node.id node.position) (node_at tree.now node.id).span) }
+{
     let Some(kind) = broken_rule(alloc, tree, node.id, node.position, source)? else {
         return Ok(());
     };
@@ -205,6 +229,24 @@ fn tell(
         first: None,
         second: None,
     })
+}
+
+/// Tells that it breaks one by its name.
+fn tell_name(
+    told: &mut Diagnostics,
+    alloc: Global,
+    tree: &Tree,
+    id: NodeId,
+    source: &str,
+) -> Result<(), NoMemory>
+    requires contained { id.0 < length tree.now }
+    requires fit { NodesLie source.now tree.now }
+    ensures { OnOk result (told.new ≡ told.old ++ told_fault (name_fault_at source.now tree.now id)) }
+{
+    let Some(fault) = name_fault(alloc, tree, id, source)? else {
+        return Ok(());
+    };
+    told.push(fault)
 }
 
 /// Puts the children of the node on the stack, the first on top; a child's number lies below its node's.

@@ -4,8 +4,8 @@ ghost use Rattle.js_parser.specs.Language.{ReadingsAreValid};
 ghost use Rattle.js_parser.specs.SameSource.{ReadingsHaveSources};
 
 /// A reading, which is by the productions that are built, is valid for the text by all productions of the language and
-/// all early rules. Where no lexeme of the text is a private name or begins a production that isn't built, which
-/// `class`, `import`, `export` and `@` do, each valid tree is a reading, but for the mark `pure` on its nodes.
+/// all early rules. Where no lexeme of the text begins a production that isn't built, which `import`, `export` and `@` do,
+/// each valid tree is a reading, but for the mark `pure` on its nodes.
 pub fn law_of_readings()
     ensures { ReadingsAreValid }
 {}

@@ -5,6 +5,7 @@ mod answer;
 mod early;
 mod flags;
 pub mod laws;
+mod member_names;
 mod parser;
 
 pub use answer::{ParserReturn, Program};

@@ -1,3 +1,4 @@
+pub mod ClassBodies
 pub mod ConstructorNames
 pub mod Elements
 pub mod Fields
@@ -15,4 +16,6 @@ pub mod SpecialMethods
 pub mod NameTests
 pub mod Members
 pub mod Methods
+pub mod ClassElements
+pub mod StaticBlocks
 pub use Rattle.laws_primary.proofs as laws_primary

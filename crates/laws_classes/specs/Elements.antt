@@ -7,7 +7,7 @@ use Rattle.js_base.specs.Kinds.{one_of_kinds}
 use Rattle.js_grammar.specs.Trees.{Label, Slots, end, tree}
 use Rattle.js_grammar.specs.Grammar.{Lexemes, keep, kept, many, nothing, ◌▸◌}
 use Rattle.js_grammar.specs.Parsing.{Test, plain, Fails}
-use Rattle.js_grammar.specs.Productions.{G, Flags, computed_flag, flag, only, static_flag, tok, Decorator}
+use Rattle.js_grammar.specs.Productions.{G, Flags, computed_flag, flag, only, static_flag, tok, Decorator, Element}
 use Rattle.js_grammar.specs.Productions.{sym as symbol}
 use Rattle.js_grammar.specs.Table.{rule}
 use Rattle.laws_primary.specs.js_tree.declared.id.NodeId.{NodeId}
@@ -67,3 +67,7 @@ pub record ElementTaken (text : List ℕ) (f : Flags) (g : G) (p q : Parser) (id
 abbrev pub ElementOutcome : List ℕ → Flags → G → Parser → Parser → Result NodeId Stop → Type 0
 ElementOutcome text f g p q (Ok id) = ElementTaken text f g p q id
 ElementOutcome text f g p q (Err e) = Stops p q e (NoElement text g p.prev_token_end)
+
+-- the answer of the parse function of an element
+abbrev pub ReadsElement : Parser → Parser → Result NodeId Stop → Type 0
+ReadsElement old new r = (text : List ℕ) (f : Flags) → At text f old → ElementOutcome text f (symbol Element f) old new r

@@ -79,7 +79,7 @@ module _ {text : List ℕ} {f : Flags} {g g' : G} {p q : Parser} {ids js : List 
     keeps = subst (λ (ns : List Node). Keeps p.nodes ns) (sym n) x.keeps;
   }
 
-  part_hole : {g'' : G} → Goes rule (Lex text) (plain full) end g' q.prev_token_end g'' q.prev_token_end hole (still 0) → Partway text f g g'' p q ids (js ++ None ∷ [])
+  pub part_hole : {g'' : G} → Goes rule (Lex text) (plain full) end g' q.prev_token_end g'' q.prev_token_end hole (still 0) → Partway text f g g'' p q ids (js ++ None ∷ [])
   part_hole c = hole_behind x.at same_itself refl refl refl (verdict_of x.verdict (λ y. record { reach = max y.reach 0; near = let i = y.near in omega arith; goes = y.goes ▹ c }) (λ n. n))
 
 -- the last one that was called
@@ -102,7 +102,7 @@ last_part {n = n} {id = id} ids x c =
 -- ---- the name
 
 -- a name that is bound, by other parameters than those at its place
-name_numbered : {text : List ℕ} {f g : Flags} {p q : Parser} {id : NodeId} → At text f p → NameUnder g.yield_ g.await_ p true → LeafTaken node.BindingIdentifier op.None text f p q id → Numbered text f (at BindingIdentifier g) p q id
+pub name_numbered : {text : List ℕ} {f g : Flags} {p q : Parser} {id : NodeId} → At text f p → NameUnder g.yield_ g.await_ p true → LeafTaken node.BindingIdentifier op.None text f p q id → Numbered text f (at BindingIdentifier g) p q id
 unfolding rule rule_of
 name_numbered {text} {f} {g} {p} {q} {id} a h t =
     let l : plain_label node.BindingIdentifier op.None p.token.span ≡ label_here binding_identifier no_op p t.mid = ap (λ (v : ℕ). record { kind = binding_identifier; op = no_op; flags = 0; span = record { from = p.token.span.start; to = v } }) (t.moved.tells.end ∙ t.moved.ends) in
@@ -121,7 +121,7 @@ opens_surely = record { admits = λ ts y h. (h, refl) }
 
 module _ {text : List ℕ} {f : Flags} {r : Parser} (b : At text f r) where
   -- where no name stands
-  no_name_part : {X : Test} (g : Flags) → NameUnder g.yield_ g.await_ r false → Fails rule (Lex text) X end (symbol BindingIdentifier g) r.prev_token_end
+  pub no_name_part : {X : Test} (g : Flags) → NameUnder g.yield_ g.await_ r false → Fails rule (Lex text) X end (symbol BindingIdentifier g) r.prev_token_end
   unfolding covers apart
   no_name_part {X} g n = fails_unnamed b g (λ g. symbol BindingIdentifier g) [] refl refl refl refl refl n refl
 

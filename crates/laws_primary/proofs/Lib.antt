@@ -2,6 +2,9 @@ pub mod ArgumentLists
 pub mod Arrays
 pub mod AsyncMethods
 pub mod AsyncWords
+pub mod ClassOperands
+pub mod Classes
+pub mod Decorators
 pub mod FlagFaults
 pub mod Functions
 pub mod Intrinsics

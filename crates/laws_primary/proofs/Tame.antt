@@ -3,7 +3,7 @@ use Rattle.std.proofs.Common.{ℕ, ◌≡◌, ◌<◌, nat_lt, Bool, true, false
 use Rattle.std.proofs.lemmas.Bool.{false≢true, and_parts, ltb-true}
 use Rattle.js_grammar.specs.Trees.{NodeKind, Label, Slots, tree}
 use Rattle.js_grammar.specs.Grammar.{Lexemes, never, such, alt, when, node, Takes, is_left, is_right, is_when, is_node, is_such}
-use Rattle.js_grammar.specs.Productions.{G, Flags, Name, Symbol, pife_flag, Arrow', Expression, Assignment, Yield, Conditional, Short, Coalesce, Or, And, BitOr, BitXor, BitAnd, Equality, Relational, Shift, Additive, Multiply, Exponent, Unary, Update, LeftHandSide, New, Member, Call, Chain, Primary, FuncExpr, Object, IdentifierReference, Template}
+use Rattle.js_grammar.specs.Productions.{G, Flags, Name, Symbol, pife_flag, Arrow', Expression, Assignment, Yield, Conditional, Short, Coalesce, Or, And, BitOr, BitXor, BitAnd, Equality, Relational, Shift, Additive, Multiply, Exponent, Unary, Update, LeftHandSide, New, Member, Call, Chain, Primary, FuncExpr, ClassExpr, Object, IdentifierReference, Template}
 use Rattle.js_grammar.specs.Table.{rule, rule_of}
 use Rattle.js_grammar.proofs.Looks.{apart}
 use Rattle.laws_primary.specs.Marked.{is_function}
@@ -38,6 +38,7 @@ passes_on Primary = true
 passes_on Arrow' = true
 passes_on Object = true
 passes_on FuncExpr = true
+passes_on ClassExpr = true
 passes_on IdentifierReference = true
 passes_on Template = true
 passes_on _ = false
@@ -85,6 +86,7 @@ tame_at Primary f h = refl
 tame_at Arrow' f h = refl
 tame_at Object f h = refl
 tame_at FuncExpr f h = refl
+tame_at ClassExpr f h = refl
 tame_at IdentifierReference f h = refl
 tame_at Template f h = refl
 tame_at _ f h = absurd (false≢true h)

@@ -1,4 +1,5 @@
 pub mod Arrays
+pub mod Classes
 pub mod Functions
 pub mod Marked
 pub mod Members

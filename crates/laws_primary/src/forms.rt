@@ -1,4 +1,4 @@
-//! What operands are made of, beside their nodes (ECMA-262, sections 13.2, 13.3, 15.2 and 15.4).
+//! What operands are made of, beside their nodes (ECMA-262, sections 13.2, 13.3, 15.2, 15.4 and 15.7).
 
 use laws_shared::NodeId;
 
@@ -55,4 +55,13 @@ pub struct FunctionParts {
     pub body: NodeId,
     /// The byte offset where its parameters end.
     pub head_end: u32,
+}
+
+/// Which class it is.
+#[derive(Clone, Copy)]
+pub enum ClassForm {
+    /// A ClassDeclaration, which has a name.
+    Declaration,
+    /// A ClassExpression.
+    Expression,
 }

@@ -11,7 +11,7 @@ use Rattle.js_cursor.specs.Places.{IsAt}
 use Rattle.js_cursor.specs.declared.stop.Stop.{Stop}
 use Rattle.js_cursor.proofs.Later.{follows_on}
 use Rattle.laws_shared.specs.declared.nested.Nonterminal.{Nonterminal}
-use Rattle.laws_shared.specs.declared.nested.Nonterminal.TheVariants.{Expression, Assignment, Element, Unary, Exponentiation, Binding, Statement, ListItem, Body, Params, MethodParameters}
+use Rattle.laws_shared.specs.declared.nested.Nonterminal.TheVariants.{Expression, Assignment, Element, Unary, LeftHandSide, Exponentiation, Binding, Statement, ListItem, Body, ClassBody, Params, MethodParameters}
 use Rattle.laws_shared.specs.Methods.{WholeTaken, parameters_of}
 use Rattle.js_grammar.specs.Parsing.{plain, full, Fails}
 use Rattle.js_grammar.specs.Productions.{G}
@@ -32,6 +32,8 @@ ready_at Expression r = r
 ready_at Assignment r = r
 ready_at Element r = r
 ready_at Unary r = r
+ready_at LeftHandSide r = r
+ready_at ClassBody r = r
 ready_at Exponentiation r = r
 ready_at Binding r = r
 ready_at Params r = r
@@ -45,6 +47,8 @@ ready_deeper Expression r i = standing (deeper r i)
 ready_deeper Assignment r i = standing (deeper r i)
 ready_deeper Element r i = standing (deeper r i)
 ready_deeper Unary r i = standing (deeper r i)
+ready_deeper LeftHandSide r i = standing (deeper r i)
+ready_deeper ClassBody r i = standing (deeper r i)
 ready_deeper Exponentiation r i = standing (deeper r i)
 ready_deeper Binding r i = standing (deeper r i)
 ready_deeper Params r i = standing (deeper r i)
@@ -64,6 +68,8 @@ stops_deeper r e Expression i x = λ text f a. stops_in r e a.at i (entered_none
 stops_deeper r e Assignment i x = λ text f a. stops_in r e a.at i (entered_none {n = at n.Assignment f} i) (x text f (deeper a i))
 stops_deeper r e Element i x = λ text f a. stops_in r e a.at i (entered_none {n = at n.Assignment f} i) (x text f (deeper a i))
 stops_deeper r e Unary i x = λ text f a. stops_in r e a.at i (entered_none {n = at n.Unary f} i) (x text f (deeper a i))
+stops_deeper r e LeftHandSide i x = λ text f a. stops_in r e a.at i (entered_none {n = at n.LeftHandSide f} i) (x text f (deeper a i))
+stops_deeper r e ClassBody i x = λ text f a. stops_in r e a.at i (entered_none {n = at n.ClassBody f} i) (x text f (deeper a i))
 stops_deeper r e Exponentiation i x = λ text f a. stops_in r e a.at i (entered_none {n = at n.Exponent f} i) (x text f (deeper a i))
 stops_deeper r e Binding i x = λ text f a. stops_in r e a.at i (entered_none {n = at n.Binding f} i) (x text f (deeper a i))
 stops_deeper r e Params i x = λ text f a. stops_in r e a.at i (entered_none {n = at n.Params f} i) (x text f (deeper a i))
@@ -78,6 +84,8 @@ read_deeper id Expression r i x = let y = (x _ _ (deeper r i)).answer in (y.at.a
 read_deeper id Assignment r i x = let y = (x _ _ (deeper r i)).answer in (y.at.at, y.same.depth)
 read_deeper id Element r i x = let y = (x _ _ (deeper r i)).answer in (y.at.at, y.same.depth)
 read_deeper id Unary r i x = let y = (x _ _ (deeper r i)).answer in (y.at.at, y.same.depth)
+read_deeper id LeftHandSide r i x = let y = (x _ _ (deeper r i)).answer in (y.at.at, y.same.depth)
+read_deeper id ClassBody r i x = let y = (x _ _ (deeper r i)).answer in (y.at.at, y.same.depth)
 read_deeper id Exponentiation r i x = let y = (x _ _ (deeper r i)).answer in (y.at.at, y.same.depth)
 read_deeper id Binding r i x = let y = (x _ _ (deeper r i)).answer in (y.at.at, y.same.depth)
 read_deeper id Params r i x = let y = (x _ _ (deeper r i)).answer in (y.at.at, y.same.depth)
@@ -130,6 +138,8 @@ left_deeper id Expression i l x = λ text f a. left a.at i l (x text f (deeper a
 left_deeper id Assignment i l x = λ text f a. left a.at i l (x text f (deeper a i))
 left_deeper id Element i l x = λ text f a. left a.at i l (x text f (deeper a i))
 left_deeper id Unary i l x = λ text f a. left a.at i l (x text f (deeper a i))
+left_deeper id LeftHandSide i l x = λ text f a. left a.at i l (x text f (deeper a i))
+left_deeper id ClassBody i l x = λ text f a. left a.at i l (x text f (deeper a i))
 left_deeper id Exponentiation i l x = λ text f a. left a.at i l (x text f (deeper a i))
 left_deeper id Binding i l x = λ text f a. left a.at i l (x text f (deeper a i))
 left_deeper id Params i l x = λ text f a. left a.at i l (x text f (deeper a i))

@@ -2,7 +2,7 @@
 use Rattle.std.specs.Prelude.{ℕ, ◌+◌, ◌-◌, ◌<◌, ◌≡◌, true, length, Result}
 use denote.Ref.{MutBor}
 use Rattle.js_base.specs.Contexts.{has_flag, in_flag}
-use Rattle.js_grammar.specs.Productions.{at, Assignment, Binding, Body, Exponent, Expression, ListItem, Params, Sub, Unary}
+use Rattle.js_grammar.specs.Productions.{at, Assignment, Binding, Body, ClassBody, Exponent, Expression, LeftHandSide, ListItem, Params, Sub, Unary}
 use Rattle.js_cursor.specs.js_tree.declared.id.NodeId.{NodeId}
 use Rattle.js_cursor.specs.Parsers.{Parser}
 use Rattle.js_cursor.specs.declared.stop.Stop.{Stop}
@@ -23,6 +23,8 @@ Ready nonterminal.Expression p = Standing p
 Ready nonterminal.Assignment p = Standing p
 Ready nonterminal.Element p = Standing p
 Ready nonterminal.Unary p = Standing p
+Ready nonterminal.LeftHandSide p = Standing p
+Ready nonterminal.ClassBody p = Standing p
 Ready nonterminal.Exponentiation p = Standing p
 Ready nonterminal.Binding p = Standing p
 Ready nonterminal.Params p = Standing p
@@ -37,22 +39,26 @@ AnswersFor nonterminal.Expression old new r = Answers (at Expression) old new r
 AnswersFor nonterminal.Assignment old new r = Answers (at Assignment) old new r
 AnswersFor nonterminal.Element old new r = Answers (at Assignment) old new r
 AnswersFor nonterminal.Unary old new r = Answers (at Unary) old new r
+AnswersFor nonterminal.LeftHandSide old new r = Answers (at LeftHandSide) old new r
+AnswersFor nonterminal.ClassBody old new r = Answers (at ClassBody) old new r
 AnswersFor nonterminal.Exponentiation old new r = Answers (at Exponent) old new r
 AnswersFor nonterminal.Binding old new r = Answers (at Binding) old new r
 AnswersFor nonterminal.Params old new r = Answers (at Params) old new r
 
--- How many levels of depth it takes: what stands between brackets is read through all levels of operators again, and so is a function's body, which stands in an operand; an item of a list of statements and the parameters of a method take two.
+-- How many levels of depth it takes: what stands between brackets is read through all levels of operators again, and so are the bodies of functions and of classes, which stand in operands, and what a class extends; an item of a list of statements and the parameters of a method take two.
 abbrev pub levels_of : Nonterminal → ℕ
 levels_of nonterminal.Expression = 4
 levels_of nonterminal.Element = 4
 levels_of nonterminal.Binding = 4
 levels_of nonterminal.Assignment = 1
 levels_of nonterminal.Unary = 1
+levels_of nonterminal.LeftHandSide = 4
 levels_of nonterminal.Exponentiation = 1
 levels_of nonterminal.Statement = 1
 levels_of nonterminal.Params = 1
 levels_of nonterminal.ListItem = 2
 levels_of nonterminal.Body = 4
+levels_of nonterminal.ClassBody = 4
 levels_of (nonterminal.MethodParameters form) = 2
 
 -- how much of the text is left

@@ -1,7 +1,7 @@
 //! What parse functions call where a production nests.
 
 ghost use Rattle.std.specs.Prelude.{◌≡◌};
-ghost use Rattle.js_grammar.specs.Productions.{at, Assignment, Binding, Body, Exponent, Expression, ListItem, Params, Sub, Unary};
+ghost use Rattle.js_grammar.specs.Productions.{at, Assignment, Binding, Body, ClassBody, Exponent, Expression, LeftHandSide, ListItem, Params, Sub, Unary};
 ghost use Rattle.laws_shared.specs.Answers.{Answers};
 ghost use Rattle.laws_shared.specs.Methods.{ReadsWhole, parameters_of};
 ghost use Rattle.laws_shared.specs.Nesting.{levels_of};
@@ -31,6 +31,8 @@ pub enum Nonterminal {
     Element,
     /// A UnaryExpression.
     Unary,
+    /// A LeftHandSideExpression.
+    LeftHandSide,
     /// An ExponentiationExpression.
     Exponentiation,
     /// A BindingIdentifier or a BindingPattern.
@@ -41,6 +43,8 @@ pub enum Nonterminal {
     ListItem,
     /// A FunctionBody in its braces.
     Body,
+    /// A ClassBody in its braces.
+    ClassBody,
     /// FormalParameters in their parentheses.
     Params,
     /// The parameters of a method in their parentheses.
@@ -49,16 +53,18 @@ pub enum Nonterminal {
 
 impl Nonterminal {
     /// How many levels of depth it takes: what stands between brackets is read through all levels of operators again, and
-    /// takes four times the stack of the others and more. So does a function's body, which stands in an operand. What stands
-    /// in other braces takes twice as much as they do.
+    /// takes four times the stack of the others and more. So do the bodies of functions and of classes, which stand in
+    /// operands, and what a class extends. What stands in other braces takes twice as much as the others.
     pub fn levels(self) -> u32
         ensures { result ≡ levels_of self }
     {
         match self {
             Nonterminal::Expression
             | Nonterminal::Element
+            | Nonterminal::LeftHandSide
             | Nonterminal::Binding
-            | Nonterminal::Body => 4,
+            | Nonterminal::Body
+            | Nonterminal::ClassBody => 4,
             Nonterminal::ListItem | Nonterminal::MethodParameters(_) => 2,
             Nonterminal::Assignment
             | Nonterminal::Unary
@@ -97,6 +103,11 @@ pub trait Nested<C: ParserConfig> {
         requires { can self.now p.old Nonterminal.Unary }
         ensures { Answers (at Unary) p.old p.new result };
 
+    /// A LeftHandSideExpression (ECMA-262, section 13.3).
+    fn left_hand_side(&self, p: &mut ParserImpl<'_, C>) -> Result<NodeId, Stop>
+        requires { can self.now p.old Nonterminal.LeftHandSide }
+        ensures { Answers (at LeftHandSide) p.old p.new result };
+
     /// An ExponentiationExpression (ECMA-262, section 13.6).
     fn exponentiation(&self, p: &mut ParserImpl<'_, C>) -> Result<NodeId, Stop>
         requires { can self.now p.old Nonterminal.Exponentiation }
@@ -121,6 +132,11 @@ pub trait Nested<C: ParserConfig> {
     fn body(&self, p: &mut ParserImpl<'_, C>) -> Result<NodeId, Stop>
         requires { can self.now p.old Nonterminal.Body }
         ensures { Answers (at Body) p.old p.new result };
+
+    /// A ClassBody in its braces (ECMA-262, section 15.7).
+    fn class_body(&self, p: &mut ParserImpl<'_, C>) -> Result<NodeId, Stop>
+        requires { can self.now p.old Nonterminal.ClassBody }
+        ensures { Answers (at ClassBody) p.old p.new result };
 
     /// FormalParameters in their parentheses (ECMA-262, section 15.1).
     fn parameters(&self, p: &mut ParserImpl<'_, C>) -> Result<NodeId, Stop>

@@ -19,7 +19,7 @@ use Rattle.js_grammar.specs.Productions.{Statement as AStatement}
 use Rattle.js_grammar.specs.Productions.{sym as symbol}
 use Rattle.js_grammar.specs.Table.{rule, rule_of}
 use Rattle.js_grammar.proofs.Looks.{covers, apart, not_both}
-use Rattle.js_grammar.proofs.Calculus.{◌▹◌, ◌▹✗◌, inside_full, fails_node, fails_rule, left, looks, right, stay, weaken_on, weaken_fails_on}
+use Rattle.js_grammar.proofs.Calculus.{◌▹◌, ◌▹✗◌, inside_full, fails_alt, fails_node, fails_rule, left, looks, right, stay, weaken_on, weaken_fails_on}
 use Rattle.laws_shared.specs.js_tree.declared.id.NodeId.{NodeId}
 use Rattle.laws_shared.specs.js_tree.declared.kind.NodeKind.TheVariants as node
 use Rattle.laws_shared.specs.js_tree.declared.op.Op.TheVariants as op
@@ -30,7 +30,7 @@ use Rattle.laws_shared.specs.js_lex.States.{goal_of}
 use Rattle.laws_shared.specs.js_cursor.Parsers.{Parser}
 use Rattle.laws_shared.specs.js_cursor.Places.{goal}
 use Rattle.laws_shared.specs.Answers.{unclean}
-use Rattle.laws_shared.specs.Lexemes.{Lex, spot}
+use Rattle.laws_shared.specs.Lexemes.{Lex, keyword_kind, spot}
 use Rattle.laws_shared.specs.Moves.{MadeHere, plain_label}
 use Rattle.laws_shared.specs.Stands.{StandsHere}
 use Rattle.laws_shared.specs.States.{At, Same}
@@ -53,7 +53,7 @@ use Rattle.laws_shared.proofs.Paths.{Path, ◌⟼◌, at_kind, by_symbol_as, fla
 use Rattle.laws_shared.proofs.Escapes.{keyword_none}
 use Rattle.laws_shared.proofs.Told.{told_at, told_same}
 use Rattle.laws_shared.proofs.Verdicts.{after as grown_behind, verdict_of}
-use Rattle.laws_statements.proofs.Statements.{by_such_statement, item_left, labels_fail, never_open, no_expression, no_lexical, no_symbol, sub_left}
+use Rattle.laws_statements.proofs.Statements.{by_such_statement, item_left, labels_fail, never_open, no_class, no_expression, no_lexical, no_symbol, sub_left}
 use Rattle.laws_statements.proofs.WordLookaheads.{async_word, elsewhere, ends_at, followed, let_word, no_let_here}
 
 -- ---- at `async` with `function` behind it on its line
@@ -84,9 +84,12 @@ module _ {text : List ℕ} {f : Flags} {p : Parser} (a : At text f p) (h : Stand
   let_elsewhere : StandsHere p kind.Let false
   let_elsewhere k e = let w : kind.Async ≡ kind.Let = sym h.0 ∙ k in cc
 
+  no_word_there : one_of_kinds statement_kinds (keyword_kind p.token) ≡ false
+  no_word_there = keyword_none p.token statement_kinds (ap (one_of_kinds statement_kinds) h.0) refl
+
   listed_there : {X : Test} → Goes rule (Lex text) X end (rule (at ListItem f)) p.prev_token_end (symbol AFunction f) p.prev_token_end (λ us. us) (still 0)
   listed_there {X} = subst (λ (g : G). Goes rule (Lex text) X end (rule (at ListItem f)) p.prev_token_end g p.prev_token_end (λ us. us) (still 0)) (item_left f) (lives (rule (at ListItem f)))
-      ▹ right no_statement_there ▹ right (elsewhere a let_word (word_or (kind.LCurly ∷ [])) let_elsewhere ▹✗ no_expression_there) ▹ left (no_lexical a (keyword_none p.token statement_kinds (ap (one_of_kinds statement_kinds) h.0) refl) (no_let_here a let_elsewhere true))
+      ▹ right no_statement_there ▹ right (elsewhere a let_word (word_or (kind.LCurly ∷ [])) let_elsewhere ▹✗ no_expression_there) ▹ left (fails_alt (no_class a no_word_there) (no_lexical a no_word_there (no_let_here a let_elsewhere true)))
 
   body_there : {X : Test} → Goes rule (Lex text) X end (rule (at Sub f)) p.prev_token_end (function_line Declaration false false f) p.prev_token_end (λ us. us) (still 0)
   body_there {X} = subst (λ (g : G). Goes rule (Lex text) X end (rule (at Sub f)) p.prev_token_end g p.prev_token_end (λ us. us) (still 0)) (sub_left f) (lives (rule (at Sub f))) ▹ right no_statement_there ▹ right no_expression_there

@@ -32,7 +32,7 @@ use Rattle.laws_shared.specs.js_cursor.Parsers.{Parser}
 use Rattle.laws_shared.specs.js_cursor.declared.stop.Stop.{Stop}
 use Rattle.laws_shared.specs.Answers.{unclean}
 use Rattle.laws_shared.specs.Classes.{IsEarly}
-use Rattle.laws_shared.specs.Lexemes.{Lex, other_goals, spot}
+use Rattle.laws_shared.specs.Lexemes.{Lex, keyword_kind, other_goals, spot}
 use Rattle.laws_shared.specs.Stands.{StandsHere}
 use Rattle.laws_shared.specs.States.{At}
 use Rattle.laws_shared.specs.Statements.{after_statement, no_link, statement_kinds, NoStatement, Statement, StatementOutcome, TakesStatement}
@@ -52,7 +52,7 @@ use Rattle.laws_statements.specs.DeclarationStatements.{Declaration, ReadsDeclar
 use Rattle.laws_statements.specs.LetStatements.{behind_let, BeginsLexical, FindsLexical, LetBegins, LetHere, NoLet, TellsLexical}
 use Rattle.laws_statements.proofs.DeclarationStatements.{as_statement, const_alone, const_listed, declaration_read, no_const_body}
 use Rattle.laws_statements.proofs.WordLookaheads.{async_word, elsewhere, ends_at, followed, let_word, no_async_here, not_followed, ◌⇒✗◌}
-use Rattle.laws_statements.proofs.Statements.{item_left, labels_fail, never_open, no_expression, no_function, no_function_body, no_symbol, sub_left}
+use Rattle.laws_statements.proofs.Statements.{item_left, labels_fail, never_open, no_class, no_expression, no_function, no_function_body, no_symbol, sub_left}
 use Rattle.laws_statements.proofs.WordStatements.{unlinked}
 use Rattle.js_grammar.specs.Productions.{is_one_of, other, function_on_line}
 
@@ -101,8 +101,11 @@ module _ {text : List ℕ} {f : Flags} {p : Parser} (a : At text f p) (h : LetHe
       by true k = not_followed a let_word (word_or (LCurly ∷ [])) (λ y z l q m t. no_bracketed_word z (ap (same_kind LBrack) (kind_behind a h z (subst (λ (v : ℕ). Lex text v z) (ends_at a let_word h.here y l) m)) ∙ k) t) ⇒✗ let_expression a h k
       by false k = followed a let_word (word_or (LCurly ∷ [])) h.here (λ z l. or_word h.kind h.goes_on k z (kind_behind a h z l))
 
+  no_word_here : one_of_kinds statement_kinds (keyword_kind p.token) ≡ false
+  no_word_here = keyword_none p.token statement_kinds (ap (one_of_kinds statement_kinds) h.here.0) refl
+
   let_listed : {X : Test} → Goes rule (Lex text) X end (rule (at ListItem f)) p.prev_token_end (symbol Lexical f) p.prev_token_end (λ us. us) (still 0)
-  let_listed {X} = subst (λ (g : G). Goes rule (Lex text) X end (rule (at ListItem f)) p.prev_token_end g p.prev_token_end (λ us. us) (still 0)) (item_left f) (lives (rule (at ListItem f))) ▹ right (let_statement a h) ▹ right no_expression_item ▹ right (no_function a (keyword_none p.token statement_kinds (ap (one_of_kinds statement_kinds) h.here.0) refl) (no_async_here a (no_async a h)))
+  let_listed {X} = subst (λ (g : G). Goes rule (Lex text) X end (rule (at ListItem f)) p.prev_token_end g p.prev_token_end (λ us. us) (still 0)) (item_left f) (lives (rule (at ListItem f))) ▹ right (let_statement a h) ▹ right no_expression_item ▹ right (no_function a no_word_here (no_async_here a (no_async a h))) ▹ right (no_class a no_word_here)
 
   let_alone : {X : Test} → Goes rule (Lex text) X end (rule (at Lexical f)) p.prev_token_end (declaration declared.Let f) p.prev_token_end (λ us. us) (still 0)
   unfolding rule rule_of covers

@@ -1,5 +1,6 @@
 pub mod BindingsFreeOfIn
 pub mod Blocks
+pub mod ClassStatements
 pub mod CompoundStatements
 pub mod DeclarationStatements
 pub mod ForContexts

@@ -2,8 +2,10 @@
 use Rattle.std.proofs.Common.{ℕ, ◌≡◌, inl, inr, List, [], ◌∷◌, length, Option, Some, None, Bool, true, false, not, IsTrue, refl, sym, ap, subst, ◌∙◌, ◌<◌}
 use Rattle.std.specs.Prelude.{Ok, Err}
 use Rattle.std.proofs.lemmas.Bool.{false≢true}
-use Rattle.js_base.specs.Contexts.{has_flag, return_flag}
+use Rattle.js_base.specs.Contexts.{has_flag, new_target_flag, return_flag}
+use Rattle.js_base.specs.Diagnostics.{class_of}
 use Rattle.js_base.specs.declared.diagnostic.Diagnostic.{Diagnostic}
+use Rattle.js_base.specs.declared.diagnostic.DiagnosticClass.TheVariants.{Early}
 use Rattle.js_base.specs.declared.kind.Kind.TheVariants as kind
 use Rattle.js_base.specs.declared.source_type.SourceType.{SourceType}
 use Rattle.js_base.specs.declared.span.Span.{Span}
@@ -11,7 +13,8 @@ use Rattle.js_base.specs.Kinds.{same_kind}
 use Rattle.js_grammar.specs.Trees.{Slots, end, hole, tree, append, Label, no_op, return_statement}
 use Rattle.js_grammar.specs.Grammar.{Lexeme, Lexemes, Look, here, seen, ended, semicolon, empty_slot, nothing, such, when, Takes, is_seq, is_lexeme, is_look, is_such, is_left, is_right, is_empty_slot, ◌▸◌}
 use Rattle.js_grammar.specs.Insertion.{after_word, edge, goes_on, by_edge}
-use Rattle.js_grammar.specs.Marks.{Mark, a_lexeme, the_start, the_end}
+use Rattle.js_grammar.specs.Marks.{EdgeOf, Mark, StandsAt, a_lexeme, the_start, the_end}
+use Rattle.js_grammar.specs.Settings.{Goal}
 use Rattle.js_grammar.specs.Lexed.{NextLexeme, Lexes, all_faults}
 use Rattle.js_grammar.specs.Parsing.{Test, plain, full, always, still, Admits, Goes, Fails}
 use Rattle.js_grammar.specs.Productions.{G, Flags, at, tok, slot, no_newline, Expression, Return}
@@ -43,7 +46,7 @@ use Rattle.laws_shared.specs.Moves.{Moved, MadeHere, plain_label}
 use Rattle.laws_shared.specs.Stands.{StandsHere}
 use Rattle.laws_shared.specs.States.{At, Same}
 use Rattle.laws_shared.specs.Statements.{placed, no_link, after_statement, NoStatement, Statement, EndsStatement, NoEnd}
-use Rattle.laws_statements.specs.WordStatements.{ChecksReturn, TakesArgument, stray_return}
+use Rattle.laws_statements.specs.WordStatements.{ChecksReturn, TakesArgument, fault_of_return, stray_return}
 use Rattle.laws_shared.proofs.Ahead.{pass_over}
 use Rattle.laws_shared.proofs.Giving.{kept_one}
 use Rattle.laws_shared.proofs.Here.{found, newline_here, uncut}
@@ -76,6 +79,11 @@ on_argument f = record { admits = λ ts vs k ls rest d e. go ts d e }
   where
     go : (ts : Slots) {i k : ℕ} {vs : Slots} {ls rest : Lexemes} → Takes rule (such (at Expression f) always) end ts i ls vs k rest → Admits (behind_return f) ts (here rest) → Admits (after (at Expression f)) ts (here rest)
     go ts {rest = rest} (is_such {l = l} {cs = cs} {us = us} d t) e = admits (at Expression f) (tree l cs us) (here rest) e.1
+
+-- both diagnostics of a `return` let reading go on
+return_early : (b : Bool) → class_of (fault_of_return b) ≡ Early
+return_early true = refl
+return_early false = refl
 
 module _ {text : List ℕ} {f : Flags} where
   to_its_end : {p q : Parser} {h : Slots → Slots} → ((us : Slots) → h us ≡ append (h end) us) → Path text f (behind_return f) (return_slots f) p nothing q h → Path text f (plain no_link) (ended by_edge (return_slots f)) p (semicolon (goes_on (edge after_word after_word (h end)))) q h
@@ -260,7 +268,7 @@ module _ {text : List ℕ} {f : Flags} {p q : Parser} (a : At text f p) (h : Sta
         checked_same = go c
           where
             go : ChecksReturn word v w → Same v w
-            go (inl (n, k)) = told_same k refl
+            go (inl (n, k)) = told_same k (return_early (has_flag new_target_flag v.ctx))
             go (inr (y, q)) = subst (λ (u : Parser). Same v u) (sym q) same_itself
 
         checked_nodes : w.nodes ≡ v.nodes
@@ -288,19 +296,24 @@ module _ {text : List ℕ} {f : Flags} {p q : Parser} (a : At text f p) (h : Sta
             let y : Path text f (after_statement (placed b f)) (such (placed b f) always) p nothing w (tree (label_here return_statement no_op p w) (its.slots end)) = subst (λ (u : ℕ). Path text f (after_statement (placed b f)) (such (placed b f) always) p nothing w (tree (record { kind = return_statement; op = no_op; flags = 0; span = record { from = p.token.span.start; to = u } }) (its.slots end))) (sym checked_place) (checked_path b) in
             by_such_statement y (never_open (label_here return_statement no_op p w) (its.slots end) refl) (same_both its.same (same_both o.same checked_same)) made.stays (node_held made hs) (Keeps-trans ks (Keeps-made made.made)) refl (one_lies made)
 
+-- each end of the span is one of a lexeme
+at_ends : {goal : Goal} {text : List ℕ} {s : Span} (b : Bool) → EdgeOf goal text s.start → EdgeOf goal text s.end → StandsAt (fault_of_return b) goal text s None None
+at_ends true x y = ((x, y), (refl, refl))
+at_ends false x y = ((x, y), (refl, refl))
+
 -- what is told of it has its mark
-word_marked : {text : List ℕ} {f : Flags} {p : Parser} (s : Span) → At text f p → StandsHere p kind.Return true → s ≡ p.token.span → Mark (goal p) p.text (stray_return s)
-word_marked {text} {f} {p} s a h e =
+word_marked : {text : List ℕ} {f : Flags} {p : Parser} (b : Bool) (s : Span) → At text f p → StandsHere p kind.Return true → s ≡ p.token.span → Mark (goal p) p.text (stray_return b s)
+word_marked {text} {f} {p} b s a h e =
     let y = found a (uncut a (ap (same_kind kind.RAngle) h.0)) (ap is_last h.0) in
     let o = a_lexeme a.at.reached (subst (λ (t : List ℕ). NextLexeme all_faults t p.prev_token_end y.0) (sym a.text_is) y.1) in
-    let m : Mark (goal p) p.text (stray_return p.token.span) = record {
+    let m : Mark (goal p) p.text (stray_return b p.token.span) = record {
       ordered = a.at.lies.ordered;
       within = a.at.lies.ends_whole.0;
       begins_between = a.at.lies.starts_whole;
       ends_between = a.at.lies.ends_whole;
-      stands = ((the_start o (sym y.2.start), the_end o (sym y.2.end)), (refl, refl));
+      stands = at_ends b (the_start o (sym y.2.start)) (the_end o (sym y.2.end));
     } in
-    subst (λ (v : Span). Mark (goal p) p.text (stray_return v)) (sym e) m
+    subst (λ (v : Span). Mark (goal p) p.text (stray_return b v)) (sym e) m
 
-pub stray_marked : {text : List ℕ} {f : Flags} {p q : Parser} (s : Span) → At text f p → StandsHere p kind.Return true → s ≡ p.token.span → Same p q → Mark (goal q) q.text (stray_return s)
-stray_marked {p = p} {q = q} s a h e m = subst (λ (t : List ℕ). Mark (goal q) t (stray_return s)) (sym m.follows.text) (subst (λ (v : SourceType). Mark (goal_of v) p.text (stray_return s)) (sym m.follows.source_type) (word_marked s a h e))
+pub stray_marked : {text : List ℕ} {f : Flags} {p q : Parser} (b : Bool) (s : Span) → At text f p → StandsHere p kind.Return true → s ≡ p.token.span → Same p q → Mark (goal q) q.text (stray_return b s)
+stray_marked {p = p} {q = q} b s a h e m = subst (λ (t : List ℕ). Mark (goal q) t (stray_return b s)) (sym m.follows.text) (subst (λ (v : SourceType). Mark (goal_of v) p.text (stray_return b s)) (sym m.follows.source_type) (word_marked b s a h e))

@@ -1,10 +1,11 @@
 -- Statements that begin with a word and end with a semicolon (ECMA-262, 14.8, 14.9, 14.10, 14.14, 14.16).
-use Rattle.std.specs.Prelude.{ℕ, ◌≡◌, ◌⊎◌, true, false, List, Option, Some, None, Result, Ok, Err}
+use Rattle.std.specs.Prelude.{ℕ, ◌≡◌, ◌⊎◌, Bool, true, false, List, Option, Some, None, Result, Ok, Err}
 use Rattle.js_base.specs.declared.diagnostic.Diagnostic.{Diagnostic}
-use Rattle.js_base.specs.declared.diagnostic.DiagnosticKind.TheVariants.{IllegalNewline, ReturnStatementOnlyInFunctionBody}
+use Rattle.js_base.specs.declared.diagnostic.DiagnosticKind.{DiagnosticKind}
+use Rattle.js_base.specs.declared.diagnostic.DiagnosticKind.TheVariants.{IllegalNewline, ReturnStatementInClassStaticBlock, ReturnStatementOnlyInFunctionBody}
 use Rattle.js_base.specs.declared.kind.Kind.TheVariants.{Break, Continue}
 use Rattle.js_base.specs.declared.span.Span.{Span}
-use Rattle.js_base.specs.Contexts.{has_flag, return_flag}
+use Rattle.js_base.specs.Contexts.{has_flag, new_target_flag, return_flag}
 use Rattle.js_grammar.specs.Productions.{Flags, at, Expression}
 use Rattle.laws_shared.specs.js_tree.declared.id.NodeId.{NodeId}
 use Rattle.laws_shared.specs.js_tree.declared.kind.NodeKind.{NodeKind}
@@ -45,10 +46,14 @@ TakesArgument old new (Ok None) = MayEnd old × (new ≡ old)
 TakesArgument old new (Ok (Some id)) = (MayEnd old → ⊥) × ((text : List ℕ) (f : Flags) → At text f old → Numbered text f (at Expression f) old new id)
 TakesArgument old new (Err e) = (MayEnd old → ⊥) × ((text : List ℕ) (f : Flags) → At text f old → Stops old new e (Underived text (at Expression f) old.prev_token_end))
 
--- what is told of a `return` in no function's body
-abbrev pub stray_return : Span → Diagnostic
-stray_return word = unrelated_at ReturnStatementOnlyInFunctionBody word
+-- what is told of a `return` in no function's body: where `new.target` may stand, it is in a static block of a class (15.7)
+abbrev pub fault_of_return : Bool → DiagnosticKind
+fault_of_return true = ReturnStatementInClassStaticBlock
+fault_of_return false = ReturnStatementOnlyInFunctionBody
+
+abbrev pub stray_return : Bool → Span → Diagnostic
+stray_return in_block word = unrelated_at (fault_of_return in_block) word
 
 -- That was told, without the parameter Return; or it may stand here.
 abbrev pub ChecksReturn : Span → Parser → Parser → Type 0
-ChecksReturn word old new = ((has_flag return_flag old.ctx ≡ false) × KeepsDiagnostic (stray_return word) old new) ⊎ ((has_flag return_flag old.ctx ≡ true) × (new ≡ old))
+ChecksReturn word old new = ((has_flag return_flag old.ctx ≡ false) × KeepsDiagnostic (stray_return (has_flag new_target_flag old.ctx) word) old new) ⊎ ((has_flag return_flag old.ctx ≡ true) × (new ≡ old))

@@ -106,8 +106,8 @@ fn accessor_kind(word: Kind, behind: Kind) -> Option<MethodKind>
     }
 }
 
-/// Whether `async` may begin a method before such a lexeme.
-fn follows_async(kind: Kind) -> bool
+/// Whether a member begins with such a lexeme, be it behind `static`, or a method behind `async`.
+pub(crate) fn begins_member(kind: Kind) -> bool
     ensures { result ≡ one_of_kinds (Star ∷ name_kinds) kind }
 {
     matches!(kind, Kind::Star) || begins_name(kind)
@@ -117,7 +117,7 @@ fn follows_async(kind: Kind) -> bool
 fn begins_async_method(word: Kind, behind: Token) -> bool
     ensures { result ≡ begins_async word behind.kind behind.is_on_new_line }
 {
-    if !follows_async(behind.kind()) || behind.is_on_new_line() {
+    if !begins_member(behind.kind()) || behind.is_on_new_line() {
         return false;
     }
     matches!(word, Kind::Async)

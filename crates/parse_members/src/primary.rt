@@ -8,6 +8,8 @@ ghost use Rattle.parse_primary.specs.laws_primary.Marked as marked;
 use crate::left_hand_side::parse_with_arguments;
 use js_base::Kind;
 use parse_primary::array::parse_array_expression;
+use parse_primary::class::parse_class;
+use parse_primary::forms::ClassForm;
 use parse_primary::function::{function_stands, parse_function_expression};
 use parse_primary::leaf::{
     close_parentheses, number_node, number_op, parse_identifier_name, parse_leaf, parse_name,
@@ -23,8 +25,8 @@ use parse_shared::{
     NodeFlags, NodeId, NodeKind, Op, ParserAstBuilder, ParserConfig, ParserImpl, Stop,
 };
 
-/// A PrimaryExpression (ECMA-262, section 13.2): a name, a literal, a regular expression, an array, an object literal, a function, parentheses or a
-/// call of V8.
+/// A PrimaryExpression (ECMA-262, section 13.2): a name, a literal, a regular expression, an array, an object literal, a function, a
+/// class, parentheses or a call of V8.
 /// Reads: Primary.
 pub fn parse_primary_expression<C: ParserConfig, N: Nested<C>>(
     p: &mut ParserImpl<'_, C>,
@@ -53,6 +55,7 @@ pub fn parse_primary_expression<C: ParserConfig, N: Nested<C>>(
         Kind::LParen => parse_parenthesized_expression(p, nested),
         Kind::LBrack => parse_array_expression(p, nested),
         Kind::Function => parse_function_expression(p, nested),
+        Kind::Class => parse_class(p, nested, ClassForm::Expression),
         Kind::LCurly => parse_object_expression(p, nested),
         Kind::Percent => parse_v8_intrinsic_expression(p, nested),
         _ => Err(p.set_unexpected()),

@@ -122,6 +122,7 @@ fn begins_other_argument(kind: Kind) -> bool
             | Kind::LBrack
             | Kind::LCurly
             | Kind::Function
+            | Kind::Class
             | Kind::NoSubstitutionTemplate
             | Kind::TemplateHead
             | Kind::Percent

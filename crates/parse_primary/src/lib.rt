@@ -1,9 +1,10 @@
-//! Operands that stand for themselves: names, literals, functions, arrays, objects, arguments and templates (ECMA-262, sections 13.2,
-//! 15.2, 15.4 and 15.5).
+//! Operands that stand for themselves: names, literals, functions, classes, arrays, objects, arguments and templates (ECMA-262,
+//! sections 13.2, 15.2, 15.4, 15.5 and 15.7).
 #![tactic(auto)]
 
 pub mod arguments;
 pub mod array;
+pub mod class;
 pub mod function;
 pub mod leaf;
 pub mod object;

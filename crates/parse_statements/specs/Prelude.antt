@@ -1,7 +1,7 @@
 -- The names by which the contracts of this crate speak: each definition stands where its line says.
 pub use Rattle.js_base.specs.Contexts.{has_flag, in_flag}
 pub use Rattle.js_base.specs.Kinds.{one_of_kinds}
-pub use Rattle.js_base.specs.declared.kind.Kind.TheVariants.{Break, Catch, Colon, Const, Continue, Debugger, Finally, LCurly, LParen, Return, Semicolon, Str, Switch, Throw, Try}
+pub use Rattle.js_base.specs.declared.kind.Kind.TheVariants.{Break, Catch, Class, Colon, Const, Continue, Debugger, Finally, LCurly, LParen, Return, Semicolon, Str, Switch, Throw, Try}
 pub use Rattle.js_grammar.specs.Marks.{EdgeOf, Mark}
 pub use Rattle.js_grammar.specs.Productions.{Catch as ACatch, Block, Body, ListItem, Sub, at, sym}
 pub use Rattle.parse_control.specs.laws_statements.Blocks.{NoBracesHere, TakesBraces}
@@ -10,7 +10,7 @@ pub use Rattle.parse_control.specs.laws_statements.LetStatements.{TakesUndeclare
 pub use Rattle.parse_control.specs.laws_statements.StatementLists.{AllRefused, AllTaken, DirectivesTaken, OpeningRefused, OpeningTaken, ends_at, ends_in_brace, ends_list, has_directives}
 pub use Rattle.parse_control.specs.laws_statements.SwitchStatements.{AllClauses, ClauseBegins, ClausesRefused, DueOr, MayNote, NextRefused, NextTaken, NoCaseBlockHere, Notes, ReadsClause, Stood, TakesCaseBlock, TakesTest, second_default}
 pub use Rattle.parse_control.specs.laws_statements.TryStatements.{NoClauses, TakesClauses, TakesPart, finally_of, neither, parameter_of}
-pub use Rattle.parse_control.specs.laws_statements.WordStatements.{ChecksOperand, ChecksReturn, JumpsHere, TakesArgument, TakesLabel, late_operand, stray_return}
+pub use Rattle.parse_control.specs.laws_statements.WordStatements.{ChecksOperand, ChecksReturn, JumpsHere, TakesArgument, TakesLabel, fault_of_return, late_operand, stray_return}
 pub use Rattle.parse_control.specs.laws_statements.declared.forms.StatementList.TheVariants.{Clause}
 pub use Rattle.parse_primary.specs.laws_primary.Functions.{BeginsFunction, NoFunctionHere}
 pub use Rattle.parse_shared.specs.js_cursor.Places.{IsAt, goal}

@@ -23,7 +23,7 @@ pub fn parse_block_statement<C: ParserConfig, N: Sequences<C>>(
     ensures { TakesAnywhere p.old p.new result }
 {
     let start = p.cur_start();
-    let items = parse_braces(p, nested, StatementList::Block)?;
+    let items = parse_statements_in_braces(p, nested, StatementList::Block)?;
     let span = p.end_span(start);
     let node = make_list(p, NodeKind::BlockStatement, Op::None, span, items)?;
     Ok(node)
@@ -42,7 +42,7 @@ pub fn parse_block<C: ParserConfig, N: Sequences<C>>(
     ensures { Answers (at Block) p.old p.new result }
 {
     let start = p.cur_start();
-    let statements = parse_braces(p, nested, StatementList::Block)?;
+    let statements = parse_statements_in_braces(p, nested, StatementList::Block)?;
     let span = p.end_span(start);
     let node = make_list(p, NodeKind::BlockStatement, Op::None, span, statements)?;
     Ok(node)
@@ -60,14 +60,14 @@ pub fn parse_function_body<C: ParserConfig, N: Sequences<C>>(
     ensures { Answers (at Body) p.old p.new result }
 {
     let start = p.cur_start();
-    let items = parse_braces(p, nested, StatementList::Body)?;
+    let items = parse_statements_in_braces(p, nested, StatementList::Body)?;
     let span = p.end_span(start);
     let node = make_list(p, NodeKind::FunctionBody, Op::None, span, items)?;
     Ok(node)
 }
 
-/// A list of statements between braces.
-fn parse_braces<C: ParserConfig, N: Sequences<C>>(
+/// A list of statements in braces (ECMA-262, sections 14.2 and 15.2).
+pub fn parse_statements_in_braces<C: ParserConfig, N: Sequences<C>>(
     p: &mut ParserImpl<'_, C>,
     nested: &N,
     list: StatementList,

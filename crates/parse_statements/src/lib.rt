@@ -2,6 +2,7 @@
 #![tactic(auto)]
 
 pub mod block;
+pub mod class_statement;
 pub mod function_statement;
 pub mod statement;
 pub mod statement_list;

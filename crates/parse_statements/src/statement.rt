@@ -1,9 +1,10 @@
 //! Statements (ECMA-262, chapter 14).
 
 ghost use Rattle.std.specs.Prelude.{◌≡◌, ◌≤◌, ◌&&◌, ◌↔◌, IsTrue, true, false};
-ghost use Rattle.parse_statements.specs.Prelude.{at, CanNest, Colon, Const, has_flag, in_flag, IsLabel, keyword_kind, LabelsStatement, ListItem, NoFunctionHere, one_of_kinds, room, Semicolon, SpellsName, Standing, StandsHere, statement_kinds, Sub, TakesAnywhere, TakesStatement, TakesUndeclared};
+ghost use Rattle.parse_statements.specs.Prelude.{at, CanNest, Class, Colon, Const, has_flag, in_flag, IsLabel, keyword_kind, LabelsStatement, ListItem, NoFunctionHere, one_of_kinds, room, Semicolon, SpellsName, Standing, StandsHere, statement_kinds, Sub, TakesAnywhere, TakesStatement, TakesUndeclared};
 
 use crate::block::parse_block_statement;
+use crate::class_statement::{parse_class_as_body, parse_class_declaration};
 use crate::function_statement::{parse_function_as_body, parse_function_declaration};
 use crate::switch_statement::parse_switch_statement;
 use crate::try_statement::parse_try_statement;
@@ -22,13 +23,14 @@ use parse_control::for_statement::parse_for_statement;
 use parse_control::sequences::Sequences;
 use parse_primary::function::function_stands;
 use parse_primary::leaf::parse_leaf;
-use parse_shared::lexemes::{advance, escaped_word_stands, is_name_here};
+use parse_shared::lexemes::{advance, escaped_word_stands, is_name_here, stands};
 use parse_shared::nested::Nested;
 use parse_shared::nodes::{make_name, make_one, make_two};
 use parse_shared::semicolon::end_statement;
 use parse_shared::{NodeId, NodeKind, Op, ParserConfig, ParserImpl, Stop};
 
-/// A StatementListItem (ECMA-262, section 14.2): a Statement, a declaration of a function, or a LexicalDeclaration.
+/// A StatementListItem (ECMA-262, section 14.2): a Statement, a declaration of a function or of a class, or a
+/// LexicalDeclaration.
 /// Reads: ListItem.
 pub fn parse_statement_list_item<C: ParserConfig, N: Sequences<C>>(
     p: &mut ParserImpl<'_, C>,
@@ -44,6 +46,9 @@ pub fn parse_statement_list_item<C: ParserConfig, N: Sequences<C>>(
     }
     if function_stands(p)? {
         return parse_function_declaration(p, nested);
+    }
+    if stands(p, Kind::Class) {
+        return parse_class_declaration(p, nested);
     }
     parse_any_statement(p, nested)
 }
@@ -65,10 +70,13 @@ pub fn parse_statement<C: ParserConfig, N: Sequences<C>>(
     if function_stands(p)? {
         return parse_function_as_body(p, nested);
     }
+    if stands(p, Kind::Class) {
+        return parse_class_as_body(p, nested);
+    }
     parse_any_statement(p, nested)
 }
 
-/// A Statement, wherever it stands, where no LexicalDeclaration and no function does: by the lexeme that it begins with; a
+/// A Statement, wherever it stands, where no LexicalDeclaration, no function and no class does: by the lexeme that it begins with; a
 /// LabelledStatement or an ExpressionStatement where that is none of a statement's own.
 /// Reads: Statement.
 fn parse_any_statement<C: ParserConfig, N: Sequences<C>>(
@@ -80,6 +88,7 @@ fn parse_any_statement<C: ParserConfig, N: Sequences<C>>(
     requires allows_in { has_flag in_flag p.old.ctx ≡ true }
     requires other { StandsHere p.old Const false }
     requires no_function { NoFunctionHere p.old }
+    requires no_class { StandsHere p.old Class false }
     ensures { TakesUndeclared p.old p.new result }
 {
     if escaped_word_stands(p) {

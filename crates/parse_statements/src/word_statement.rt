@@ -1,8 +1,8 @@
 //! Statements that begin with a word and end with a semicolon: `break`, `continue`, `return`, `throw` and `debugger` (ECMA-262,
 //! sections 14.8, 14.9, 14.10, 14.14 and 14.16).
 
-ghost use Rattle.std.specs.Prelude.{◌≡◌, true, false, IfOk};
-ghost use Rattle.parse_statements.specs.Prelude.{Break, CanNest, ChecksOperand, ChecksReturn, Continue, Debugger, goal, has_flag, in_flag, is_textual, IsAt, JumpsHere, late_operand, Mark, Return, room, Standing, StandsHere, stray_return, TakesAnywhere, TakesArgument, TakesLabel, Throw};
+ghost use Rattle.std.specs.Prelude.{◌≡◌, Bool, true, false, IfOk};
+ghost use Rattle.parse_statements.specs.Prelude.{Break, CanNest, ChecksOperand, ChecksReturn, Continue, Debugger, fault_of_return, goal, has_flag, in_flag, is_textual, IsAt, JumpsHere, late_operand, Mark, Return, room, Standing, StandsHere, stray_return, TakesAnywhere, TakesArgument, TakesLabel, Throw};
 
 use js_base::{DiagnosticKind, NoMemory, Span};
 use parse_control::sequences::Sequences;
@@ -159,11 +159,24 @@ fn parse_optional_argument<C: ParserConfig, N: Sequences<C>>(
 /// Tells of a `return` in no function's body, which stood at a span.
 fn check_return<C: ParserConfig>(p: &mut ParserImpl<'_, C>, word: Span) -> Result<(), NoMemory>
     requires at { IsAt p.old }
-    requires mark { Mark (goal p.old) p.old.text (stray_return word) }
+    requires mark { (b : Bool) → Mark (goal p.old) p.old.text (stray_return b word) }
     ensures { IfOk result (λ _. ChecksReturn word p.old p.new) }
 {
     if !p.ctx.has_return() {
-        p.error(diagnostic_at(DiagnosticKind::ReturnStatementOnlyInFunctionBody, word))?;
+        let kind = return_fault(p.ctx.has_new_target());
+        p.error(diagnostic_at(kind, word))?;
     }
     Ok(())
+}
+
+/// What is told of a `return` in no function's body: where `new.target` may stand, it is in a static block of a class
+/// (ECMA-262, section 15.7).
+fn return_fault(in_block: bool) -> DiagnosticKind
+    ensures { result ≡ fault_of_return in_block }
+{
+    if in_block {
+        DiagnosticKind::ReturnStatementInClassStaticBlock
+    } else {
+        DiagnosticKind::ReturnStatementOnlyInFunctionBody
+    }
 }

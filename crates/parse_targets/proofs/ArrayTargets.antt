@@ -61,7 +61,7 @@ raised f {l} {cs} d = record { label = l; slots = cs; derived = of_such ((of_ass
 
 by_array : (f : Flags) {ts : Slots} {i j : ℕ} {x : Lexeme} {ls rest : Lexemes} → IsTrue (seen (is LBrack) x) → Takes rule (seq (literal_items f) (tok RBrack)) end ts x.to ls end j rest → Arrayed f i (next x ls) j rest
 unfolding rule rule_of
-by_array f q d = record { label = _; slots = _; array = refl; derived = is_right (is_right (is_right (is_right (is_right (is_right (is_right (is_right (is_right (is_right (is_left (is_node (is_seq (is_lexeme q) d)))))))))))) }
+by_array f q d = record { label = _; slots = _; array = refl; derived = is_right (is_right (is_right (is_right (is_right (is_right (is_right (is_right (is_right (is_right (is_right (is_left (is_node (is_seq (is_lexeme q) d))))))))))))) }
 
 pub spread_one : (f : Flags) {i j : ℕ} {x : Lexeme} {ls rest : Lexemes} → IsTrue (seen (is Dot3) x) → One (at Assignment (plus_in f)) x.to ls j rest → One (at Argument f) i (next x ls) j rest
 unfolding rule rule_of

@@ -322,7 +322,7 @@ module _ {f : Flags} {l : Label} {cs : Slots} {i j : ℕ} {ls rest : Lexemes} wh
 
   by_parens : Takes rule (paren_expression f) end (tree l cs end) i ls end j rest → Takes rule (such (at LeftHandSide f) always) end (tree l cs end) i ls end j rest
   unfolding rule rule_of
-  by_parens d = by_primary (is_right (is_right (is_right (is_right (is_right (is_right (is_right (is_right (is_right (is_right (is_right (is_left d))))))))))))
+  by_parens d = by_primary (is_right (is_right (is_right (is_right (is_right (is_right (is_right (is_right (is_right (is_right (is_right (is_right (is_left d)))))))))))))
 
 -- ---- the target of a tree
 
@@ -518,7 +518,7 @@ may_array k h = may_literal k (array_literal k h)
 
 pub by_brackets : {f : Flags} {l : Label} {cs : Slots} {i j : ℕ} {ls rest : Lexemes} → Takes rule (array_line f) end (tree l cs end) i ls end j rest → Takes rule (rule (at Primary f)) end (tree l cs end) i ls end j rest
 unfolding rule rule_of
-by_brackets d = is_right (is_right (is_right (is_right (is_right (is_right (is_right (is_right (is_right (is_right (is_left d))))))))))
+by_brackets d = is_right (is_right (is_right (is_right (is_right (is_right (is_right (is_right (is_right (is_right (is_right (is_left d)))))))))))
 
 pub by_braces : (f : Flags) {l : Label} {cs : Slots} {i j : ℕ} {ls rest : Lexemes} → Takes rule (rule (at Object f)) end (tree l cs end) i ls end j rest → Takes rule (rule (at Primary f)) end (tree l cs end) i ls end j rest
 unfolding rule rule_of

@@ -75,3 +75,15 @@ parse_body-requires-clause-at t c = ready_at c.args.what c.requires.at
 
 pub parse_body-requires-clause-allows_in : goal.parse_body-requires-clause-allows_in
 parse_body-requires-clause-allows_in t c = (subst (λ (g : Nonterminal). Ready g c.args.p.now) c.in-Body.is c.requires.at).1
+
+pub returns-in-LeftHandSide : goal.returns-in-LeftHandSide
+returns-in-LeftHandSide t c = rw (c.in-LeftHandSide.is) c.parse_left_hand_side.ensures
+
+pub parse_left_hand_side-requires-clause-at : goal.parse_left_hand_side-requires-clause-at
+parse_left_hand_side-requires-clause-at t c = ready_at c.args.what c.requires.at
+
+pub returns-in-ClassBody : goal.returns-in-ClassBody
+returns-in-ClassBody t c = rw (c.in-ClassBody.is) c.parse_class_body.ensures
+
+pub parse_class_body-requires-clause-at : goal.parse_class_body-requires-clause-at
+parse_class_body-requires-clause-at t c = ready_at c.args.what c.requires.at

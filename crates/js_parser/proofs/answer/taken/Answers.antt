@@ -6,9 +6,7 @@ use Rattle.js_cursor.specs.js_lex.States.{State}
 use Rattle.js_tree.specs.Nodes.{Node, program_node}
 use Rattle.js_tree.specs.Holding.{HoldsAll, IsTree, program_tree, with_program}
 use Rattle.js_base.specs.declared.diagnostic.Diagnostic.{Diagnostic}
-use Rattle.std.specs.List.{All}
-use Rattle.js_base.specs.Spans.{LiesIn}
-use Rattle.js_parser.proofs.NodeSpans.{spans_lie}
+use Rattle.js_core.specs.laws_shared.States.{NodesLie}
 use Rattle.js_cursor.specs.Parsers.{Parser}
 use Rattle.js_parser.specs.Broken.{told_in}
 use Rattle.js_parser.specs.declared.early.Position.TheVariants.{Anywhere}
@@ -34,5 +32,5 @@ returns-clause-kept c = λ text s o asks h. taken_kept _ c.finish-kept.result c.
 
 pub early_errors-requires : goal.early_errors-requires
 early_errors-requires c =
-    subst (λ (w : List ℕ). All (λ (n : Node). LiesIn n.span w) c.in_ok-tree.tree) (sym (ap (λ (q : Parser). q.text) c.p.view_is))
-    (spans_lie _ _ (nodes_lie c.new-span.result c.in_ok-tree.tree c.new-span.ensures.start (c.new-span.ensures.end ∙ (c.end.ensures ∙ ap (λ (t : Token). t.span.end) c.cur_token.ensures)) (c.in_ok-tree.ensures.nodes ∙ ap (λ (ns : List Node). with_program (program_node c.new-span.result c.args.items.items) ns) c.into_parts-parts.ensures.ast) c.requires.at c.requires.lie))
+    subst (λ (w : List ℕ). NodesLie w c.in_ok-tree.tree) (sym (ap (λ (q : Parser). q.text) c.p.view_is))
+    (nodes_lie c.new-span.result c.in_ok-tree.tree c.new-span.ensures.start (c.new-span.ensures.end ∙ (c.end.ensures ∙ ap (λ (t : Token). t.span.end) c.cur_token.ensures)) (c.in_ok-tree.ensures.nodes ∙ ap (λ (ns : List Node). with_program (program_node c.new-span.result c.args.items.items) ns) c.into_parts-parts.ensures.ast) c.requires.at c.requires.lie)

@@ -42,7 +42,7 @@ check_return-requires-clause-mark g c =
     let a = c.requires.at in
     let m = c.in_ok-advance.ensures _ _ a in
     let i = in_of a c.requires.allows_in in
-    stray_marked _ a c.requires.word (c.span-word.ensures ∙ ap (λ (t : Token). t.span) c.cur_token.ensures) (same_both (return_same a c.requires.word m i c.parse_optional_argument.new.p c.in_ok-argument.argument c.in_ok-argument.ensures) (ended_so (return_at a c.requires.word m i c.parse_optional_argument.new.p c.in_ok-argument.argument c.in_ok-argument.ensures) c.in_ok-end_statement.ensures).same)
+    λ b. stray_marked b _ a c.requires.word (c.span-word.ensures ∙ ap (λ (t : Token). t.span) c.cur_token.ensures) (same_both (return_same a c.requires.word m i c.parse_optional_argument.new.p c.in_ok-argument.argument c.in_ok-argument.ensures) (ended_so (return_at a c.requires.word m i c.parse_optional_argument.new.p c.in_ok-argument.argument c.in_ok-argument.ensures) c.in_ok-end_statement.ensures).same)
 
 pub end_span-span-requires : goal.end_span-span-requires
 end_span-span-requires g c =

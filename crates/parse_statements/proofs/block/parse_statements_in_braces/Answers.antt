@@ -12,7 +12,7 @@ use Rattle.parse_shared.proofs.laws_shared.Nesting.{nested_room, nests_later}
 use Rattle.parse_shared.proofs.laws_shared.Verdicts.{grown_then}
 use Rattle.parse_shared.proofs.laws_shared.Expected.{unexpected, expected}
 use Rattle.parse_control.proofs.laws_statements.Blocks.{braces_taken, braces_unclosed, closed_by, list_refused, unopened}
-use Rattle.parse_statements.proofs.block.parse_braces.Goals as goal
+use Rattle.parse_statements.proofs.block.parse_statements_in_braces.Goals as goal
 
 pub returns-in_err-expect : goal.returns-in_err-expect
 returns-in_err-expect t c =

@@ -1,0 +1,75 @@
+//! Class bodies (ECMA-262, section 15.7).
+
+ghost use Rattle.std.specs.Prelude.{◌≡◌, ◌+◌, MatchResult};
+ghost use Rattle.parse_classes.specs.Prelude.{AllElements, Answers, at, Block, CanNest, ClassBody, ends_list, NoElements, ReadsElement, room, Standing};
+
+use crate::element::parse_class_element;
+use js_base::Kind;
+use parse_shared::lexemes::advance;
+use parse_shared::nodes::make_list;
+use parse_shared::{NodeId, NodeKind, Op, ParserConfig, ParserImpl, Stop};
+use parse_statements::sequences::Sequences;
+
+/// A ClassBody in its braces (ECMA-262, section 15.7).
+/// Reads: ClassBody.
+pub fn parse_class_body<C: ParserConfig, N: Sequences<C>>(
+    p: &mut ParserImpl<'_, C>,
+    nested: &N,
+) -> Result<NodeId, Stop>
+    requires at { Standing p.old }
+    requires nests { CanNest (N.can nested.now) (room p.old) }
+    ensures { Answers (at ClassBody) p.old p.new result }
+{
+    let start = p.cur_start();
+    let opening = p.cur_token().span();
+    p.expect(Kind::LCurly)?;
+    let elements = parse_elements(p, nested)?;
+    p.expect_closing(Kind::RCurly, opening)?;
+    let span = p.end_span(start);
+    let node = make_list(p, NodeKind::ClassBody, Op::None, span, elements)?;
+    Ok(node)
+}
+
+/// The elements of a class up to its closing brace, or as far as the text's end, or to where no lexeme stands. Semicolons
+/// alone are passed.
+fn parse_elements<C: ParserConfig, N: Sequences<C>>(
+    p: &mut ParserImpl<'_, C>,
+    nested: &N,
+) -> Result<Vec<Option<NodeId>>, Stop>
+    requires at { Standing p.old }
+    requires nests { CanNest (N.can nested.now) (room p.old + 1) }
+    ensures { MatchResult result (λ v. AllElements p.old p.new v.items) (λ e. NoElements p.old p.new e) }
+{
+    let mut elements = Vec::new(p.alloc);
+    'elements: while !ends_class(p.cur_kind()) {
+        if p.at(Kind::Semicolon) {
+            advance(p)?;
+        } else {
+            let element = parse_undecorated_element(p, nested)?;
+            elements.push(Some(element))?;
+        }
+    }
+    Ok(elements)
+}
+
+/// Whether such a lexeme closes a class, or none is left.
+fn ends_class(kind: Kind) -> bool
+    ensures { result ≡ ends_list Block kind }
+{
+    matches!(kind, Kind::RCurly | Kind::Eof | Kind::Undetermined)
+}
+
+/// A ClassElement (ECMA-262, section 15.7). Where a decorator begins, none is read.
+fn parse_undecorated_element<C: ParserConfig, N: Sequences<C>>(
+    p: &mut ParserImpl<'_, C>,
+    nested: &N,
+) -> Result<NodeId, Stop>
+    requires at { Standing p.old }
+    requires nests { CanNest (N.can nested.now) (room p.old + 1) }
+    ensures { ReadsElement p.old p.new result }
+{
+    if p.at(Kind::At) {
+        return Err(p.set_unexpected());
+    }
+    parse_class_element(p, nested)
+}

@@ -1,0 +1,77 @@
+use Rattle.std.proofs.Common.{ℕ, ◌≡◌, ◌∙◌, List, Option, ap, arith, get_or, refl, sym, ◌∷◌, []}
+use Rattle.std.proofs.lemmas.List.{get_or_push}
+use Rattle.std.proofs.lemmas.Result.{err_from_is_err_and}
+use Rattle.js_base.specs.declared.kind.Kind.TheVariants.{Class}
+use Rattle.js_grammar.specs.Trees.{Label}
+use Rattle.laws_primary.specs.js_cursor.Parsers.{Parser}
+use Rattle.laws_primary.specs.js_tree.Labels.{kind_of}
+use Rattle.laws_primary.specs.js_tree.Nodes.{Node, empty_program, label, node_at}
+use Rattle.laws_primary.specs.js_tree.declared.id.NodeId.{NodeId}
+use Rattle.laws_primary.specs.laws_shared.Moves.{MadeHere}
+use Rattle.laws_primary.proofs.laws_shared.Moving.{standing}
+use Rattle.laws_primary.proofs.laws_shared.Nesting.{nests_later}
+use Rattle.laws_primary.proofs.laws_shared.Signs.{whole_sign}
+use Rattle.laws_primary.proofs.Functions.{room_less}
+use Rattle.laws_primary.proofs.Classes.{body_stops, class_answers, embodied, inherited, inheriting_stops, name_stops, named}
+use Rattle.parse_primary.proofs.class.parse_class.Goals as goal
+
+-- the kind of a node that was made
+made_kind : {l : Label} {ids : List (Option NodeId)} {p q : Parser} {id : NodeId} → MadeHere l ids p q id → kind_of (node_at q.nodes id).kind ≡ l.kind
+made_kind {l} {ids} {p} {q} {id} m =
+    let at : node_at q.nodes id ≡ m.node = ap (λ (ns : List Node). get_or ns id.0 empty_program) m.made.nodes ∙ get_or_push p.nodes m.node empty_program id.0 (sym m.made.number) in
+    ap (λ (v : Label). v.kind) (ap label at ∙ m.label_is)
+
+pub advance-requires-clause-whole : goal.advance-requires-clause-whole
+advance-requires-clause-whole g c = whole_sign Class c.requires.at c.requires.word.0 refl refl
+
+pub parse_class_name-requires : goal.parse_class_name-requires
+parse_class_name-requires g c = standing (c.in_ok-advance.ensures _ _ c.requires.at).at
+
+pub returns-in_err-name-clause-taken : goal.returns-in_err-name-clause-taken
+returns-in_err-name-clause-taken g c = λ text f a.
+    let p = err_from_is_err_and c.from_residual-in_err-name.result c.from_residual-in_err-name.ensures.1 in
+    rw (p.1, p.2) (name_stops c.args.form a c.requires.word (c.in_ok-advance.ensures text f a) _ _ c.in_err-name.ensures)
+
+pub parse_heritage-requires-clause-at : goal.parse_heritage-requires-clause-at
+parse_heritage-requires-clause-at g c = standing (named c.args.form c.requires.at c.requires.word (c.in_ok-advance.ensures _ _ c.requires.at) _ c.in_ok-name.name c.in_ok-name.ensures).at
+
+pub parse_heritage-requires-clause-nests : goal.parse_heritage-requires-clause-nests
+parse_heritage-requires-clause-nests g c =
+    let x = named c.args.form c.requires.at c.requires.word (c.in_ok-advance.ensures _ _ c.requires.at) _ c.in_ok-name.name c.in_ok-name.ensures in
+    nests_later c.requires.nests (let l = room_less c.requires.at x.further x.same in omega arith)
+
+pub returns-in_err-heritage-clause-taken : goal.returns-in_err-heritage-clause-taken
+returns-in_err-heritage-clause-taken g c = λ text f a.
+    let p = err_from_is_err_and c.from_residual-in_err-heritage.result c.from_residual-in_err-heritage.ensures.1 in
+    let x = named c.args.form a c.requires.word (c.in_ok-advance.ensures text f a) _ c.in_ok-name.name c.in_ok-name.ensures in
+    rw (p.1, p.2) (inheriting_stops c.args.form c.in_ok-name.name x _ _ c.in_err-heritage.ensures)
+
+pub class_body-requires : goal.class_body-requires
+class_body-requires g c =
+    let x = named c.args.form c.requires.at c.requires.word (c.in_ok-advance.ensures _ _ c.requires.at) _ c.in_ok-name.name c.in_ok-name.ensures in
+    let y = inherited c.args.form c.in_ok-name.name x _ c.in_ok-heritage.heritage c.in_ok-heritage.ensures in
+    c.requires.nests _ _ (standing y.at) (room_less c.requires.at y.further y.same)
+
+pub returns-in_err-body-clause-taken : goal.returns-in_err-body-clause-taken
+returns-in_err-body-clause-taken g c = λ text f a.
+    let p = err_from_is_err_and c.from_residual-in_err-body.result c.from_residual-in_err-body.ensures.1 in
+    let x = named c.args.form a c.requires.word (c.in_ok-advance.ensures text f a) _ c.in_ok-name.name c.in_ok-name.ensures in
+    let y = inherited c.args.form c.in_ok-name.name x _ c.in_ok-heritage.heritage c.in_ok-heritage.ensures in
+    rw (p.1, p.2) (body_stops c.args.form (c.in_ok-name.name ∷ c.in_ok-heritage.heritage ∷ []) y _ _ (c.in_err-body.ensures text f y.at))
+
+pub make_class-requires : goal.make_class-requires
+make_class-requires g c =
+    let x = named c.args.form c.requires.at c.requires.word (c.in_ok-advance.ensures _ _ c.requires.at) _ c.in_ok-name.name c.in_ok-name.ensures in
+    let y = inherited c.args.form c.in_ok-name.name x _ c.in_ok-heritage.heritage c.in_ok-heritage.ensures in
+    let z = embodied c.args.form (c.in_ok-name.name ∷ c.in_ok-heritage.heritage ∷ []) y (c.in_ok-body.ensures _ _ y.at) in
+    let i = z.further in let s = c.cur_start-start.ensures in omega arith
+
+pub returns-clause-taken : goal.returns-clause-taken
+returns-clause-taken g c = λ text f a.
+    let x = named c.args.form a c.requires.word (c.in_ok-advance.ensures text f a) _ c.in_ok-name.name c.in_ok-name.ensures in
+    let y = inherited c.args.form c.in_ok-name.name x _ c.in_ok-heritage.heritage c.in_ok-heritage.ensures in
+    let z = embodied c.args.form (c.in_ok-name.name ∷ c.in_ok-heritage.heritage ∷ []) y (c.in_ok-body.ensures text f y.at) in
+    class_answers c.args.form a z c.cur_start-start.ensures c.in_ok-node.ensures
+
+pub returns-clause-kind : goal.returns-clause-kind
+returns-clause-kind g c = made_kind c.in_ok-node.ensures
