@@ -4,12 +4,15 @@ pub mod AsyncMethods
 pub mod AsyncWords
 pub mod ClassOperands
 pub mod Classes
+pub mod Decorated
+pub mod DecoratedClasses
 pub mod DecoratedNodes
 pub mod DecoratorLists
 pub mod Decorators
 pub mod FlagFaults
 pub mod Functions
 pub mod Intrinsics
+pub mod KeptSlots
 pub mod Links
 pub mod MadeAs
 pub mod Marking
