@@ -5,6 +5,7 @@ pub mod AsyncWords
 pub mod ClassOperands
 pub mod Classes
 pub mod Decorators
+pub mod DecoratorMembers
 pub mod FlagFaults
 pub mod Functions
 pub mod Intrinsics
