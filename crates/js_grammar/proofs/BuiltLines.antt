@@ -2,7 +2,8 @@
 use Rattle.std.proofs.Common.{ℕ, ◌≡◌, true, not, IsTrue, refl}
 use Rattle.js_grammar.specs.Trees.{Slots, Tree, Label, end, tree}
 use Rattle.js_grammar.specs.Grammar.{Lexemes, last, next, here, Look, seen, alt, Takes, Derives, is_nothing, is_lexeme, is_look, is_text, is_ahead, is_empty_slot, is_seq, is_left, is_right, is_when, is_many, is_commas, is_such, is_marked, is_node, is_ended, is_keep, is_kept}
-use Rattle.js_grammar.specs.Productions.{G, Flags, Name, Symbol, Program}
+use Rattle.js_grammar.specs.Productions.{G, Flags, Name, Symbol, Item, ExportDecl, ImportDecl}
+use Rattle.js_grammar.specs.Productions.{sym as symbol}
 use Rattle.js_grammar.specs.Table.{rule, rule_of, unbuilt_of, whole}
 use Rattle.js_grammar.specs.FirstSets.{first}
 use Rattle.js_grammar.specs.TableLaws.{begins_unbuilt, BeginNoUnbuilt, BuiltInWhole}
@@ -40,21 +41,38 @@ none_here : (ls : Lexemes) → BeginNoUnbuilt ls → IsTrue (seen begins_none (h
 none_here (last x) c = c
 none_here (next x ls) c = c.0
 
--- computed for each nonterminal
-unbuilt_begins : (n : Name) (f : Flags) → apart (starts first (unbuilt_of n f) full) begins_none ≡ true
-unfolding unbuilt_of apart
-unbuilt_begins Program f = refl
-unbuilt_begins n f = refl
-
-unbuilt_away : (n : Symbol) {ks ts us : Slots} {i j : ℕ} {ls rest : Lexemes} → Takes rule (unbuilt_of n.name n.flags) ks ts i ls us j rest → BeginNoUnbuilt ls → ⊥
-unbuilt_away n {ls = ls} d c = not_both (starts first (unbuilt_of n.name n.flags) full) begins_none (unbuilt_begins n.name n.flags) _ _ _ (starting firsts full d refl) (none_here ls c)
-
 stays : {r : Symbol → G} {g : G} {ks ts us : Slots} {i j : ℕ} {ls rest : Lexemes} → Takes r g ks ts i ls us j rest → BeginNoUnbuilt ls → BeginNoUnbuilt rest
 stays d c = left_behind BeginNoUnbuilt (λ x ls h. h.1) d c
 
+-- what begins with another lexeme isn't derived
+away : (g : G) → apart (starts first g full) begins_none ≡ true → {ks ts us : Slots} {i j : ℕ} {ls rest : Lexemes} → Takes rule g ks ts i ls us j rest → BeginNoUnbuilt ls → ⊥
+away g a {ls = ls} d c = not_both (starts first g full) begins_none a _ _ _ (starting firsts full d refl) (none_here ls c)
+
+-- nor is an export: its word may stand behind decorators
+no_export : (f : Flags) {ks ts us : Slots} {i j : ℕ} {ls rest : Lexemes} → Takes rule (rule_of ExportDecl f) ks ts i ls us j rest → BeginNoUnbuilt ls → ⊥
+unfolding rule_of apart
+no_export f (is_left d) c = away _ refl d c
+no_export f (is_right (is_left d)) c = away _ refl d c
+no_export f (is_right (is_right (is_left d))) c = away _ refl d c
+no_export f (is_right (is_right (is_right (is_left d)))) c = away _ refl d c
+no_export f (is_right (is_right (is_right (is_right (is_left (is_keep d e)))))) c = away _ refl e (stays d c)
+no_export f (is_right (is_right (is_right (is_right (is_right (is_left d)))))) c = away _ refl d c
+no_export f (is_right (is_right (is_right (is_right (is_right (is_right (is_keep d e))))))) c = away _ refl e (stays d c)
+
+no_module_item : (f : Flags) {ks ts us : Slots} {i j : ℕ} {ls rest : Lexemes} → Takes rule (unbuilt_of Item f) ks ts i ls us j rest → BeginNoUnbuilt ls → ⊥
+unfolding rule unbuilt_of apart
+no_module_item f (is_when q (is_left d)) c = away (symbol ImportDecl f) refl d c
+no_module_item f (is_when q (is_right (is_such d t))) c = no_export f d c
+
+-- so with each nonterminal, by computing
+unbuilt_away : (n : Name) (f : Flags) {ks ts us : Slots} {i j : ℕ} {ls rest : Lexemes} → Takes rule (unbuilt_of n f) ks ts i ls us j rest → BeginNoUnbuilt ls → ⊥
+unfolding unbuilt_of apart
+unbuilt_away Item f d c = no_module_item f d c
+unbuilt_away n f d c = away (unbuilt_of n f) refl d c
+
 built_line : (n : Symbol) {cs : Slots} {l : Label} {i j : ℕ} {ls rest : Lexemes} → BeginNoUnbuilt ls → Takes rule (alt (rule_of n.name n.flags) (unbuilt_of n.name n.flags)) end (tree l cs end) i ls end j rest → Takes rule (rule_of n.name n.flags) end (tree l cs end) i ls end j rest
 built_line n c (is_left d) = d
-built_line n c (is_right d) = absurd (unbuilt_away n d c)
+built_line n c (is_right d) = absurd (unbuilt_away n.name n.flags d c)
 
 back_to_built : {g : G} {ks ts us : Slots} {i j : ℕ} {ls rest : Lexemes} → Takes whole g ks ts i ls us j rest → BeginNoUnbuilt ls → Takes rule g ks ts i ls us j rest
 unfolding rule whole

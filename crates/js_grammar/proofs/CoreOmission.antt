@@ -236,7 +236,7 @@ unfolding covers
 to_lexemes true = refl
 to_lexemes false = refl
 
-one_truth : (a b : Bool) → (a ≡ true → b ≡ true) → (b ≡ true → a ≡ true) → a ≡ b
+pub one_truth : (a b : Bool) → (a ≡ true → b ≡ true) → (b ≡ true → a ≡ true) → a ≡ b
 one_truth true b f g = sym (f refl)
 one_truth false true f g = g refl
 one_truth false false f g = refl

@@ -12,7 +12,7 @@ use Rattle.js_grammar.specs.Productions.{Name, Symbol, Program, Directive, Item,
 
 -- Expressions, from primary ones to those that may be `#name in ..`.
 abbrev pub begins_primary : Kind → Bool
-begins_primary k = may_bind k || (is_number k || one_of_kinds ('this' ∷ 'null' ∷ 'true' ∷ 'false' ∷ Str ∷ RegExp ∷ LParen ∷ LBrack ∷ LCurly ∷ 'function' ∷ 'class' ∷ NoSubstitutionTemplate ∷ TemplateHead ∷ Percent ∷ []) k)
+begins_primary k = may_bind k || (is_number k || one_of_kinds ('this' ∷ 'null' ∷ 'true' ∷ 'false' ∷ Str ∷ RegExp ∷ LParen ∷ LBrack ∷ LCurly ∷ At ∷ 'function' ∷ 'class' ∷ NoSubstitutionTemplate ∷ TemplateHead ∷ Percent ∷ []) k)
 
 abbrev pub begins_member : Kind → Bool
 begins_member k = begins_primary k || one_of_kinds ('new' ∷ 'super' ∷ []) k
@@ -28,7 +28,7 @@ abbrev pub begins_statement : Kind → Bool
 begins_statement k = may_bind k || one_of_kinds (LCurly ∷ Semicolon ∷ 'var' ∷ 'if' ∷ 'do' ∷ 'while' ∷ 'with' ∷ 'for' ∷ 'continue' ∷ 'break' ∷ 'return' ∷ 'throw' ∷ 'switch' ∷ 'try' ∷ 'debugger' ∷ []) k
 
 abbrev pub begins_expression_statement : Kind → Bool
-begins_expression_statement k = begins_expression k && not (one_of_kinds (LCurly ∷ 'function' ∷ 'class' ∷ []) k)
+begins_expression_statement k = begins_expression k && not (one_of_kinds (LCurly ∷ 'function' ∷ 'class' ∷ At ∷ []) k)
 
 -- what a name of a property or of a class element begins with
 abbrev pub begins_property_name : Kind → Bool
@@ -76,11 +76,11 @@ first_of Param k = begins_binding k
 first_of Rest k = same_kind Dot3 k
 first_of Body k = same_kind LCurly k
 first_of Arrow' k = may_bind k || one_of_kinds (LParen ∷ 'async' ∷ []) k
-first_of Class k = same_kind 'class' k
-first_of ClassExpr k = same_kind 'class' k
+first_of Class k = one_of_kinds ('class' ∷ At ∷ []) k
+first_of ClassExpr k = one_of_kinds ('class' ∷ At ∷ []) k
 first_of ClassBody k = same_kind LCurly k
-first_of Element k = begins_property_name k || same_kind Star k
-first_of Decorator k = false
+first_of Element k = begins_property_name k || one_of_kinds (At ∷ Star ∷ []) k
+first_of Decorator k = same_kind At k
 first_of DecoratorMember k = may_bind k
 first_of Object k = same_kind LCurly k
 first_of Property k = begins_property_name k || one_of_kinds (Star ∷ Dot3 ∷ []) k

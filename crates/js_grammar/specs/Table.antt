@@ -247,8 +247,8 @@ rule_of Element f = each (λ st. each (λ c. element method_definition method_op
     ◇ element accessor_property no_op st c f (tok 'accessor' ▸ no_newline ▸ field c false false f)))
     ◇ element method_definition constructor_op false false f (plain_method named_constructor false true f)
     ◇ mk static_block (tok 'static' ▸ braces (many (sym ListItem (static_of f))))
--- no Decorator: its line stands among those that aren't built
-rule_of Decorator f = if_next (λ k w e. false)
+-- Decorator (of the proposal Decorators; no section of ECMA-262)
+rule_of Decorator f = mk decorator (tok At ▸ (sym DecoratorMember f ◇ mk call_expression (sym DecoratorMember f ▸ args f) ◇ paren_expression f))
 -- DecoratorMemberExpression (of the proposal)
 rule_of DecoratorMember f = sym IdentifierReference f ◇ mk static_member_expression (sym DecoratorMember f ▸ tok Dot ▸ sym IdentifierName f) ◇ mk private_field_expression (sym DecoratorMember f ▸ tok Dot ▸ sym PrivateName f)
 -- ObjectLiteral (13.2.5)
@@ -390,11 +390,9 @@ rule_of ExportDecl f = mk export_all_declaration (tok 'export' ▸ tok Star ▸ 
 -- The head of an arrow function with its parameters in parentheses, before what stands behind `=>` is looked at (CoverParenthesizedExpressionAndArrowParameterList, 13.2; CoverCallExpressionAndAsyncArrowHead, 13.3): a newline may stand before `=>`.
 rule_of LooseHead f = each (λ a. only a (tok 'async' ▸ no_newline) ▸ sym Params (record f { await_ = f.await_ || a }) ▸ tok Arrow)
 
--- The lines of the language that no parse function reads yet, beside those above: those that begin with `import`, `export` and decorators.
+-- The lines of the language that no parse function reads yet, beside those above: those that begin with `import` and `export`.
 unfoldable pub unbuilt_of : Name → Flags → G
 unbuilt_of Item f = when f.module_goal (sym ImportDecl f ◇ sym ExportDecl f)  -- ModuleItem (16.2)
--- Decorator (of the proposal Decorators; no section of ECMA-262)
-unbuilt_of Decorator f = mk decorator (tok At ▸ (sym DecoratorMember f ◇ mk call_expression (sym DecoratorMember f ▸ args f) ◇ paren_expression f))
 unbuilt_of Member f = when f.module_goal (mk import_meta (tok 'import' ▸ tok Dot ▸ tok 'meta'))  -- ImportMeta (13.3)
 -- ImportCall (13.3)
 unbuilt_of Call f = mk import_expression (tok 'import' ▸ parens (sym Assignment (plus_in f) ▸ slot (tok Comma ▸ sym Assignment (plus_in f)) ▸ opt (tok Comma)))

@@ -1,7 +1,7 @@
 -- Laws of the table as a whole: of the productions that are built, and how they lie in all.
 use Rattle.std.specs.Prelude.{ℕ, List, [], ◌∷◌, Bool, not, ◌≡◌, IsTrue}
 use Rattle.js_base.specs.declared.kind.Kind.{Kind}
-use Rattle.js_base.specs.declared.kind.Kind.TheVariants.{At, RCurly, Slash, RegExp, TemplateMiddle, TemplateTail}
+use Rattle.js_base.specs.declared.kind.Kind.TheVariants.{RCurly, Slash, RegExp, TemplateMiddle, TemplateTail}
 use Rattle.js_base.specs.Kinds.{one_of_kinds}
 use Rattle.js_grammar.specs.Words.{'import', 'export'}
 use Rattle.js_grammar.specs.Trees.{Tree, end, put}
@@ -42,7 +42,7 @@ OmissionEnds = (f : Flags) (t : Tree) (i j : ℕ) (ls rest : Lexemes) → Derive
 
 -- with what each line begins that isn't built
 abbrev pub begins_unbuilt : Kind → Bool
-begins_unbuilt k = one_of_kinds ('import' ∷ 'export' ∷ At ∷ []) k
+begins_unbuilt k = one_of_kinds ('import' ∷ 'export' ∷ []) k
 
 -- none of these lexemes begins such a line
 abbrev pub BeginNoUnbuilt : Lexemes → Type 0

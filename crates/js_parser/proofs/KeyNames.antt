@@ -24,17 +24,13 @@ use Rattle.js_tree.specs.declared.kind.NodeKind.TheVariants as node
 use Rattle.js_core.specs.laws_shared.NodeTexts.{NodeFits, Texted, IsKept, IsKeptPrivate}
 use Rattle.js_parser.specs.MemberNodes.{is_small}
 use Rattle.js_grammar.specs.EarlyRules.{is_named, is_private_constructor, same_value}
+use Rattle.js_grammar.proofs.CoreOmission.{one_truth}
 use Rattle.js_parser.proofs.Cooked.{feeds}
 
 -- ---- tests
 
-same_tests : (a b : Bool) → (a ≡ true → b ≡ true) → (b ≡ true → a ≡ true) → a ≡ b
-same_tests true b f g = sym (f refl)
-same_tests false true f g = absurd (false≢true (g refl))
-same_tests false false f g = refl
-
 same_lists : (xs ys zs : List ℕ) → (xs ≡ zs → ys ≡ zs) → (ys ≡ zs → xs ≡ zs) → bytes_eq xs zs ≡ bytes_eq ys zs
-same_lists xs ys zs f g = same_tests (bytes_eq xs zs) (bytes_eq ys zs) (λ e. (bytes_eq-Decides ys zs).1 (f ((bytes_eq-Decides xs zs).0 e))) (λ e. (bytes_eq-Decides xs zs).1 (g ((bytes_eq-Decides ys zs).0 e)))
+same_lists xs ys zs f g = one_truth (bytes_eq xs zs) (bytes_eq ys zs) (λ e. (bytes_eq-Decides ys zs).1 (f ((bytes_eq-Decides xs zs).0 e))) (λ e. (bytes_eq-Decides xs zs).1 (g ((bytes_eq-Decides ys zs).0 e)))
 
 -- ---- small letters stand for themselves
 

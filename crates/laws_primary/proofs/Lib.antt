@@ -4,6 +4,8 @@ pub mod AsyncMethods
 pub mod AsyncWords
 pub mod ClassOperands
 pub mod Classes
+pub mod DecoratedNodes
+pub mod DecoratorLists
 pub mod Decorators
 pub mod DecoratorMembers
 pub mod FlagFaults

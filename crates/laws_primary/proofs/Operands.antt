@@ -3,7 +3,7 @@ use Rattle.std.proofs.Common.{ℕ, ◌≡◌, List, [], ◌∷◌, length, Bool,
 use Rattle.std.specs.Prelude.{Result, Ok, Err, MatchResult, Option, is_some, if◌then◌else◌}
 use Rattle.std.proofs.lemmas.Bool.{false≢true, not-true}
 use Rattle.js_base.specs.declared.kind.Kind.{Kind}
-use Rattle.js_base.specs.declared.kind.Kind.TheVariants.{This, Null, True, False, Decimal, Float, Binary, Octal, Hex, PositiveExponential, NegativeExponential, DecimalBigInt, BinaryBigInt, OctalBigInt, HexBigInt, Str, RegExp, Slash, SlashEq, NoSubstitutionTemplate, TemplateHead, LParen, LBrack, LCurly, Percent, Class, Minus, Plus, Bang, Tilde, Typeof, Void, Delete, Function, RAngle}
+use Rattle.js_base.specs.declared.kind.Kind.TheVariants.{At as at_sign, This, Null, True, False, Decimal, Float, Binary, Octal, Hex, PositiveExponential, NegativeExponential, DecimalBigInt, BinaryBigInt, OctalBigInt, HexBigInt, Str, RegExp, Slash, SlashEq, NoSubstitutionTemplate, TemplateHead, LParen, LBrack, LCurly, Percent, Class, Minus, Plus, Bang, Tilde, Typeof, Void, Delete, Function, RAngle}
 use Rattle.js_base.specs.declared.operator.UnaryOperator.{UnaryOperator}
 use Rattle.js_base.specs.Kinds.{same_kind, one_of_kinds}
 use Rattle.js_base.specs.KindSets.{number_kinds, binding_identifier_kinds}
@@ -231,7 +231,7 @@ unary_answers {text} {f} {p} {q} {r} {w} {id} {arg} k o s h u a e n m x b c d =
 
 -- what a PrimaryExpression begins with that is no name
 abbrev pub primary_kinds : List Kind
-primary_kinds = This ∷ Null ∷ True ∷ False ∷ Str ∷ RegExp ∷ Slash ∷ SlashEq ∷ NoSubstitutionTemplate ∷ TemplateHead ∷ LParen ∷ LBrack ∷ Function ∷ LCurly ∷ Percent ∷ Class ∷ number_kinds
+primary_kinds = This ∷ Null ∷ True ∷ False ∷ Str ∷ RegExp ∷ Slash ∷ SlashEq ∷ NoSubstitutionTemplate ∷ TemplateHead ∷ LParen ∷ LBrack ∷ Function ∷ LCurly ∷ Percent ∷ Class ∷ at_sign ∷ number_kinds
 
 pub primary_fails : {text : List ℕ} {f : Flags} {p : Parser} → At text f p → may_name f.yield_ f.await_ p.token.kind ≡ false → one_of_kinds primary_kinds p.token.kind ≡ false → Underived text (at Primary f) p.prev_token_end
 unfolding rule rule_of covers apart
@@ -263,8 +263,8 @@ not_same a k b n = go (same_kind a k) refl
     go true e = absurd (n (sym (kind_of_same a k e)))
     go false e = refl
 
-pub none_of_these : (k : Kind) → (k ≡ This → ⊥) → (k ≡ Null → ⊥) → (k ≡ True → ⊥) → (k ≡ False → ⊥) → (k ≡ Str → ⊥) → (k ≡ RegExp → ⊥) → (k ≡ Slash → ⊥) → (k ≡ SlashEq → ⊥) → (k ≡ NoSubstitutionTemplate → ⊥) → (k ≡ TemplateHead → ⊥) → (k ≡ LParen → ⊥) → (k ≡ LBrack → ⊥) → (k ≡ Function → ⊥) → (k ≡ LCurly → ⊥) → (k ≡ Percent → ⊥) → (k ≡ Class → ⊥) → one_of_kinds number_kinds k ≡ false → one_of_kinds primary_kinds k ≡ false
-none_of_these k b c d e f x y z v w g j o u h i n = not_same This k _ b ∙ (not_same Null k _ c ∙ (not_same True k _ d ∙ (not_same False k _ e ∙ (not_same Str k _ f ∙ (not_same RegExp k _ x ∙ (not_same Slash k _ y ∙ (not_same SlashEq k _ z ∙ (not_same NoSubstitutionTemplate k _ v ∙ (not_same TemplateHead k _ w ∙ (not_same LParen k _ g ∙ (not_same LBrack k _ j ∙ (not_same Function k _ o ∙ (not_same LCurly k _ u ∙ (not_same Percent k _ h ∙ (not_same Class k _ i ∙ n)))))))))))))))
+pub none_of_these : (k : Kind) → (k ≡ This → ⊥) → (k ≡ Null → ⊥) → (k ≡ True → ⊥) → (k ≡ False → ⊥) → (k ≡ Str → ⊥) → (k ≡ RegExp → ⊥) → (k ≡ Slash → ⊥) → (k ≡ SlashEq → ⊥) → (k ≡ NoSubstitutionTemplate → ⊥) → (k ≡ TemplateHead → ⊥) → (k ≡ LParen → ⊥) → (k ≡ LBrack → ⊥) → (k ≡ Function → ⊥) → (k ≡ LCurly → ⊥) → (k ≡ Percent → ⊥) → (k ≡ Class → ⊥) → (k ≡ at_sign → ⊥) → one_of_kinds number_kinds k ≡ false → one_of_kinds primary_kinds k ≡ false
+none_of_these k b c d e f x y z v w g j o u h i s n = not_same This k _ b ∙ (not_same Null k _ c ∙ (not_same True k _ d ∙ (not_same False k _ e ∙ (not_same Str k _ f ∙ (not_same RegExp k _ x ∙ (not_same Slash k _ y ∙ (not_same SlashEq k _ z ∙ (not_same NoSubstitutionTemplate k _ v ∙ (not_same TemplateHead k _ w ∙ (not_same LParen k _ g ∙ (not_same LBrack k _ j ∙ (not_same Function k _ o ∙ (not_same LCurly k _ u ∙ (not_same Percent k _ h ∙ (not_same Class k _ i ∙ (not_same at_sign k _ s ∙ n))))))))))))))))
 
 abbrev numbers : Look
 numbers k w e = one_of_kinds number_kinds k

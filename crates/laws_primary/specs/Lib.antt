@@ -1,6 +1,7 @@
 pub mod Arrays
 pub mod Classes
 pub mod DecoratorMembers
+pub mod Decorators
 pub mod Functions
 pub mod Marked
 pub mod Members

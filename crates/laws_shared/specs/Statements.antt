@@ -1,7 +1,7 @@
 -- What the parse functions of statements answer (ECMA-262, chapter 14).
 use Rattle.std.specs.Prelude.{ℕ, ◌≡◌, ◌<◌, ◌⊎◌, Bool, true, false, not, ◌&&◌, List, [], ◌∷◌, length, Result, Ok, Err}
 use Rattle.js_base.specs.declared.kind.Kind.{Kind}
-use Rattle.js_base.specs.declared.kind.Kind.TheVariants.{Break, Class, Colon, Const, Continue, Debugger, Do, Dot, Else, For, Function, If, LCurly, QuestionDot, Return, Semicolon, Switch, Throw, Try, Var, While, With, Arrow}
+use Rattle.js_base.specs.declared.kind.Kind.TheVariants.{At as at_sign, Break, Class, Colon, Const, Continue, Debugger, Do, Dot, Else, For, Function, If, LCurly, QuestionDot, Return, Semicolon, Switch, Throw, Try, Var, While, With, Arrow}
 use Rattle.js_base.specs.Contexts.{has_flag, yield_flag, await_flag}
 use Rattle.js_base.specs.Kinds.{same_kind, one_of_kinds}
 use Rattle.js_base.specs.declared.span.Span.{Span}
@@ -27,7 +27,7 @@ link_kinds = Dot ∷ QuestionDot ∷ Arrow ∷ []
 
 -- These begin a statement, and neither an expression statement nor a label.
 abbrev pub statement_kinds : List Kind
-statement_kinds = LCurly ∷ Semicolon ∷ If ∷ Do ∷ While ∷ With ∷ Break ∷ Continue ∷ Return ∷ Function ∷ Throw ∷ Switch ∷ Try ∷ For ∷ Debugger ∷ Var ∷ Const ∷ Class ∷ []
+statement_kinds = LCurly ∷ Semicolon ∷ If ∷ Do ∷ While ∷ With ∷ Break ∷ Continue ∷ Return ∷ Function ∷ Throw ∷ Switch ∷ Try ∷ For ∷ Debugger ∷ Var ∷ Const ∷ Class ∷ at_sign ∷ []
 
 -- nor does a colon: behind a name it makes a label
 abbrev pub no_link : Look

@@ -514,13 +514,13 @@ pub named_in_body : {text : List ℕ} {s : ℕ} (b : Bool) → LetIsName text b 
 named_in_body true u = name_in_body u
 named_in_body false u = u
 
--- neither a brace nor `function` nor `class` stands here
-not_braced : (k : Kind) → one_of_kinds statement_kinds k ≡ false → one_of_kinds (LCurly ∷ 'function' ∷ 'class' ∷ []) k ≡ false
+-- neither a brace nor `function`, `class` or `@` stands here
+not_braced : (k : Kind) → one_of_kinds statement_kinds k ≡ false → one_of_kinds no_expression k ≡ false
 unfolding covers
-not_braced k h = go (one_of_kinds (LCurly ∷ 'function' ∷ 'class' ∷ []) k) refl
+not_braced k h = go (one_of_kinds no_expression k) refl
   where
-    go : (b : Bool) → one_of_kinds (LCurly ∷ 'function' ∷ 'class' ∷ []) k ≡ b → one_of_kinds (LCurly ∷ 'function' ∷ 'class' ∷ []) k ≡ false
-    go true e = absurd (false≢true (sym h ∙ covered (λ k w e. one_of_kinds (LCurly ∷ 'function' ∷ 'class' ∷ []) k) (λ k w e. one_of_kinds statement_kinds k) refl k false false e))
+    go : (b : Bool) → one_of_kinds no_expression k ≡ b → one_of_kinds no_expression k ≡ false
+    go true e = absurd (false≢true (sym h ∙ covered (λ k w e. one_of_kinds no_expression k) (λ k w e. one_of_kinds statement_kinds k) refl k false false e))
     go false e = e
 
 -- what stands behind the first lookahead of an expression statement
@@ -528,7 +528,7 @@ abbrev looked_at : Flags → G
 looked_at f = not_then (is 'async') function_on_line ▸ not_then (is 'let') (is LBrack) ▸ ended by_edge (symbol Expression f)
 
 -- of what begins no expression statement, these alone begin an expression
-begins_none : (f : Flags) → covers (λ k w e. one_of_kinds no_expression k && starts first (looked_at f) full k w e) (λ k w e. one_of_kinds (LCurly ∷ 'function' ∷ 'class' ∷ []) k) ≡ true
+begins_none : (f : Flags) → covers (λ k w e. one_of_kinds no_expression k && starts first (looked_at f) full k w e) (λ k w e. one_of_kinds no_expression k) ≡ true
 unfolding covers
 begins_none f = refl
 
@@ -543,7 +543,7 @@ look_first {text} {X} {b} {s} p h = record {
     go : (ts vs : Slots) (k : ℕ) (ls rest : Lexemes) → Lexes (Lex text) s ls → Takes rule (if_next p ▸ b) end ts s ls vs k rest → (us : Slots) × (ls' : Lexemes) × (ts ≡ us) × Lexes (Lex text) s ls' × Takes rule b end us s ls' vs k rest × (ls ≡ ls')
     go ts vs k ls rest l (is_seq (is_look q) d) = (ts, ls, refl, l, d, refl)
 
-to_expression : {text : List ℕ} {f : Flags} {p : Parser} → At text f p → one_of_kinds (LCurly ∷ 'function' ∷ 'class' ∷ []) (keyword_kind p.token) ≡ false → AsyncIsName text p.prev_token_end → LetIsName text false p.prev_token_end → Leads text (plain no_link) (if_next (other (is_one_of no_expression)) ▸ not_then (is 'async') function_on_line ▸ not_then (is 'let') (is LBrack) ▸ ended by_edge (symbol Expression f)) p.prev_token_end (ended by_edge (symbol Expression f))
+to_expression : {text : List ℕ} {f : Flags} {p : Parser} → At text f p → one_of_kinds no_expression (keyword_kind p.token) ≡ false → AsyncIsName text p.prev_token_end → LetIsName text false p.prev_token_end → Leads text (plain no_link) (if_next (other (is_one_of no_expression)) ▸ not_then (is 'async') function_on_line ▸ not_then (is 'let') (is LBrack) ▸ ended by_edge (symbol Expression f)) p.prev_token_end (ended by_edge (symbol Expression f))
 unfolding apart
 to_expression {text} {f} {p} a c v u = at_once (look_first (other (is_one_of no_expression)) (λ y l q. go y l q (one_of_kinds no_expression y.kind) refl))
     ⇒ not_followed a async_word function_on_line v
@@ -551,14 +551,14 @@ to_expression {text} {f} {p} a c v u = at_once (look_first (other (is_one_of no_
   where
     at_word : (y : Lexeme) → Lex text p.prev_token_end y → IsTrue (seen (starts first (looked_at f) full) y) → one_of_kinds no_expression y.kind ≡ true → (b : Bool) → p.token.escaped ≡ b → seen (other (is_one_of no_expression)) y ≡ true
     at_word y l q e true i = rw (e, escaped_here a y l ∙ i) refl
-    at_word y l q e false i = absurd (not_here a (LCurly ∷ 'function' ∷ 'class' ∷ []) refl (sym (ap (one_of_kinds (LCurly ∷ 'function' ∷ 'class' ∷ [])) (keyword_plain p.token i)) ∙ c) y l (covered (λ k w e. one_of_kinds no_expression k && starts first (looked_at f) full k w e) (λ k w e. one_of_kinds (LCurly ∷ 'function' ∷ 'class' ∷ []) k) (begins_none f) y.kind y.newline y.escaped (and_from _ _ e q)))
+    at_word y l q e false i = absurd (not_here a no_expression refl (sym (ap (one_of_kinds no_expression) (keyword_plain p.token i)) ∙ c) y l (covered (λ k w e. one_of_kinds no_expression k && starts first (looked_at f) full k w e) (λ k w e. one_of_kinds no_expression k) (begins_none f) y.kind y.newline y.escaped (and_from _ _ e q)))
 
     go : (y : Lexeme) → Lex text p.prev_token_end y → IsTrue (seen (starts first (looked_at f) full) y) → (b : Bool) → one_of_kinds no_expression y.kind ≡ b → seen (other (is_one_of no_expression)) y ≡ true
     go y l q true e = at_word y l q e p.token.escaped refl
     go y l q false e = rw e refl
 
 -- an expression that was read, where no statement ends behind it
-pub no_expression_ends : {text : List ℕ} {f : Flags} {p q : Parser} (b : Bool) → At text f p → one_of_kinds (LCurly ∷ 'function' ∷ 'class' ∷ []) (keyword_kind p.token) ≡ false → AsyncIsName text p.prev_token_end → LetIsName text b p.prev_token_end → (x : Answer text f (at Expression f) p q) → Fails rule (Lex text) (plain no_link) end (semicolon (goes_on (row_of x.label x.slots))) q.prev_token_end → Fails rule (Lex text) (after_statement (placed b f)) end (symbol ExprStmt f) p.prev_token_end
+pub no_expression_ends : {text : List ℕ} {f : Flags} {p q : Parser} (b : Bool) → At text f p → one_of_kinds no_expression (keyword_kind p.token) ≡ false → AsyncIsName text p.prev_token_end → LetIsName text b p.prev_token_end → (x : Answer text f (at Expression f) p q) → Fails rule (Lex text) (plain no_link) end (semicolon (goes_on (row_of x.label x.slots))) q.prev_token_end → Fails rule (Lex text) (after_statement (placed b f)) end (symbol ExprStmt f) p.prev_token_end
 unfolding rule rule_of covers
 no_expression_ends {f = f} {p = p} b a c v u x m = fails_rule {X' = plain no_link} (λ l cs vs y e. ((and_parts _ _ e.0).0, refl)) (fails_node (inside_plain refl) (to_expression a c v (named_in_body b u) ⇒✗ (to_semicolon (λ ds i j ls mid d. d) (expression_path x) ⟶✗ m)))
 
@@ -640,8 +640,8 @@ pub in_of : {text : List ℕ} {f : Flags} {p : Parser} → At text f p → has_f
 in_of a h = sym (ap (λ (g : Flags). g.in_) a.flags_are) ∙ h
 
 -- none of the kinds that begin a statement alone
-pub no_own_kind : (k : Kind) → (k ≡ LCurly → ⊥) → (k ≡ Semicolon → ⊥) → (k ≡ kind.If → ⊥) → (k ≡ kind.Do → ⊥) → (k ≡ kind.While → ⊥) → (k ≡ kind.With → ⊥) → (k ≡ kind.Break → ⊥) → (k ≡ kind.Continue → ⊥) → (k ≡ kind.Return → ⊥) → (k ≡ kind.Function → ⊥) → (k ≡ kind.Throw → ⊥) → (k ≡ kind.Switch → ⊥) → (k ≡ kind.Try → ⊥) → (k ≡ kind.For → ⊥) → (k ≡ kind.Debugger → ⊥) → (k ≡ kind.Var → ⊥) → (k ≡ kind.Const → ⊥) → (k ≡ kind.Class → ⊥) → one_of_kinds statement_kinds k ≡ false
-no_own_kind k m a b c d e f g r o h u v w i j l q = rw (different LCurly k m, different Semicolon k a, different kind.If k b, different kind.Do k c, different kind.While k d, different kind.With k e, different kind.Break k f, different kind.Continue k g, different kind.Return k r, different kind.Function k o, different kind.Throw k h, different kind.Switch k u, different kind.Try k v, different kind.For k w, different kind.Debugger k i, different kind.Var k j, different kind.Const k l, different kind.Class k q) refl
+pub no_own_kind : (k : Kind) → (k ≡ LCurly → ⊥) → (k ≡ Semicolon → ⊥) → (k ≡ kind.If → ⊥) → (k ≡ kind.Do → ⊥) → (k ≡ kind.While → ⊥) → (k ≡ kind.With → ⊥) → (k ≡ kind.Break → ⊥) → (k ≡ kind.Continue → ⊥) → (k ≡ kind.Return → ⊥) → (k ≡ kind.Function → ⊥) → (k ≡ kind.Throw → ⊥) → (k ≡ kind.Switch → ⊥) → (k ≡ kind.Try → ⊥) → (k ≡ kind.For → ⊥) → (k ≡ kind.Debugger → ⊥) → (k ≡ kind.Var → ⊥) → (k ≡ kind.Const → ⊥) → (k ≡ kind.Class → ⊥) → (k ≡ at_sign → ⊥) → one_of_kinds statement_kinds k ≡ false
+no_own_kind k m a b c d e f g r o h u v w i j l q s = rw (different LCurly k m, different Semicolon k a, different kind.If k b, different kind.Do k c, different kind.While k d, different kind.With k e, different kind.Break k f, different kind.Continue k g, different kind.Return k r, different kind.Function k o, different kind.Throw k h, different kind.Switch k u, different kind.Try k v, different kind.For k w, different kind.Debugger k i, different kind.Var k j, different kind.Const k l, different kind.Class k q, different at_sign k s) refl
 
 -- the code found no label
 pub no_colon : (p q : Parser) {t : Token} {b : Bool} → t ≡ p.token → IsTrue b ↔ IsLabel t q → b ≡ false → IsLabel p.token q → ⊥

@@ -4,7 +4,9 @@ ghost use Rattle.std.specs.Prelude.{◌≡◌, ◌+◌, MatchResult};
 ghost use Rattle.parse_classes.specs.Prelude.{AllElements, Answers, at, Block, CanNest, ClassBody, ends_list, NoElements, ReadsElement, room, Standing};
 
 use crate::element::parse_class_element;
-use js_base::Kind;
+use js_base::{DiagnosticKind, Kind};
+use parse_members::decorated::{decorate, parse_decorators};
+use parse_shared::diagnostics::diagnostic_at;
 use parse_shared::lexemes::advance;
 use parse_shared::nodes::make_list;
 use parse_shared::{NodeId, NodeKind, Op, ParserConfig, ParserImpl, Stop};
@@ -45,7 +47,7 @@ fn parse_elements<C: ParserConfig, N: Sequences<C>>(
         if p.at(Kind::Semicolon) {
             advance(p)?;
         } else {
-            let element = parse_undecorated_element(p, nested)?;
+            let element = parse_element(p, nested)?;
             elements.push(Some(element))?;
         }
     }
@@ -59,8 +61,9 @@ fn ends_class(kind: Kind) -> bool
     matches!(kind, Kind::RCurly | Kind::Eof | Kind::Undetermined)
 }
 
-/// A ClassElement (ECMA-262, section 15.7). Where a decorator begins, none is read.
-fn parse_undecorated_element<C: ParserConfig, N: Sequences<C>>(
+/// A ClassElement, with decorators before it or none (ECMA-262, section 15.7, and the proposal Decorators). None may stand
+/// before a static block: that is told, and reading goes on.
+fn parse_element<C: ParserConfig, N: Sequences<C>>(
     p: &mut ParserImpl<'_, C>,
     nested: &N,
 ) -> Result<NodeId, Stop>
@@ -68,8 +71,17 @@ fn parse_undecorated_element<C: ParserConfig, N: Sequences<C>>(
     requires nests { CanNest (N.can nested.now) (room p.old + 1) }
     ensures { ReadsElement p.old p.new result }
 {
-    if p.at(Kind::At) {
-        return Err(p.set_unexpected());
+    if !p.at(Kind::At) {
+        return parse_class_element(p, nested);
     }
-    parse_class_element(p, nested)
+    let start = p.cur_start();
+    let decorators = parse_decorators(p, nested)?;
+    let span = p.end_span(start);
+    let element = parse_class_element(p, nested)?;
+    if p.ast.kind(element) == NodeKind::StaticBlock {
+        p.error(diagnostic_at(DiagnosticKind::DecoratorsAreNotValidHere, span))?;
+        return Ok(element);
+    }
+    let node = decorate(p, start, element, decorators)?;
+    Ok(node)
 }

@@ -307,7 +307,7 @@ fn refuse_optional_link<C: ParserConfig>(p: &mut ParserImpl<'_, C>, sign: Span) 
 }
 
 /// `.` and a name or a private name, behind what was read.
-fn parse_named_link<C: ParserConfig>(
+pub(crate) fn parse_named_link<C: ParserConfig>(
     p: &mut ParserImpl<'_, C>,
     start: u32,
     left: NodeId,

@@ -1,6 +1,8 @@
 //! Left-hand sides and what they begin with: members, calls, `new`, `super`, parentheses (ECMA-262, sections 13.2 and 13.3).
 #![tactic(auto)]
 
+pub mod decorated;
+pub mod decorator;
 pub mod left_hand_side;
 pub mod new_target;
 pub mod primary;

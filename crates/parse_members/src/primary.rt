@@ -5,10 +5,10 @@ ghost use Rattle.parse_members.specs.Prelude.{Answers, at, CanNest, kind_of, LPa
 ghost use Rattle.parse_shared.specs.js_tree.declared.kind.NodeKind.TheVariants as node;
 ghost use Rattle.parse_primary.specs.laws_primary.Marked as marked;
 
+use crate::decorated::parse_class;
 use crate::left_hand_side::parse_with_arguments;
 use js_base::Kind;
 use parse_primary::array::parse_array_expression;
-use parse_primary::class::parse_class;
 use parse_primary::forms::ClassForm;
 use parse_primary::function::{function_stands, parse_function_expression};
 use parse_primary::leaf::{
@@ -55,7 +55,7 @@ pub fn parse_primary_expression<C: ParserConfig, N: Nested<C>>(
         Kind::LParen => parse_parenthesized_expression(p, nested),
         Kind::LBrack => parse_array_expression(p, nested),
         Kind::Function => parse_function_expression(p, nested),
-        Kind::Class => parse_class(p, nested, ClassForm::Expression),
+        Kind::Class | Kind::At => parse_class(p, nested, ClassForm::Expression),
         Kind::LCurly => parse_object_expression(p, nested),
         Kind::Percent => parse_v8_intrinsic_expression(p, nested),
         _ => Err(p.set_unexpected()),
@@ -93,7 +93,7 @@ fn parse_number<C: ParserConfig>(p: &mut ParserImpl<'_, C>) -> Result<NodeId, St
 }
 
 /// An Expression in parentheses (ECMA-262, section 13.2.9).
-fn parse_parenthesized_expression<C: ParserConfig, N: Nested<C>>(
+pub(crate) fn parse_parenthesized_expression<C: ParserConfig, N: Nested<C>>(
     p: &mut ParserImpl<'_, C>,
     nested: &N,
 ) -> Result<NodeId, Stop>

@@ -123,6 +123,7 @@ fn begins_other_argument(kind: Kind) -> bool
             | Kind::LCurly
             | Kind::Function
             | Kind::Class
+            | Kind::At
             | Kind::NoSubstitutionTemplate
             | Kind::TemplateHead
             | Kind::Percent

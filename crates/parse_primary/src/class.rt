@@ -12,10 +12,9 @@ use parse_shared::nested::Nested;
 use parse_shared::nodes::no_flags;
 use parse_shared::{NodeId, NodeKind, Op, ParserConfig, ParserImpl, Stop};
 
-/// A ClassDeclaration or a ClassExpression (ECMA-262, section 15.7).
-/// Reads: Class, ClassExpr.
+/// A ClassDeclaration or a ClassExpression, before which no decorator stands (ECMA-262, section 15.7).
 #[inline(never)]
-pub fn parse_class<C: ParserConfig, N: Nested<C>>(
+pub fn parse_undecorated_class<C: ParserConfig, N: Nested<C>>(
     p: &mut ParserImpl<'_, C>,
     nested: &N,
     form: ClassForm,

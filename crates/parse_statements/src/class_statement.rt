@@ -4,7 +4,7 @@ ghost use Rattle.std.specs.Prelude.{◌≡◌, true};
 ghost use Rattle.parse_statements.specs.Prelude.{at, CanNest, Class, ListItem, room, Standing, StandsHere, Sub, TakesStatement};
 
 use js_base::DiagnosticKind;
-use parse_primary::class::parse_class;
+use parse_members::decorated::parse_class;
 use parse_primary::forms::ClassForm;
 use parse_shared::diagnostics::diagnostic_at;
 use parse_shared::nested::Nested;

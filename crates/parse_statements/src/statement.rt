@@ -21,6 +21,7 @@ use parse_control::declaration_statement::{
 };
 use parse_control::for_statement::parse_for_statement;
 use parse_control::sequences::Sequences;
+use parse_members::decorated::class_stands;
 use parse_primary::function::function_stands;
 use parse_primary::leaf::parse_leaf;
 use parse_shared::lexemes::{advance, escaped_word_stands, is_name_here, stands};
@@ -47,7 +48,7 @@ pub fn parse_statement_list_item<C: ParserConfig, N: Sequences<C>>(
     if function_stands(p)? {
         return parse_function_declaration(p, nested);
     }
-    if stands(p, Kind::Class) {
+    if class_stands(p) {
         return parse_class_declaration(p, nested);
     }
     parse_any_statement(p, nested)
@@ -70,7 +71,7 @@ pub fn parse_statement<C: ParserConfig, N: Sequences<C>>(
     if function_stands(p)? {
         return parse_function_as_body(p, nested);
     }
-    if stands(p, Kind::Class) {
+    if class_stands(p) {
         return parse_class_as_body(p, nested);
     }
     parse_any_statement(p, nested)

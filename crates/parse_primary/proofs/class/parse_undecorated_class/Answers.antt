@@ -13,7 +13,7 @@ use Rattle.laws_primary.proofs.laws_shared.Nesting.{nests_later}
 use Rattle.laws_primary.proofs.laws_shared.Signs.{whole_sign}
 use Rattle.laws_primary.proofs.Functions.{room_less}
 use Rattle.laws_primary.proofs.Classes.{body_stops, class_answers, embodied, inherited, inheriting_stops, name_stops, named}
-use Rattle.parse_primary.proofs.class.parse_class.Goals as goal
+use Rattle.parse_primary.proofs.class.parse_undecorated_class.Goals as goal
 
 -- the kind of a node that was made
 made_kind : {l : Label} {ids : List (Option NodeId)} {p q : Parser} {id : NodeId} → MadeHere l ids p q id → kind_of (node_at q.nodes id).kind ≡ l.kind
