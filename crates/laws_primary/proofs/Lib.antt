@@ -9,6 +9,7 @@ pub mod DecoratedClasses
 pub mod DecoratedNodes
 pub mod DecoratorLists
 pub mod Decorators
+pub mod DecoratorMembers
 pub mod FlagFaults
 pub mod Functions
 pub mod Intrinsics

@@ -349,7 +349,7 @@ plain_too : (c d : LinkForm) (o : Bool) → sign_of c false ≡ sign_of d o → 
 plain_too c d false e = refl
 plain_too c d true e = absurd (not_optional c e)
 
-call_here : (p : Parser) (c : LinkForm) (o : Bool) → StandsHere p LParen true → StandsHere p (sign_of c o) true → (by_call ≡ c) × (o ≡ false)
+pub call_here : (p : Parser) (c : LinkForm) (o : Bool) → StandsHere p LParen true → StandsHere p (sign_of c o) true → (by_call ≡ c) × (o ≡ false)
 call_here p by_call false s z = (refl, refl)
 call_here p c true s z = absurd (let e : LParen ≡ QuestionDot = sym s.0 ∙ z.0 in cc)
 call_here p by_name false s z = absurd (let e : LParen ≡ Dot = sym s.0 ∙ z.0 in cc)

@@ -1,5 +1,5 @@
 -- An Expression in parentheses (ECMA-262, 13.2.9).
-use Rattle.std.proofs.Common.{ℕ, ◌≡◌, ◌<◌, inl, true, false, List, [], ◌∷◌, length, Some, refl, sym, ap, subst, ◌∙◌}
+use Rattle.std.proofs.Common.{ℕ, ◌≡◌, ◌<◌, arith, inl, max, true, false, List, [], ◌∷◌, length, Some, refl, sym, ap, subst, ◌∙◌}
 use Rattle.std.specs.Prelude.{Result, Ok, Err}
 use Rattle.js_base.specs.declared.kind.Kind.TheVariants.{RAngle, LParen, RParen}
 use Rattle.js_base.specs.declared.diagnostic.DiagnosticKind.TheVariants.{ExpectClosing}
@@ -10,11 +10,13 @@ use Rattle.js_grammar.specs.Trees.{Label, Slots, end, tree, parenthesized_expres
 use Rattle.js_grammar.specs.Grammar.{Lexeme, Lexemes, last, here, is, such, marked, nothing, Takes, is_such, is_marked, is_nothing, ◌▸◌}
 use Rattle.js_grammar.specs.Lexed.{Lexes}
 use Rattle.js_grammar.specs.Parsing.{Test, plain, full, always, Admits, Goes, Reads, Fails, Way, still}
-use Rattle.js_grammar.specs.Productions.{G, Flags, Symbol, at, tok, mk, pife_flag, plus_in, with_pife, Expression, Primary}
-use Rattle.js_grammar.specs.Table.{rule, rule_of}
-use Rattle.js_grammar.specs.Follow.{after, surest}
+use Rattle.js_grammar.specs.Productions.{G, Flags, Symbol, at, tok, pife_flag, plus_in, with_pife, Expression, Primary}
+use Rattle.js_grammar.specs.Table.{paren_expression, rule, rule_of}
+use Rattle.js_grammar.specs.Follow.{after, row_of, surest}
+use Rattle.js_grammar.specs.Insertion.{after_expression}
+use Rattle.js_grammar.specs.RightEdges.{same_row}
 use Rattle.js_grammar.proofs.Looks.{covers, covered, apart}
-use Rattle.js_grammar.proofs.Calculus.{label_is, slots_are, ends, then_by, part_fails, by_plain, fails_node, inside_full, ◌▹✗◌}
+use Rattle.js_grammar.proofs.Calculus.{label_is, slots_are, ends, then_by, part_fails, by_plain, fails_node, inside_full, by_rule, weaken, weaken_fails, ◌▹◌, ◌▹✗◌}
 use Rattle.js_grammar.proofs.FirstClaims.{firsts}
 use Rattle.js_grammar.proofs.FirstRules.{by_first}
 use Rattle.js_grammar.proofs.FollowLaws.{surely, fails_by}
@@ -29,23 +31,46 @@ use Rattle.laws_shared.specs.js_cursor.Moves.{Expects, GivesUp, is_last}
 use Rattle.laws_shared.specs.js_cursor.declared.stop.Stop.{Stop}
 use Rattle.laws_shared.specs.js_cursor.declared.stop.Stop.TheVariants.{Fatal, NoMemory}
 use Rattle.laws_shared.specs.Lexemes.{Lex}
-use Rattle.laws_shared.specs.States.{At}
+use Rattle.laws_shared.specs.States.{At, NodesLie, Same}
 use Rattle.laws_shared.specs.Moves.{Passes, unpassable}
 use Rattle.laws_primary.specs.Marked.{is_function, Marks}
 use Rattle.laws_shared.specs.Moves.{Moved, MadeHere, IsWholeHere, plain_label}
-use Rattle.laws_shared.specs.Answers.{clean, unclean, wider, Stretch, Underived, Answer, Numbered, Stops}
+use Rattle.laws_shared.specs.Answers.{clean, unclean, wider, Stretch, Underived, Answer, Numbered, Outcome, Stops}
 use Rattle.laws_shared.proofs.Signs.{plain_sign, other_kind}
 use Rattle.laws_shared.proofs.Dead.{all_read}
 use Rattle.laws_shared.proofs.Giving.{gives_up}
 use Rattle.laws_shared.proofs.Here.{found, uncut}
-use Rattle.laws_shared.proofs.MadeNodes.{one_held, one_lies_in}
-use Rattle.laws_shared.proofs.Moving.{same_both, moves}
-use Rattle.laws_primary.proofs.Operands.{by_path, behind_primary}
-use Rattle.laws_shared.proofs.Paths.{Path, ◌⟼◌, ◌⟶◌, ◌⟶✗◌, at_kind, fails_at, token, last_token, noded, label_here, read_of}
+use Rattle.laws_shared.proofs.MadeNodes.{LabelLies, from_start, one_held, one_lies_in}
+use Rattle.laws_shared.proofs.Moving.{beside_nodes, moves, same_both, same_with, stops_so}
+use Rattle.laws_primary.specs.DecoratorMembers.{ParenthesesOutcome}
+use Rattle.laws_primary.specs.Members.{Taken}
+use Rattle.laws_primary.proofs.Members.{numbered, retake}
+use Rattle.laws_primary.proofs.Operands.{behind_primary}
+use Rattle.laws_shared.proofs.Paths.{Path, ◌⟶◌, ◌⟶✗◌, at_kind, fails_at, token, last_token, noded, label_here, read_of}
 use Rattle.laws_primary.proofs.Tame.{unmarked}
 use Rattle.laws_shared.proofs.Verdicts.{verdict_of}
 use Rattle.laws_shared.specs.Classes.{EndsParse}
 use Rattle.laws_shared.proofs.Classes.{here_ends, gives_up_by}
+
+-- what was taken by a path, with a node around it
+taken_by : {text : List ℕ} {f : Flags} {X : Test} {g : G} {p q w : Parser} {l : Label} {cs : Slots} {id : NodeId} → Path text f X g p nothing q (tree l cs) → Same p q → w ≡ record q { nodes = w.nodes } → same_row after_expression (row_of l cs) ≡ true
+    → Holds w.nodes (length p.nodes) (length w.nodes) id.0 l cs → Keeps p.nodes w.nodes → l.span ≡ record { from = p.token.span.start; to = q.prev_token_end } → (LabelLies q.text l → NodesLie q.text q.nodes → NodesLie q.text w.nodes) → Taken text f p w id (λ l cs pass s'. Stretch text X g p.prev_token_end nothing s' (tree l cs) pass) (Fails rule (Lex text) X end g p.prev_token_end)
+taken_by {text} {f} {X} {g} {p} {q} {w} {l} {cs} {id} y b e r h k i m = go w.nodes e h k m
+  where
+    go : (ns : List Node) → w ≡ record q { nodes = ns } → Holds w.nodes (length p.nodes) (length w.nodes) id.0 l cs → Keeps p.nodes w.nodes → (LabelLies q.text l → NodesLie q.text q.nodes → NodesLie q.text w.nodes) → Taken text f p w id (λ l cs pass s'. Stretch text X g p.prev_token_end nothing s' (tree l cs) pass) (Fails rule (Lex text) X end g p.prev_token_end)
+    go ns e h k m = subst (λ (z : Parser). Taken text f p z id (λ l cs pass s'. Stretch text X g p.prev_token_end nothing s' (tree l cs) pass) (Fails rule (Lex text) X end g p.prev_token_end)) (sym e) (record {
+      at = beside_nodes ns y.at;
+      same = same_with ns b (subst (λ (z : Parser). Keeps p.nodes z.nodes) e k) (λ c z. subst (λ (z : Parser). NodesLie q.text z.nodes) e (m (from_start l b y.at.at (let g = y.further in omega arith) i c) z));
+      further = y.further;
+      label = l;
+      slots = cs;
+      row = r;
+      pass = y.pass;
+      walked = y.walked;
+      verdict = y.verdict;
+      holds = subst (λ (z : Parser). Holds z.nodes (length p.nodes) (length z.nodes) id.0 l cs) e h;
+      keeps = subst (λ (z : Parser). Keeps p.nodes z.nodes) e k;
+    })
 
 -- a symbol that was read, with a flag on its node
 module _ {text : List ℕ} {n : Symbol} {X : Test} {h : Label → Label} (heads : (l : Label) (cs vs : Slots) (y : Lexeme) → Admits X (tree (h l) cs vs) y → Admits (after n) (tree l cs vs) y) where
@@ -88,21 +113,17 @@ module _ {text : List ℕ} {f : Flags} {p q : Parser} (a : At text f p) (k : p.t
   opening : {X : Test} → Path text f X (paren_slots f) p (inner f ▸ tok RParen) q (λ us. us)
   opening = token LParen a k open_plain refl m
 
-  -- nothing else begins with a parenthesis
-  alone : Goes rule (Lex text) (after (at Primary f)) end (rule (at Primary f)) p.prev_token_end (mk parenthesized_expression (paren_slots f)) p.prev_token_end (λ us. us) (still 0)
-  unfolding rule rule_of covers
-  alone = at_kind a LParen k refl
+  -- what an Expression in parentheses begins with is not derived
+  inside_fails : {X : Test} → Fails rule (Lex text) (plain full) end (inner f ▸ tok RParen) q.prev_token_end → Fails rule (Lex text) X end (paren_expression f) p.prev_token_end
+  inside_fails n = fails_node inside_full (opening ⟶✗ n)
 
-  inside_fails : Fails rule (Lex text) (plain full) end (inner f ▸ tok RParen) q.prev_token_end → Underived text (at Primary f) p.prev_token_end
-  inside_fails n = fails_by (alone ▹✗ fails_node inside_full (opening ⟶✗ n))
-
-  pub expression_fails : Underived text (at Expression (plus_in f)) q.prev_token_end → Underived text (at Primary f) p.prev_token_end
+  pub expression_fails : {X : Test} → Underived text (at Expression (plus_in f)) q.prev_token_end → Fails rule (Lex text) X end (paren_expression f) p.prev_token_end
   unfolding covers
   expression_fails n = inside_fails (part_fails {X' = plain (is RParen)} (marked_fails (before_paren f) n) (by_first firsts (by_plain (is RParen)) refl))
 
   module _ {r : Parser} (x : Answer text f (at Expression (plus_in f)) q r) where
     -- no closing parenthesis stands here
-    pub close_fails : one_of_kinds (RParen ∷ []) r.token.kind ≡ false → Underived text (at Primary f) p.prev_token_end
+    pub close_fails : {X : Test} → one_of_kinds (RParen ∷ []) r.token.kind ≡ false → Fails rule (Lex text) X end (paren_expression f) p.prev_token_end
     unfolding covers apart
     close_fails n = inside_fails (elim x.verdict [
       | clean e y ↦ then_by {X' = plain (is RParen)} (marked_read (before_paren f) y.goes) (by_first firsts (by_plain (is RParen)) refl) ▹✗ fails_at x.at {X = plain full} (tok RParen) (RParen ∷ []) refl n
@@ -134,12 +155,12 @@ module _ {text : List ℕ} {f : Flags} {p q : Parser} (a : At text f p) (k : p.t
               (λ z. part_fails {X' = plain (is RParen)} (marked_fails (before_paren f) z) (by_first firsts (by_plain (is RParen)) refl));
         }
 
-        paren_path : Path text f (after (at Primary f)) (rule (at Primary f)) p nothing u (tree (label_here parenthesized_expression no_op p u) (tree v x.slots end))
-        paren_path = alone ⟼ noded a (opening ⟶ (expression_read ⟶ last_token RParen x.at c close_plain refl d))
+        paren_path : {X : Test} → Path text f X (paren_expression f) p nothing u (tree (label_here parenthesized_expression no_op p u) (tree v x.slots end))
+        paren_path = noded a (opening ⟶ (expression_read ⟶ last_token RParen x.at c close_plain refl d))
 
 -- the parentheses and what stands in them
 pub paren_answers : {text : List ℕ} {f : Flags} {p q r u v w : Parser} {inside id : NodeId} (s : Span) → At text f p → p.token.kind ≡ LParen → (m : Moved text f p q) → (x : Numbered text f (at Expression (plus_in f)) q r inside) → r.token.kind ≡ RParen → (d : Moved text f r u) → Marks inside u v → s.start ≡ p.token.span.start → s.end ≡ u.prev_token_end
-    → MadeHere (plain_label node.ParenthesizedExpression made.None s) (Some inside ∷ []) v w id → Numbered text f (at Primary f) p w id
+    → MadeHere (plain_label node.ParenthesizedExpression made.None s) (Some inside ∷ []) v w id → ParenthesesOutcome text f p w (Ok id)
 paren_answers {text} {f} {p} {q} {r} {u} {v} {w} {inside} {id} s a k m x c d g b e n =
     let l : plain_label node.ParenthesizedExpression made.None s ≡ label_here parenthesized_expression no_op p u = rw (b, e) refl in
     let z : MadeHere (label_here parenthesized_expression no_op p u) (Some inside ∷ []) v w id = subst (λ (x : Label). MadeHere x (Some inside ∷ []) v w id) l n in
@@ -148,7 +169,25 @@ paren_answers {text} {f} {p} {q} {r} {u} {v} {w} {inside} {id} s a k m x c d g b
     let hv : Holds v.nodes (length p.nodes) (length v.nodes) inside.0 t.label x.answer.slots = subst (λ (i : ℕ). Holds v.nodes (length p.nodes) i inside.0 t.label x.answer.slots) (sym g.1.long) t.holds in
     let ks : Keeps p.nodes u.nodes = subst (λ (ns : List Node). Keeps p.nodes ns) (sym d.nodes) (subst (λ (ns : List Node). Keeps ns r.nodes) m.nodes x.keeps) in
     let kv : Keeps p.nodes v.nodes = g.1.keeps p.nodes ks (Holds-range h).0 in
-    by_path (paren_path a k m x.answer c d t.label t.is) (same_both m.same (same_both x.answer.same d.same)) (z.stays ∙ ap (λ (y : Parser). record y { nodes = w.nodes }) g.0) (behind_primary f.in_ (label_here parenthesized_expression no_op p u) (tree t.label x.answer.slots end) text u.prev_token_end) refl (one_held p.nodes z hv) (Keeps-trans kv (Keeps-made z.made)) refl (λ s h. one_lies_in (ap (λ (y : Parser). y.text) g.0) z s (g.1.lies u.text h))
+    taken_by (paren_path a k m x.answer c d t.label t.is) (same_both m.same (same_both x.answer.same d.same)) (z.stays ∙ ap (λ (y : Parser). record y { nodes = w.nodes }) g.0) refl (one_held p.nodes z hv) (Keeps-trans kv (Keeps-made z.made)) refl (λ s h. one_lies_in (ap (λ (y : Parser). y.text) g.0) z s (g.1.lies u.text h))
+
+-- nothing else begins with a parenthesis
+module _ {text : List ℕ} {f : Flags} {p : Parser} (a : At text f p) (k : p.token.kind ≡ LParen) where
+  alone : Goes rule (Lex text) (after (at Primary f)) end (rule (at Primary f)) p.prev_token_end (paren_expression f) p.prev_token_end (λ us. us) (still 0)
+  unfolding rule rule_of covers
+  alone = at_kind a LParen k refl
+
+  pub paren_primary : (q : Parser) (r : Result NodeId Stop) → ParenthesesOutcome text f p q r → Outcome text f (at Primary f) p q r
+  paren_primary q (Ok id) x =
+      let y = retake x (λ l cs pass c. whole c) (λ z. none z) in
+      numbered y y.row (λ i h. behind_primary f.in_ y.label y.slots text q.prev_token_end i h)
+    where
+      whole : {s' : ℕ} {l : Label} {cs : Slots} {pass : Lexemes → Lexemes} → Stretch text (plain full) (paren_expression f) p.prev_token_end nothing s' (tree l cs) pass → Stretch text (after (at Primary f)) (such (at Primary f) always) p.prev_token_end nothing s' (tree l cs) pass
+      whole c = record { reach = max 0 c.reach; near = let i = c.near in omega arith; goes = by_rule {X' = after (at Primary f)} (λ l cs vs y e. e) (alone ▹ weaken c.goes (λ ts y e. (refl, refl))) refl }
+
+      none : Fails rule (Lex text) (plain full) end (paren_expression f) p.prev_token_end → Underived text (at Primary f) p.prev_token_end
+      none z = fails_by (alone ▹✗ weaken_fails z (λ ts y e. (refl, refl)))
+  paren_primary q (Err e) x = stops_so p q e (λ z. fails_by (alone ▹✗ weaken_fails z (λ ts y e. (refl, refl)))) x
 
 -- what `expect_closing` answers
 pub closes : (p q : Parser) (opening : Span) (r : Result (Unit {0}) Stop) → Expects (λ p. p.token.kind ≡ RParen) ExpectClosing (Some opening) p q r → Passes RParen p q r

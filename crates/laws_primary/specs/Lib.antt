@@ -1,5 +1,6 @@
 pub mod Arrays
 pub mod Classes
+pub mod DecoratorMembers
 pub mod Decorators
 pub mod Functions
 pub mod Marked
