@@ -52,17 +52,6 @@ use Rattle.laws_statements.proofs.StatementLists.{goes_on_here, none_left, one_t
 use Rattle.laws_classes.specs.ClassBodies.{class_braces, elements_of}
 use Rattle.laws_classes.specs.Elements.{ElementOutcome, ElementTaken, NoElement, behind_element, behind_kinds, name_kinds}
 
--- ---- what begins an element
-
--- Nothing does but a name and `*`: no decorator is read.
-pub no_element_here : {text : List ℕ} {f : Flags} {p : Parser} {X : Test} → At text f p → one_of_kinds (Star ∷ name_kinds) p.token.kind ≡ false → Fails rule (Lex text) X end (symbol Element f) p.prev_token_end
-unfolding covers apart
-no_element_here {f = f} a u = fails_at a (symbol Element f) (Star ∷ name_kinds) refl u
-
--- so the code reads none at `@`
-pub undecorated : (p q : Parser) (e : Stop) → p.token.kind ≡ at_sign → GivesUp (IsUnexpected p) p q e → (text : List ℕ) (f : Flags) → At text f p → Stops p q e (NoElement text (symbol Element f) p.prev_token_end)
-undecorated p q e k g text f a = gives_up_here p q e a g (no_element_here a (ap (one_of_kinds (Star ∷ name_kinds)) k))
-
 -- ---- one item
 
 -- what stands behind an element in the list

@@ -230,7 +230,7 @@ static_named {p} {q} k b n = record {
 
 module _ (text : List ℕ) (f : Flags) (p : Parser) where
   by_symbol : (q : Parser) (r : Result NodeId Stop) → ElementOutcome text f (rule (at Element f)) p q r → ElementOutcome text f (symbol Element f) p q r
-  by_symbol q (Ok id) x = record { at = x.at; same = x.same; further = x.further; label = x.label; slots = x.slots; pass = x.pass; walked = x.walked; verdict = verdict_of x.verdict (λ y. record { reach = y.reach; near = y.near; goes = by_rule (λ l cs vs y d. d) y.goes refl }) (λ n. fails_rule (λ l cs vs y d. d) n); holds = x.holds; keeps = x.keeps }
+  by_symbol q (Ok id) x = record { at = x.at; same = x.same; further = x.further; label = x.label; element = x.element; slots = x.slots; pass = x.pass; walked = x.walked; verdict = verdict_of x.verdict (λ y. record { reach = y.reach; near = y.near; goes = by_rule (λ l cs vs y d. d) y.goes refl }) (λ n. fails_rule (λ l cs vs y d. d) n); holds = x.holds; keeps = x.keeps }
   by_symbol q (Err e) x = stops_so p q e (λ n. fails_rule (λ l cs vs y d. d) n) x
 
   -- the line that is left was read

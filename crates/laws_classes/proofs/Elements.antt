@@ -28,7 +28,7 @@ use Rattle.laws_primary.proofs.laws_shared.Verdicts.{verdict_of}
 use Rattle.laws_primary.proofs.AsyncWords.{any_between, part_within}
 pub use Rattle.laws_primary.proofs.Decorators.{kept_none, no_decorator, none_kept}
 use Rattle.laws_primary.proofs.Properties.{word_apart}
-use Rattle.laws_classes.specs.Elements.{Begun, ElementOutcome, ElementTaken, behind_element, element_slots}
+use Rattle.laws_classes.specs.Elements.{Begun, ElementOutcome, ElementTaken, behind_element, element_slots, is_element}
 
 -- no word is `@`
 pub word_no_sign : (k : Kind) → one_of_kinds identifier_name_kinds k ≡ true → one_of_kinds (at_sign ∷ []) k ≡ false
@@ -61,16 +61,17 @@ module _ {text : List ℕ} {f : Flags} where
 
 -- ---- the answer
 
-module _ {text : List ℕ} {f : Flags} {g : G} {p q w : Parser} {l : Label} {cs : Slots} {id : NodeId} (b : Same p q) (e : w ≡ record q { nodes = w.nodes }) (h : Holds w.nodes (length p.nodes) (length w.nodes) id.0 l cs) (k : Keeps p.nodes w.nodes) (i : l.span ≡ record { from = p.token.span.start; to = q.prev_token_end }) (m : LabelLies q.text l → NodesLie q.text q.nodes → NodesLie q.text w.nodes) where
+module _ {text : List ℕ} {f : Flags} {g : G} {p q w : Parser} {l : Label} {cs : Slots} {id : NodeId} (b : Same p q) (e : w ≡ record q { nodes = w.nodes }) (h : Holds w.nodes (length p.nodes) (length w.nodes) id.0 l cs) (k : Keeps p.nodes w.nodes) (i : l.span ≡ record { from = p.token.span.start; to = q.prev_token_end }) (m : LabelLies q.text l → NodesLie q.text q.nodes → NodesLie q.text w.nodes) (c : is_element l.kind ≡ true) where
   pub element_answers : Path text f behind_element g p nothing q (tree l cs) → ElementTaken text f g p w id
   element_answers y = go w.nodes e h k m
     where
       go : (ns : List Node) → w ≡ record q { nodes = ns } → Holds w.nodes (length p.nodes) (length w.nodes) id.0 l cs → Keeps p.nodes w.nodes → (LabelLies q.text l → NodesLie q.text q.nodes → NodesLie q.text w.nodes) → ElementTaken text f g p w id
       go ns e h k m = subst (λ (r : Parser). ElementTaken text f g p r id) (sym e) (record {
         at = beside_nodes ns y.at;
-        same = same_with ns b (subst (λ (r : Parser). Keeps p.nodes r.nodes) e k) (λ c z. subst (λ (r : Parser). NodesLie q.text r.nodes) e (m (from_start l b y.at.at (let g = y.further in omega arith) i c) z));
+        same = same_with ns b (subst (λ (r : Parser). Keeps p.nodes r.nodes) e k) (λ v z. subst (λ (r : Parser). NodesLie q.text r.nodes) e (m (from_start l b y.at.at (let g = y.further in omega arith) i v) z));
         further = y.further;
         label = l;
+        element = c;
         slots = cs;
         pass = y.pass;
         walked = y.walked;
@@ -82,5 +83,5 @@ module _ {text : List ℕ} {f : Flags} {g : G} {p q w : Parser} {l : Label} {cs 
 -- a choice that leaves this form
 module _ (text : List ℕ) (f : Flags) (p : Parser) where
   pub element_by : {g g' : G} (q : Parser) (r : Result NodeId Stop) → Goes rule (Lex text) behind_element end g p.prev_token_end g' p.prev_token_end (λ us. us) (still 0) → ElementOutcome text f g' p q r → ElementOutcome text f g p q r
-  element_by q (Ok id) c x = record { at = x.at; same = x.same; further = x.further; label = x.label; slots = x.slots; pass = x.pass; walked = x.walked; verdict = verdict_of x.verdict (λ y. record { reach = max 0 y.reach; near = let i = y.near in omega arith; goes = c ▹ y.goes }) (λ n. c ▹✗ n); holds = x.holds; keeps = x.keeps }
+  element_by q (Ok id) c x = record { at = x.at; same = x.same; further = x.further; label = x.label; element = x.element; slots = x.slots; pass = x.pass; walked = x.walked; verdict = verdict_of x.verdict (λ y. record { reach = max 0 y.reach; near = let i = y.near in omega arith; goes = c ▹ y.goes }) (λ n. c ▹✗ n); holds = x.holds; keeps = x.keeps }
   element_by q (Err e) c x = stops_so p q e (λ n. c ▹✗ n) x

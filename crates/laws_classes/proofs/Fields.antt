@@ -29,6 +29,7 @@ use Rattle.js_base.specs.declared.diagnostic.DiagnosticKind.TheVariants.{ExpectT
 use Rattle.laws_primary.proofs.laws_shared.Classes.{here_ends}
 use Rattle.laws_primary.proofs.laws_shared.Giving.{gives_up, gives_up_here}
 use Rattle.laws_classes.specs.declared.forms.FieldKind.{FieldKind}
+use Rattle.laws_classes.specs.declared.forms.FieldKind.TheVariants.{Accessor, Property}
 use Rattle.laws_primary.specs.js_cursor.Parsers.{Parser}
 use Rattle.laws_primary.specs.js_cursor.declared.stop.Stop.{Stop}
 use Rattle.laws_primary.specs.laws_shared.Answers.{Answer, Numbered, Stops, Underived, beside}
@@ -50,7 +51,7 @@ use Rattle.laws_primary.proofs.laws_shared.Verdicts.{after as grown_behind}
 use Rattle.laws_primary.proofs.Properties.{kinds_apart}
 use Rattle.laws_statements.proofs.Statements.{◌⟝◌, Ended, closer_here, closers, ended_so, no_semicolon, omits_stopped, semicolon_path, unended, whole_semicolon}
 use Rattle.parse_declarations.specs.Declarations.{stops_row}
-use Rattle.laws_classes.specs.Elements.{ElementTaken, NoElement, behind_element, behind_kinds}
+use Rattle.laws_classes.specs.Elements.{ElementTaken, NoElement, behind_element, behind_kinds, is_element}
 use Rattle.laws_classes.specs.Fields.{Begins, EndsField, EndsFieldOr, FieldNamed, NoFieldEnd, field_label, field_parts, node_of_field}
 use Rattle.laws_classes.proofs.Names.{key_path}
 use Rattle.laws_classes.proofs.Elements.{element_answers, kept_none}
@@ -323,12 +324,12 @@ module _ {text : List ℕ} {f : Flags} {s g c : Bool} {g0 : G} {first p q : Pars
     pub bare_stops : (w : Parser) (e : Stop) → Stops q w e (NoFieldEnd q) → Stops first w e (NoElement text (make k no_op fl g0) first.prev_token_end)
     bare_stops w e z = field_stops w e (stops_so q w e (λ m. bare_fails d n m) z)
 
-    pub bare_taken : {v w : Parser} {id : NodeId} → EndsField q v → MadeHere (flagged_here k no_op fl first v) (Some key ∷ None ∷ []) v w id → ElementTaken text f (make k no_op fl g0) first w id
-    bare_taken {v} {w} {id} e m =
+    pub bare_taken : is_element k ≡ true → {v w : Parser} {id : NodeId} → EndsField q v → MadeHere (flagged_here k no_op fl first v) (Some key ∷ None ∷ []) v w id → ElementTaken text f (make k no_op fl g0) first w id
+    bare_taken c {v} {w} {id} e m =
         let z = field_end d.named.whole.at e in
         let h : HoldsAll v.nodes (length first.nodes) (length v.nodes) (Some key ∷ None ∷ []) (tree d.named.whole.label d.named.whole.slots (hole end)) = subst (λ (ns : List Node). HoldsAll ns (length first.nodes) (length ns) (Some key ∷ None ∷ []) (tree d.named.whole.label d.named.whole.slots (hole end))) (sym z.nodes) (HoldsAll-hole (HoldsAll-one key key_holds)) in
         let i : Keeps first.nodes v.nodes = subst (λ (ns : List Node). Keeps first.nodes ns) (sym z.nodes) key_keeps in
-        element_answers (same_both same_named z.same) m.stays (node_held m h) (Keeps-trans i (Keeps-made m.made)) refl (one_lies m) (field_path (bare_path d n e))
+        element_answers (same_both same_named z.same) m.stays (node_held m h) (Keeps-trans i (Keeps-made m.made)) refl (one_lies m) c (field_path (bare_path d n e))
 
   -- with an initialiser
   module _ {r : Parser} (j : q.token.kind ≡ Eq) (m : Moved text f q r) where
@@ -339,14 +340,19 @@ module _ {text : List ℕ} {f : Flags} {s g c : Bool} {g0 : G} {first p q : Pars
       pub value_stops_last : (w : Parser) (e : Stop) → Stops v w e (NoFieldEnd v) → Stops first w e (NoElement text (make k no_op fl g0) first.prev_token_end)
       value_stops_last w e z = field_stops w e (stops_behind w e (same_both m.same y.answer.same) (λ g. grown_then m.kept (grown_behind y.answer.verdict g)) (λ n. value_unended d j m y.answer n) z)
 
-      pub value_taken : {u w : Parser} {id : NodeId} → EndsField v u → MadeHere (flagged_here k no_op fl first u) (Some key ∷ Some value ∷ []) u w id → ElementTaken text f (make k no_op fl g0) first w id
-      value_taken {u} {w} {id} e n =
+      pub value_taken : is_element k ≡ true → {u w : Parser} {id : NodeId} → EndsField v u → MadeHere (flagged_here k no_op fl first u) (Some key ∷ Some value ∷ []) u w id → ElementTaken text f (make k no_op fl g0) first w id
+      value_taken c {u} {w} {id} e n =
           let z = field_end y.answer.at e in
           let h : Holds v.nodes (length q.nodes) (length v.nodes) value.0 y.answer.label y.answer.slots = subst (λ (ns : List Node). Holds v.nodes (length ns) (length v.nodes) value.0 y.answer.label y.answer.slots) m.nodes y.holds in
           let i : Keeps q.nodes v.nodes = subst (λ (ns : List Node). Keeps ns v.nodes) m.nodes y.keeps in
           let hu : Holds u.nodes (length q.nodes) (length u.nodes) value.0 y.answer.label y.answer.slots = subst (λ (ns : List Node). Holds ns (length q.nodes) (length ns) value.0 y.answer.label y.answer.slots) (sym z.nodes) h in
           let iu : Keeps q.nodes u.nodes = subst (λ (ns : List Node). Keeps q.nodes ns) (sym z.nodes) i in
-          element_answers (same_both same_named (same_both m.same (same_both y.answer.same z.same))) n.stays (two_held n key_holds key_keeps hu iu) (Keeps-trans key_keeps (Keeps-trans iu (Keeps-made n.made))) refl (one_lies n) (field_path (value_path_end d j m y.answer e))
+          element_answers (same_both same_named (same_both m.same (same_both y.answer.same z.same))) n.stays (two_held n key_holds key_keeps hu iu) (Keeps-trans key_keeps (Keeps-trans iu (Keeps-made n.made))) refl (one_lies n) c (field_path (value_path_end d j m y.answer e))
+
+-- which is that of an element
+pub field_element : (k : FieldKind) → is_element (node_of_field k) ≡ true
+field_element Property = refl
+field_element Accessor = refl
 
 -- its node, which began there
 pub field_made : (first : Parser) {q w : Parser} {ids : List (Option NodeId)} {id : NodeId} {start fl n : ℕ} (k : FieldKind) → start ≡ first.token.span.start → fl ≡ n → MadeHere (field_label k fl start q.prev_token_end) ids q w id → MadeHere (flagged_here (node_of_field k) no_op n first q) ids q w id

@@ -43,7 +43,7 @@ module _ {text : List ℕ} {f : Flags} {g g' : G} {first p : Parser} {key : Node
   pub method_taken : {q w : Parser} {function id : NodeId} → WholeTaken text f g' p q function → MadeHere (flagged_here method_definition (method_op_of k) fl first q) (Some key ∷ Some function ∷ []) q w id → ElementTaken text f (make method_definition (method_op_of k) fl g) first w id
   method_taken {q} {w} {function} {id} y n =
       let z = part_goes (parts x (whole_part y (Some key ∷ []))) kept_none in
-      element_answers z.same n.stays (node_held n (z.holds (length first.nodes) end (HoldsAll-none first.nodes (length first.nodes) (length first.nodes) (omega arith)))) (Keeps-trans z.keeps (Keeps-made n.made)) refl (one_lies n) (flagged_by a inside_full (part_under z))
+      element_answers z.same n.stays (node_held n (z.holds (length first.nodes) end (HoldsAll-none first.nodes (length first.nodes) (length first.nodes) (omega arith)))) (Keeps-trans z.keeps (Keeps-made n.made)) refl (one_lies n) refl (flagged_by a inside_full (part_under z))
 
 -- the form of its parameters, as the code told it
 pub form_so : {text : List ℕ} {f : Flags} {g : G} {first p : Parser} {js : List (Option NodeId)} {m n : MethodForm} (b s : Bool) → m ≡ n → Partway text f g (method_left n b s f ▸ kept) first p [] js → Partway text f g (method_left m b s f ▸ kept) first p [] js

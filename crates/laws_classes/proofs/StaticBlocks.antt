@@ -100,4 +100,4 @@ module _ {text : List ℕ} {f : Flags} {first p : Parser} (af : At text f first)
     block_taken {v} {id} s g d i =
         let l : plain_label node.StaticBlock op.None s ≡ label_here static_block no_op first w = rw (g, d) refl in
         let made : MadeHere (label_here static_block no_op first w) ids w v id = subst (λ (k : Label). MadeHere k ids w v id) l i in
-        element_answers (same_both m.same x.same) made.stays (node_held made block_holds) (Keeps-trans block_keeps (Keeps-made made.made)) refl (one_lies made) block_path
+        element_answers (same_both m.same x.same) made.stays (node_held made block_holds) (Keeps-trans block_keeps (Keeps-made made.made)) refl (one_lies made) refl block_path

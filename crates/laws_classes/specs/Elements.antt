@@ -1,15 +1,16 @@
 -- Elements of classes (ECMA-262, 15.7), and what is answered of one.
 use Rattle.std.specs.Prelude.{ℕ, ◌+◌, ◌≡◌, ◌<◌, Bool, true, false, length, List, [], ◌∷◌, ◌++◌, Result, Ok, Err}
 use Rattle.js_base.specs.declared.kind.Kind.{Kind}
-use Rattle.js_base.specs.declared.kind.Kind.TheVariants.{At as at_sign, LBrack, PrivateIdentifier, RCurly, Semicolon, Star, Static, Str}
-use Rattle.js_base.specs.KindSets.{identifier_name_kinds, number_kinds}
+use Rattle.js_base.specs.declared.kind.Kind.TheVariants.{At as at_sign, RCurly, Semicolon, Star, Static}
 use Rattle.js_base.specs.Kinds.{one_of_kinds}
-use Rattle.js_grammar.specs.Trees.{Label, Slots, end, tree}
+use Rattle.js_grammar.specs.Trees.{Label, NodeKind, Slots, accessor_property, end, method_definition, property_definition, static_block, tree}
 use Rattle.js_grammar.specs.Grammar.{Lexemes, keep, kept, many, nothing, ◌▸◌}
 use Rattle.js_grammar.specs.Parsing.{Test, plain, Fails}
 use Rattle.js_grammar.specs.Productions.{G, Flags, computed_flag, flag, only, static_flag, tok, Decorator, Element}
 use Rattle.js_grammar.specs.Productions.{sym as symbol}
 use Rattle.js_grammar.specs.Table.{rule}
+use Rattle.laws_primary.specs.Decorators.{decorated_kinds}
+pub use Rattle.laws_primary.specs.Decorators.{name_kinds, other_name_kinds}
 use Rattle.laws_primary.specs.js_tree.declared.id.NodeId.{NodeId}
 use Rattle.laws_primary.specs.js_tree.Holding.{Holds, Keeps}
 use Rattle.laws_primary.specs.js_cursor.Parsers.{Parser}
@@ -19,13 +20,6 @@ use Rattle.laws_primary.specs.laws_shared.Lexemes.{Lex, Walked, spot}
 use Rattle.laws_primary.specs.laws_shared.Moves.{Moved}
 use Rattle.laws_primary.specs.laws_shared.Stands.{StandsHere}
 use Rattle.laws_primary.specs.laws_shared.States.{At, Same}
-
--- what a name begins with; first what is neither a number nor a word
-abbrev pub other_name_kinds : List Kind
-other_name_kinds = Str ∷ PrivateIdentifier ∷ LBrack ∷ []
-
-abbrev pub name_kinds : List Kind
-name_kinds = other_name_kinds ++ number_kinds ++ identifier_name_kinds
 
 -- What may stand behind an element: another one, a semicolon alone, or the end of the class.
 abbrev pub behind_kinds : List Kind
@@ -51,12 +45,21 @@ Begun true text f first p = StandsHere first Static true × Moved text f first p
 abbrev pub NoElement : List ℕ → G → ℕ → Type 0
 NoElement text g s = Fails rule (Lex text) behind_element end g s
 
+-- the kinds of their nodes
+abbrev pub is_element : NodeKind → Bool
+is_element method_definition = true
+is_element property_definition = true
+is_element accessor_property = true
+is_element static_block = true
+is_element _ = false
+
 -- An element was taken. Clean: whatever is derived from its beginning before what may stand behind it is this; unclean: nothing is. A node made in the call stands for its tree.
 pub record ElementTaken (text : List ℕ) (f : Flags) (g : G) (p q : Parser) (id : NodeId) : Type 0 where
   pub at : At text f q
   pub same : Same p q
   pub further : p.token.span.start < q.prev_token_end
   pub label : Label
+  pub element : is_element label.kind ≡ true
   pub slots : Slots
   pub pass : Lexemes → Lexemes
   pub walked : Walked text (spot p) (spot q) pass

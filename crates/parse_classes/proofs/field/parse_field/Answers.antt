@@ -3,7 +3,7 @@ use Rattle.std.proofs.lemmas.Bool.{false≢true}
 use Rattle.std.proofs.lemmas.Result.{err_from_is_err_and}
 use Rattle.laws_classes.specs.Elements.{element_flags}
 use Rattle.laws_classes.specs.Fields.{node_of_field}
-use Rattle.laws_classes.proofs.Fields.{bare_stops, bare_taken, field_end, field_made}
+use Rattle.laws_classes.proofs.Fields.{bare_stops, bare_taken, field_element, field_end, field_made}
 use Rattle.parse_classes.proofs.field.parse_field.Goals as goal
 
 pub returns-in_err-end_field : goal.returns-in_err-end_field
@@ -18,4 +18,4 @@ make_field-requires g c =
 
 pub returns : goal.returns
 returns g c = λ text f s h g0 first p a e d.
-    bare_taken a (node_of_field c.args.kind) (element_flags c.args.head.is_static c.args.name.computed) d (λ k. false≢true (sym c.if-at.false ∙ c.at.ensures.1 k)) c.in_ok-end_field.ensures (field_made first c.args.kind e c.element_flags-flags.ensures c.in_ok-node.ensures)
+    bare_taken a (node_of_field c.args.kind) (element_flags c.args.head.is_static c.args.name.computed) d (λ k. false≢true (sym c.if-at.false ∙ c.at.ensures.1 k)) (field_element c.args.kind) c.in_ok-end_field.ensures (field_made first c.args.kind e c.element_flags-flags.ensures c.in_ok-node.ensures)

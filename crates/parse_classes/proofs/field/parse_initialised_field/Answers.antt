@@ -8,7 +8,7 @@ use Rattle.laws_classes.specs.laws_primary.laws_shared.Moves.{unpassable}
 use Rattle.laws_classes.proofs.laws_primary.laws_shared.Here.{uncut}
 use Rattle.laws_classes.proofs.laws_primary.laws_shared.Moving.{standing}
 use Rattle.laws_classes.proofs.laws_primary.laws_shared.Nesting.{nested_room, nests_later}
-use Rattle.laws_classes.proofs.Fields.{field_end, field_made, value_stops_first, value_stops_last, value_taken}
+use Rattle.laws_classes.proofs.Fields.{field_element, field_end, field_made, value_stops_first, value_stops_last, value_taken}
 use Rattle.parse_classes.proofs.field.parse_initialised_field.Goals as goal
 
 pub advance-requires-clause-whole : goal.advance-requires-clause-whole
@@ -45,4 +45,4 @@ make_field-requires g c =
 pub returns : goal.returns
 returns g c = λ text f s h g0 first p a e d.
     let m = c.in_ok-advance.ensures text f d.named.whole.at in
-    value_taken a (node_of_field c.args.kind) (element_flags c.args.head.is_static c.args.name.computed) d c.requires.sign m (c.in_ok-value.ensures text f m.at) c.in_ok-end_field.ensures (field_made first {ids = Some c.args.name.key ∷ Some c.in_ok-value.value ∷ []} {n = element_flags c.args.head.is_static c.args.name.computed} c.args.kind e c.element_flags-flags.ensures c.in_ok-node.ensures)
+    value_taken a (node_of_field c.args.kind) (element_flags c.args.head.is_static c.args.name.computed) d c.requires.sign m (c.in_ok-value.ensures text f m.at) (field_element c.args.kind) c.in_ok-end_field.ensures (field_made first {ids = Some c.args.name.key ∷ Some c.in_ok-value.value ∷ []} {n = element_flags c.args.head.is_static c.args.name.computed} c.args.kind e c.element_flags-flags.ensures c.in_ok-node.ensures)
