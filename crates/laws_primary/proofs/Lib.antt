@@ -4,6 +4,8 @@ pub mod AsyncMethods
 pub mod AsyncWords
 pub mod ClassOperands
 pub mod Classes
+pub mod Decorated
+pub mod DecoratedClasses
 pub mod DecoratedNodes
 pub mod DecoratorLists
 pub mod Decorators
@@ -11,6 +13,7 @@ pub mod DecoratorMembers
 pub mod FlagFaults
 pub mod Functions
 pub mod Intrinsics
+pub mod KeptSlots
 pub mod Links
 pub mod MadeAs
 pub mod Marking
