@@ -1,27 +1,33 @@
 -- Decorators (of their proposal): the loop over the names behind a name, and what stands behind `@`.
-use Rattle.std.proofs.Common.{ℕ, ◌≡◌, ◌≤◌, ◌⊎◌, inl, inr, max, List, [], ◌∷◌, Bool, true, false, not, ◌&&◌, IsTrue, refl, sym, ap, subst, arith, ◌∙◌}
-use Rattle.std.specs.Prelude.{Result, Ok, Err, MatchResult}
-use Rattle.std.proofs.lemmas.Bool.{false≢true, and_from, and_parts}
+use Rattle.std.proofs.Common.{ℕ, ◌≡◌, ◌≤◌, ◌⊎◌, inl, inr, max, List, [], ◌∷◌, length, Some, None, Bool, true, false, not, ◌&&◌, refl, sym, ap, subst, arith, ◌∙◌}
+use Rattle.std.specs.Prelude.{Result, Ok, Err}
+use Rattle.std.proofs.lemmas.Bool.{false≢true, and_from, or_left}
 use Rattle.js_base.specs.declared.kind.Kind.{Kind}
-use Rattle.js_base.specs.declared.kind.Kind.TheVariants.{Dot, LBrack, LParen, QuestionDot}
+use Rattle.js_base.specs.declared.diagnostic.Diagnostic.{Diagnostic}
+use Rattle.js_base.specs.declared.diagnostic.DiagnosticKind.TheVariants.{DecoratorForm}
+use Rattle.js_base.specs.declared.kind.Kind.TheVariants.{At as at_sign, Dot, LBrack, LParen, QuestionDot, Undetermined}
+use Rattle.js_base.specs.declared.span.Span.{Span}
+use Rattle.js_base.specs.Texts.{words}
 use Rattle.js_base.specs.Contexts.{has_flag, yield_flag, await_flag}
 use Rattle.js_base.specs.KindSets.{binding_identifier_kinds}
 use Rattle.js_base.specs.Kinds.{same_kind, one_of_kinds}
-use Rattle.js_grammar.specs.Trees.{Slots, end, tree, Label, no_op, identifier_reference, call_expression}
-use Rattle.js_grammar.specs.Grammar.{Lexeme, Lexemes, Look, alt, here, is, such, nothing, seq}
+use Rattle.js_grammar.specs.Trees.{Slots, end, tree, Label, no_op, identifier_reference, decorator}
+use Rattle.js_grammar.specs.Grammar.{Lexeme, Lexemes, Look, here, is, such, nothing, seq}
 use Rattle.js_grammar.specs.Parsing.{Test, Admits, Goes, Fails, plain, full, always, still, joined}
-use Rattle.js_grammar.specs.Productions.{G, Flags, Symbol, at, IdentifierReference, DecoratorMember}
+use Rattle.js_grammar.specs.Productions.{G, Flags, Symbol, at, tok, Decorator, IdentifierReference, DecoratorMember}
 use Rattle.js_grammar.specs.Productions.{sym as symbol}
 use Rattle.js_grammar.specs.Table.{rule, rule_of, args, paren_expression}
 use Rattle.js_grammar.specs.Follow.{edge_of, follow_of, after}
-use Rattle.js_grammar.specs.Towers.{Link, make_of, this, of_left, of_right}
+use Rattle.js_grammar.specs.Towers.{Link, this, of_left, of_right}
 use Rattle.js_grammar.specs.Chains.{is_decorator_member, base_of}
 use Rattle.js_grammar.proofs.Looks.{covers, covered, apart}
-use Rattle.js_grammar.proofs.Calculus.{here_at, ◌▹◌, ◌▹✗◌, right, then_by, makes_by, inside_full, fails_node, fails_alt, part_fails, weaken, weaken_fails, Within}
+use Rattle.js_grammar.proofs.Calculus.{here_at, ◌▹◌, ◌▹✗◌, right, then_by, makes_by, inside_full, inside_plain, on_itself, fails_node, fails_alt, part_fails, weaken, weaken_fails, Within}
 use Rattle.js_grammar.proofs.Calculus.{left as left_of}
 use Rattle.js_grammar.proofs.FirstClaims.{firsts}
 use Rattle.js_grammar.proofs.FirstRules.{by_first, fails_here}
-use Rattle.js_grammar.proofs.FollowLaws.{admits, surely}
+use Rattle.js_grammar.proofs.FollowLaws.{admits, fails_by, surely}
+use Rattle.js_grammar.proofs.Lexemes.{first_or}
+use Rattle.js_grammar.specs.Marks.{Mark, the_end, the_start}
 use Rattle.js_grammar.proofs.Loops.{chain_start, chain_start_fails, chain_step_by, chain_step_fails_by, chain_end, linked_starts, beginning, unfollowed}
 use Rattle.js_grammar.proofs.Towers.{OneOf, head, later}
 use Rattle.js_grammar.proofs.Chains.{climbs, decorator_links}
@@ -29,26 +35,33 @@ use Rattle.laws_shared.specs.js_tree.declared.id.NodeId.{NodeId}
 use Rattle.laws_shared.specs.js_tree.declared.kind.NodeKind.TheVariants as node_kind
 use Rattle.laws_shared.specs.js_tree.declared.op.Op.TheVariants as op
 use Rattle.laws_shared.specs.js_tree.Nodes.{Node}
-use Rattle.laws_shared.specs.js_tree.Holding.{Keeps}
+use Rattle.laws_shared.specs.js_tree.Holding.{Holds, Keeps}
 use Rattle.laws_shared.proofs.js_tree.HoldingLemmas.{Keeps-refl, Keeps-trans, Keeps-made}
 use Rattle.laws_shared.specs.js_cursor.Parsers.{Parser}
 use Rattle.laws_shared.specs.js_cursor.declared.stop.Stop.{Stop}
+use Rattle.laws_shared.specs.js_cursor.Moves.{GivesUp, at_lexeme}
+use Rattle.laws_shared.specs.js_cursor.Places.{IsAt, goal}
+use Rattle.laws_shared.proofs.js_cursor.Standing.{mark_here}
+use Rattle.laws_shared.specs.Classes.{EndsParse}
 use Rattle.laws_shared.specs.Lexemes.{Lex}
 use Rattle.laws_shared.specs.States.{At}
-use Rattle.laws_shared.specs.Moves.{LeafTaken, plain_label}
+use Rattle.laws_shared.specs.Moves.{LeafTaken, MadeHere, Moved, plain_label}
 use Rattle.laws_shared.specs.Answers.{Numbered, Stops, Stretch, Underived}
 use Rattle.laws_shared.specs.Stands.{NameHere, NameUnder, StandsHere}
 use Rattle.laws_shared.proofs.Dead.{live, lives}
 use Rattle.laws_shared.proofs.Here.{begins_here}
-use Rattle.laws_shared.proofs.MadeNodes.{leaf_held, one_lies}
-use Rattle.laws_shared.proofs.Moving.{stops_behind, stops_so}
+use Rattle.laws_shared.proofs.MadeNodes.{leaf_held, one_held, one_lies}
+use Rattle.laws_shared.proofs.Classes.{gives_up_by}
+use Rattle.laws_shared.proofs.Giving.{gives_up}
+use Rattle.laws_shared.proofs.Tight.{plain_lex}
+use Rattle.laws_shared.proofs.Moving.{same_both, stops_behind, stops_so}
 use Rattle.laws_shared.proofs.NamedFirsts.{fails_unnamed}
 use Rattle.laws_shared.proofs.NameKinds.{name_at, no_listed_name}
-use Rattle.laws_shared.proofs.Paths.{Path, label_here, noded, reads}
-use Rattle.laws_shared.proofs.Signs.{AllAre, NoneIs, none_seen, stands_not, stands_there}
-use Rattle.laws_shared.proofs.Verdicts.{after as grown_behind, either_way}
+use Rattle.laws_shared.proofs.Paths.{Path, ◌⟶◌, ◌⟶✗◌, label_here, noded, noded_by, not_here, reads, token}
+use Rattle.laws_shared.proofs.Signs.{AllAre, NoneIs, none_seen, plain_sign, stands_not, stands_there}
+use Rattle.laws_shared.proofs.Verdicts.{after as grown_behind, either_way, grown_then}
 use Rattle.laws_primary.specs.Members.{LinkForm, Linked, MakesWithArguments, NoLink, OnlyLink, Taken, by_call, by_index, by_name, by_private, chained, link_label, sign_of}
-use Rattle.laws_primary.specs.DecoratorMembers.{DecoratedOutcome, DecoratedTaken, NamedSoFar, NamesOutcome, NotDecorated, ParenthesesOutcome, behind_decorator, decorated}
+use Rattle.laws_primary.specs.DecoratorMembers.{DecoratedOutcome, DecoratedTaken, NamedSoFar, NamesOutcome, NotDecorated, ParenthesesOutcome, ill_formed, behind_decorator, decorated}
 use Rattle.laws_primary.proofs.Links.{other_link}
 use Rattle.laws_primary.proofs.Members.{call_here, call_link, link_taken, no_arguments_here, none_of_links, retake, taken}
 use Rattle.laws_primary.proofs.Operands.{by_path, name_leaf}
@@ -263,3 +276,77 @@ decorated_in_parens {text} {f} {p} q r a k x = go r x
     go : (r : Result NodeId Stop) → ParenthesesOutcome text f p q r → DecoratedOutcome text f p q r
     go (Ok id) x = retake x (λ l cs pass c. whole c) (λ z. none z)
     go (Err e) x = stops_so p q e (λ z. none z) x
+
+-- ---- a decorator
+
+abbrev going_on : List Kind
+going_on = LParen ∷ Dot ∷ []
+
+module _ {text : List ℕ} {f : Flags} {p q : Parser} (a : At text f p) (k : p.token.kind ≡ at_sign) (m : Moved text f p q) where
+  sign_plain : p.token.escaped ≡ false
+  unfolding words
+  sign_plain = plain_sign at_sign a k refl refl refl
+
+  behind_sign : {X : Test} → Path text f X (seq (tok at_sign) (decorated f)) p (decorated f) q (λ us. us)
+  behind_sign = token at_sign a k sign_plain refl m
+
+  none_behind : NotDecorated text f q.prev_token_end → Underived text (at Decorator f) p.prev_token_end
+  unfolding rule rule_of covers
+  none_behind n = fails_by (fails_node (inside_plain {F' = ends_look} refl) (behind_sign ⟶✗ n))
+
+  pub decorator_stops : (w : Parser) (e : Stop) → DecoratedOutcome text f q w (Err e) → Stops p w e (Underived text (at Decorator f) p.prev_token_end)
+  decorator_stops w e z = stops_behind w e m.same (λ g. grown_then m.kept g) (λ n. none_behind n) z
+
+  module _ {r : Parser} {inside : NodeId} (x : DecoratedTaken text f q r inside) where
+    abbrev There : Kind → Type 0
+    There v = r.token.kind ≡ v → AllAre text r.prev_token_end v
+
+    -- it ends before neither of these
+    not_before : one_of_kinds going_on r.token.kind ≡ true → {l : Label} {cs : Slots} {pass : Lexemes → Lexemes} → Stretch text behind_decorator (decorated f) q.prev_token_end nothing r.prev_token_end (tree l cs) pass → NotDecorated text f q.prev_token_end
+    not_before h c = unfollowed c.goes on_itself (λ us y i e. false≢true (sym (ap not (ap (one_of_kinds going_on) (there refl y i).0 ∙ h)) ∙ e.0))
+      where
+        there : There r.token.kind
+        there = first_or There LParen r.token.kind _ _ refl h (λ e. stands_there x.at e refl) (λ h. first_or There Dot r.token.kind _ _ refl h (λ e. stands_there x.at e refl) (λ h. absurd (false≢true h)))
+
+    pub form_stops : one_of_kinds going_on r.token.kind ≡ true → (w : Parser) (e : Stop) → GivesUp EndsParse r w e → Stops p w e (Underived text (at Decorator f) p.prev_token_end)
+    form_stops h w e g = stops_behind w e (same_both m.same x.same) (λ g. grown_then m.kept (grown_behind x.verdict g)) (λ n. n) (gives_up EndsParse r w e x.at g (λ d u. u) (either_way x.verdict (λ c. none_behind (not_before h c)) (λ n. none_behind n)))
+
+    decorated_path : Path text f behind_decorator (decorated f) q nothing r (tree x.label x.slots)
+    decorated_path = record { at = x.at; further = x.further; pass = x.pass; walked = x.walked; verdict = x.verdict }
+
+    decorator_path : Path text f (after (at Decorator f)) (rule (at Decorator f)) p nothing r (tree (label_here decorator no_op p r) (tree x.label x.slots end))
+    unfolding rule rule_of covers
+    decorator_path = noded_by a (inside_plain {F' = ends_look} refl) (behind_sign ⟶ decorated_path)
+
+    module _ (n : one_of_kinds going_on r.token.kind ≡ false) where
+      none_goes_on : (y : Lexeme) → Lex text r.prev_token_end y → one_of_kinds going_on y.kind ≡ false
+      unfolding covers apart
+      none_goes_on y l = go (one_of_kinds going_on y.kind) refl
+        where
+          go : (b : Bool) → one_of_kinds going_on y.kind ≡ b → b ≡ false
+          go true e = absurd (not_here x.at going_on refl n y l e)
+          go false e = refl
+
+      pub decorator_answers : {w : Parser} {id : NodeId} {s : Span} → s.start ≡ p.token.span.start → s.end ≡ r.prev_token_end → MadeHere (plain_label node_kind.Decorator op.None s) (Some inside ∷ []) r w id → Numbered text f (at Decorator f) p w id
+      decorator_answers {w} {id} {s} b c d =
+          let l : plain_label node_kind.Decorator op.None s ≡ label_here decorator no_op p r = rw (b, c) refl in
+          let made : MadeHere (label_here decorator no_op p r) (Some inside ∷ []) r w id = subst (λ (v : Label). MadeHere v (Some inside ∷ []) r w id) l d in
+          let ks : Keeps p.nodes r.nodes = subst (λ (ns : List Node). Keeps ns r.nodes) m.nodes x.keeps in
+          by_path decorator_path (same_both m.same x.same) made.stays (λ y i. or_left _ _ (ap not (none_goes_on y (plain_lex i)))) refl (one_held p.nodes made (subst (λ (ns : List Node). Holds r.nodes (length ns) (length r.nodes) inside.0 x.label x.slots) m.nodes x.holds)) (Keeps-trans ks (Keeps-made made.made)) refl (one_lies made)
+
+-- ---- what is told of another form
+
+pub form_marked : (p : Parser) {d : Diagnostic} → IsAt p → (p.token.kind ≡ Undetermined → ⊥) → d ≡ ill_formed p.token.span → Mark (goal p) p.text d
+form_marked p a n e = subst (λ (v : Diagnostic). Mark (goal p) p.text v) (sym e) (mark_here DecoratorForm p.token.span None a (at_lexeme n refl) (λ s l i. ((the_start l.of_text l.is.0, the_end l.of_text l.is.1), (refl, refl))))
+
+pub form_ends : (p q : Parser) (d : Diagnostic) (e : Stop) → d ≡ ill_formed p.token.span → GivesUp (λ v. v ≡ d) p q e → GivesUp EndsParse p q e
+form_ends p q d e i g = gives_up_by p q e g (λ v u. subst EndsParse (sym (u ∙ i)) refl)
+
+-- no name stands here
+pub no_name_stops : {text : List ℕ} {f : Flags} {p : Parser} (q : Parser) (e : Stop) → At text f p → NameHere p false → GivesUp EndsParse p q e → NamesOutcome text f p q (Err e)
+no_name_stops {p = p} q e a h g = gives_up EndsParse p q e a g (λ d u. u) (no_names_here a h)
+
+-- ---- what the loop keeps
+
+abbrev pub NamesGo : ℕ → Parser → Parser → NodeId → Type 0
+NamesGo start p q left = (start ≡ p.token.span.start) × ((text : List ℕ) (f : Flags) → At text f p → NamesTaken text f p q left)

@@ -1,9 +1,10 @@
 -- The names by which the contracts of this crate speak: each definition stands where its line says.
 pub use Rattle.js_base.specs.KindSets.{number_kinds}
 pub use Rattle.js_base.specs.Kinds.{one_of_kinds}
-pub use Rattle.js_base.specs.declared.kind.Kind.TheVariants.{Dot, LBrack, LParen, Percent, QuestionDot, Str, Super, Target}
+pub use Rattle.js_base.specs.declared.kind.Kind.TheVariants.{At, Dot, LBrack, LParen, Percent, QuestionDot, Str, Super, Target}
 pub use Rattle.js_grammar.specs.Marks.{Mark}
-pub use Rattle.js_grammar.specs.Productions.{LeftHandSide, Primary, at, optional_flag}
+pub use Rattle.js_grammar.specs.Productions.{Decorator, LeftHandSide, Primary, at, optional_flag}
+pub use Rattle.parse_primary.specs.laws_primary.DecoratorMembers.{ReadsDecorated, ReadsNames, ReadsParentheses}
 pub use Rattle.parse_primary.specs.laws_primary.Marked.{Marks, MarksNode}
 pub use Rattle.parse_primary.specs.laws_primary.Members.{CallsMember, ChainsCallee, GoesOnMember, Heads, LinkHere, MakesWithArguments, MakesWithIndex, MakesWithName, ReadsLink, TellsChain, flagged_label, is_super_word, member_name_kinds, no_link_behind}
 pub use Rattle.parse_primary.specs.laws_primary.NewTargets.{BehindDot, BehindNew, ChecksTarget, TakesTarget, outside_at}

@@ -1,7 +1,7 @@
 //! Decorators (of the proposal Decorators; no section of ECMA-262).
 
-ghost use Rattle.std.specs.Prelude.{◌≡◌, ◌≤◌};
-ghost use Rattle.parse_members.specs.Prelude.{Answers, at, At, CanNest, Decorator, EndsParse, GivesUp, room, Standing};
+ghost use Rattle.std.specs.Prelude.{◌≡◌, ◌∷◌, []};
+ghost use Rattle.parse_members.specs.Prelude.{Answers, at, At, CanNest, Decorator, Dot, EndsParse, GivesUp, LParen, one_of_kinds, ReadsDecorated, ReadsNames, room, Standing};
 
 use crate::left_hand_side::{parse_named_link, parse_with_arguments};
 use crate::primary::parse_parenthesized_expression;
@@ -42,13 +42,14 @@ fn parse_decorator_expression<C: ParserConfig, N: Nested<C>>(
 ) -> Result<NodeId, Stop>
     requires at { Standing p.old }
     requires nests { CanNest (N.can nested.now) (room p.old) }
+    ensures { ReadsDecorated p.old p.new result }
 {
-    if p.at(Kind::LParen) {
+    if stands(p, Kind::LParen) {
         return parse_parenthesized_expression(p, nested);
     }
     let start = p.cur_start();
     let member = parse_decorator_member(p)?;
-    if !p.at(Kind::LParen) {
+    if !stands(p, Kind::LParen) {
         return Ok(member);
     }
     parse_with_arguments(p, nested, start, NodeKind::CallExpression, false, member)
@@ -58,6 +59,7 @@ fn parse_decorator_expression<C: ParserConfig, N: Nested<C>>(
 /// Reads: DecoratorMember.
 fn parse_decorator_member<C: ParserConfig>(p: &mut ParserImpl<'_, C>) -> Result<NodeId, Stop>
     requires at { Standing p.old }
+    ensures { ReadsNames p.old p.new result }
 {
     let start = p.cur_start();
     if !name_stands(p) {
@@ -71,7 +73,9 @@ fn parse_decorator_member<C: ParserConfig>(p: &mut ParserImpl<'_, C>) -> Result<
 }
 
 /// Whether a decorator that was read would go on with such a lexeme, if more of an expression could stand there.
-fn goes_on(kind: Kind) -> bool {
+fn goes_on(kind: Kind) -> bool
+    ensures { result ≡ one_of_kinds (LParen ∷ Dot ∷ []) kind }
+{
     matches!(kind, Kind::LParen | Kind::Dot)
 }
 

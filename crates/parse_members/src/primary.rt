@@ -1,7 +1,7 @@
 //! Names, literals and parentheses (ECMA-262, section 13.2).
 
 ghost use Rattle.std.specs.Prelude.{◌≡◌, true, false, ◌<◌, length};
-ghost use Rattle.parse_members.specs.Prelude.{Answers, at, CanNest, kind_of, LParen, Marks, MarksNode, NameHere, number_kinds, one_of_kinds, Percent, Primary, room, slashes, Standing, Str};
+ghost use Rattle.parse_members.specs.Prelude.{Answers, at, CanNest, kind_of, LParen, Marks, MarksNode, NameHere, number_kinds, one_of_kinds, Percent, Primary, ReadsParentheses, room, slashes, Standing, Str};
 ghost use Rattle.parse_shared.specs.js_tree.declared.kind.NodeKind.TheVariants as node;
 ghost use Rattle.parse_primary.specs.laws_primary.Marked as marked;
 
@@ -100,7 +100,7 @@ pub(crate) fn parse_parenthesized_expression<C: ParserConfig, N: Nested<C>>(
     requires at { Standing p.old }
     requires nests { CanNest (N.can nested.now) (room p.old) }
     requires kind { p.old.token.kind ≡ LParen }
-    ensures { Answers (at Primary) p.old p.new result }
+    ensures { ReadsParentheses p.old p.new result }
 {
     let opening = p.cur_token().span();
     advance(p)?;
