@@ -1,25 +1,13 @@
-use Rattle.std.proofs.Common.{ℕ, ◌≡◌, ◌∙◌, List, Option, ap, arith, get_or, refl, sym, ◌∷◌, []}
-use Rattle.std.proofs.lemmas.List.{get_or_push}
+use Rattle.std.proofs.Common.{arith, refl, ◌∷◌, []}
 use Rattle.std.proofs.lemmas.Result.{err_from_is_err_and}
 use Rattle.js_base.specs.declared.kind.Kind.TheVariants.{Class}
-use Rattle.js_grammar.specs.Trees.{Label}
-use Rattle.laws_primary.specs.js_cursor.Parsers.{Parser}
-use Rattle.laws_primary.specs.js_tree.Labels.{kind_of}
-use Rattle.laws_primary.specs.js_tree.Nodes.{Node, empty_program, label, node_at}
-use Rattle.laws_primary.specs.js_tree.declared.id.NodeId.{NodeId}
-use Rattle.laws_primary.specs.laws_shared.Moves.{MadeHere}
 use Rattle.laws_primary.proofs.laws_shared.Moving.{standing}
 use Rattle.laws_primary.proofs.laws_shared.Nesting.{nests_later}
 use Rattle.laws_primary.proofs.laws_shared.Signs.{whole_sign}
 use Rattle.laws_primary.proofs.Functions.{room_less}
 use Rattle.laws_primary.proofs.Classes.{body_stops, class_answers, embodied, inherited, inheriting_stops, name_stops, named}
+use Rattle.laws_primary.proofs.DecoratedNodes.{made_kind}
 use Rattle.parse_primary.proofs.class.parse_undecorated_class.Goals as goal
-
--- the kind of a node that was made
-made_kind : {l : Label} {ids : List (Option NodeId)} {p q : Parser} {id : NodeId} → MadeHere l ids p q id → kind_of (node_at q.nodes id).kind ≡ l.kind
-made_kind {l} {ids} {p} {q} {id} m =
-    let at : node_at q.nodes id ≡ m.node = ap (λ (ns : List Node). get_or ns id.0 empty_program) m.made.nodes ∙ get_or_push p.nodes m.node empty_program id.0 (sym m.made.number) in
-    ap (λ (v : Label). v.kind) (ap label at ∙ m.label_is)
 
 pub advance-requires-clause-whole : goal.advance-requires-clause-whole
 advance-requires-clause-whole g c = whole_sign Class c.requires.at c.requires.word.0 refl refl
