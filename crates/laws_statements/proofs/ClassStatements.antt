@@ -2,7 +2,9 @@
 use Rattle.std.proofs.Common.{ℕ, ◌≡◌, List, length, true, refl, sym, ap, subst, arith, ◌∙◌}
 use Rattle.std.specs.Prelude.{IfOk, Result, Ok, Err}
 use Rattle.js_base.specs.declared.diagnostic.Diagnostic.{Diagnostic}
-use Rattle.js_base.specs.declared.kind.Kind.TheVariants.{Class, Undetermined}
+use Rattle.js_base.specs.declared.kind.Kind.TheVariants.{Undetermined}
+use Rattle.js_base.specs.Kinds.{one_of_kinds}
+use Rattle.std.proofs.lemmas.Bool.{false≢true}
 use Rattle.js_grammar.specs.Conditions.{ends_in_sub}
 use Rattle.js_grammar.specs.Trees.{Label, end, tree, class_declaration}
 use Rattle.js_grammar.specs.Grammar.{nothing, such}
@@ -11,7 +13,7 @@ use Rattle.js_grammar.specs.Productions.{Flags, at, ListItem, Sub}
 use Rattle.js_grammar.specs.Productions.{Class as AClass}
 use Rattle.js_grammar.specs.Productions.{sym as symbol}
 use Rattle.js_grammar.specs.Table.{rule, rule_of}
-use Rattle.js_grammar.proofs.Looks.{covers}
+use Rattle.js_grammar.proofs.Looks.{apart, covers}
 use Rattle.js_grammar.proofs.Calculus.{◌▹✗◌, fails_never, weaken_fails_on}
 use Rattle.laws_shared.specs.js_tree.declared.id.NodeId.{NodeId}
 use Rattle.laws_shared.specs.js_tree.Holding.{Holds, Keeps}
@@ -23,27 +25,28 @@ use Rattle.laws_shared.specs.js_cursor.declared.stop.Stop.{Stop}
 use Rattle.laws_shared.specs.Answers.{Numbered, Outcome, Underived, unclean}
 use Rattle.laws_shared.specs.Classes.{IsEarly}
 use Rattle.laws_shared.specs.Lexemes.{Lex, spot}
-use Rattle.laws_shared.specs.Stands.{StandsHere}
 use Rattle.laws_shared.specs.States.{At}
 use Rattle.laws_shared.specs.Statements.{after_statement, NoStatement, Statement, StatementOutcome}
 use Rattle.laws_shared.proofs.Giving.{kept_one}
 use Rattle.laws_shared.proofs.MadeNodes.{held_label}
 use Rattle.laws_shared.proofs.Moving.{same_both, stops_so}
-use Rattle.laws_shared.proofs.Paths.{Path, ◌⟼◌, at_kind, by_symbol_as, last_called, walked_to}
+use Rattle.laws_shared.proofs.Paths.{Path, ◌⟼◌, at_kinds, by_symbol_as, last_called, walked_to}
 use Rattle.laws_shared.proofs.Told.{told_at, told_same}
 use Rattle.laws_shared.proofs.Verdicts.{after as grown_behind}
+use Rattle.parse_declarations.specs.laws_primary.Decorators.{ClassHere, class_kinds}
+use Rattle.parse_declarations.proofs.laws_primary.DecoratedClasses.{class_kind}
 use Rattle.laws_statements.proofs.Statements.{never_open, no_symbol}
 
 -- the node is a declaration of a class
 abbrev IsClass : Parser → NodeId → Type 0
 IsClass w id = kind_of (node_at w.nodes id).kind ≡ class_declaration
 
-module _ {text : List ℕ} {f : Flags} {p : Parser} (a : At text f p) (h : StandsHere p Class true) where
+module _ {text : List ℕ} {f : Flags} {p : Parser} (a : At text f p) (h : ClassHere p true) where
   -- ---- in a list
 
   to_class : Goes rule (Lex text) (after_statement (at ListItem f)) end (rule (at ListItem f)) p.prev_token_end (symbol AClass f) p.prev_token_end (λ us. us) (still 0)
-  unfolding rule rule_of covers
-  to_class = at_kind a Class h.0 refl
+  unfolding rule rule_of covers apart
+  to_class = at_kinds a class_kinds refl (class_kind p h)
 
   no_item : Underived text (at AClass f) p.prev_token_end → NoStatement text (at ListItem f) p.prev_token_end
   no_item n = no_symbol (to_class ▹✗ weaken_fails_on n (record { admits = λ ts vs k ls rest d e. (refl, refl) }))
@@ -61,12 +64,12 @@ module _ {text : List ℕ} {f : Flags} {p : Parser} (a : At text f p) (h : Stand
 
   -- none is derived there
   pub no_class_body : NoStatement text (at Sub f) p.prev_token_end
-  unfolding rule rule_of covers
-  no_class_body = no_symbol (at_kind a Class h.0 refl ▹✗ fails_never)
+  unfolding rule rule_of covers apart
+  no_class_body = no_symbol (at_kinds a class_kinds refl (class_kind p h) ▹✗ fails_never)
 
   -- some lexeme stands here
   pub class_stood : p.token.kind ≡ Undetermined → ⊥
-  class_stood e = let z : Class ≡ Undetermined = sym h.0 ∙ e in cc
+  class_stood e = false≢true (sym (ap (one_of_kinds class_kinds) e) ∙ class_kind p h)
 
   -- it was read and told
   pub class_told : {w v : Parser} {d : Diagnostic} {id : NodeId} → Numbered text f (at AClass f) p w id → IsClass w id → KeepsDiagnostic d w v → IsEarly d → Statement text f (at Sub f) p v id

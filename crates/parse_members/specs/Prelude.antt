@@ -4,6 +4,8 @@ pub use Rattle.js_base.specs.Kinds.{one_of_kinds}
 pub use Rattle.js_base.specs.declared.kind.Kind.TheVariants.{At, Dot, LBrack, LParen, Percent, QuestionDot, Str, Super, Target}
 pub use Rattle.js_grammar.specs.Marks.{Mark}
 pub use Rattle.js_grammar.specs.Productions.{Decorator, LeftHandSide, Primary, at, optional_flag}
+pub use Rattle.parse_primary.specs.laws_primary.Classes.{class_name, node_of_class}
+pub use Rattle.parse_primary.specs.laws_primary.Decorators.{AllDecorators, ClassHere, StopsDecorators, spanning}
 pub use Rattle.parse_primary.specs.laws_primary.DecoratorMembers.{ReadsDecorated, ReadsNames, ReadsParentheses}
 pub use Rattle.parse_primary.specs.laws_primary.Marked.{Marks, MarksNode}
 pub use Rattle.parse_primary.specs.laws_primary.Members.{CallsMember, ChainsCallee, GoesOnMember, Heads, LinkHere, MakesWithArguments, MakesWithIndex, MakesWithName, ReadsLink, TellsChain, flagged_label, is_super_word, member_name_kinds, no_link_behind}
@@ -13,7 +15,7 @@ pub use Rattle.parse_primary.specs.laws_primary.Templates.{GoesOn, ReadsChainLin
 pub use Rattle.parse_shared.specs.js_cursor.Moves.{GivesUp}
 pub use Rattle.parse_shared.specs.js_cursor.Places.{IsAt, goal}
 pub use Rattle.parse_shared.specs.js_tree.Labels.{kind_of, number_of}
-pub use Rattle.parse_shared.specs.js_tree.Nodes.{node_at}
+pub use Rattle.parse_shared.specs.js_tree.Nodes.{label, node_at}
 pub use Rattle.parse_shared.specs.laws_shared.Answers.{Answers}
 pub use Rattle.parse_shared.specs.laws_shared.Classes.{EndsParse}
 pub use Rattle.parse_shared.specs.laws_shared.Lexemes.{slashes}

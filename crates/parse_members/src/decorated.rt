@@ -1,19 +1,21 @@
 //! Classes, and what stands behind decorators (ECMA-262, section 15.7, and the proposal Decorators).
 
-ghost use Rattle.std.specs.Prelude.{◌≡◌, IfOk, true};
-ghost use Rattle.parse_members.specs.Prelude.{Answers, at, At, begins_class, CanNest, class_name, kind_of, node_at, node_of_class, room, Standing};
+ghost use Rattle.std.specs.Prelude.{◌≡◌, ◌≤◌, ◌<◌, ◌++◌, IfOk, MatchResult, false, length, true};
+ghost use Rattle.parse_members.specs.Prelude.{AllDecorators, Answers, at, At, CanNest, class_name, ClassHere, is_textual, kind_of, label, MadeHere, node_at, node_of_class, room, spanning, Standing, StopsDecorators};
 
 use crate::decorator::parse_decorator;
-use js_base::{Kind, NoMemory, Span};
+use js_base::{Kind, NoMemory};
 use parse_primary::class::parse_undecorated_class;
 use parse_primary::forms::ClassForm;
-use parse_shared::lexemes::stands;
+use parse_shared::lexemes::{keyword_of, stands};
 use parse_shared::nested::Nested;
 use parse_shared::{NodeId, ParserConfig, ParserImpl, Stop};
 
 /// Whether a class begins here: with its word, or with a decorator.
-pub fn class_stands<C: ParserConfig>(p: &ParserImpl<'_, C>) -> bool {
-    p.at(Kind::At) || stands(p, Kind::Class)
+pub fn class_stands<C: ParserConfig>(p: &ParserImpl<'_, C>) -> bool
+    ensures { ClassHere p.now result }
+{
+    matches!(keyword_of(p.cur_token()), Kind::At | Kind::Class)
 }
 
 /// A ClassDeclaration or a ClassExpression, with decorators before it or none (ECMA-262, section 15.7, and the proposal
@@ -27,6 +29,9 @@ pub fn parse_class<C: ParserConfig, N: Nested<C>>(
 ) -> Result<NodeId, Stop>
     requires at { Standing p.old }
     requires nests { CanNest (N.can nested.now) (room p.old) }
+    requires class { ClassHere p.old true }
+    ensures taken { Answers (at (class_name form)) p.old p.new result }
+    ensures kind { IfOk result (λ id. kind_of (node_at p.new.nodes id).kind ≡ node_of_class form) }
 {
     if !p.at(Kind::At) {
         return parse_undecorated_class(p, nested, form);
@@ -49,6 +54,7 @@ pub fn parse_decorators<C: ParserConfig, N: Nested<C>>(
     requires at { Standing p.old }
     requires nests { CanNest (N.can nested.now) (room p.old) }
     requires sign { p.old.token.kind ≡ At }
+    ensures { MatchResult result (λ v. AllDecorators p.old p.new v.items) (λ e. StopsDecorators p.old p.new e) }
 {
     let first = parse_decorator(p, nested)?;
     let mut decorators = Vec::new(p.alloc);
@@ -67,12 +73,15 @@ pub fn decorate<C: ParserConfig>(
     id: NodeId,
     decorators: Vec<Option<NodeId>>,
 ) -> Result<NodeId, NoMemory>
+    requires node { id.0 < length p.old.nodes }
+    requires plain { is_textual (node_at p.old.nodes id).kind ≡ false }
+    requires before { start ≤ p.old.prev_token_end }
+    ensures { IfOk result (λ made. MadeHere (spanning start p.old.prev_token_end (label (node_at p.old.nodes id))) ((node_at p.old.nodes id).children ++ decorators.items) p.old p.new made) }
 {
-    let mut behind = decorators;
+    let span = p.end_span(start);
+    let (kind, op, flags) = (p.ast.kind(id), p.ast.op(id), p.ast.flags(id));
     let mut children = Vec::new(p.alloc);
     children.extend_from_slice(p.ast.children(id))?;
-    children.append(&mut behind)?;
-    let span = Span::new(start, p.ast.span(id).end);
-    let (kind, op, flags) = (p.ast.kind(id), p.ast.op(id), p.ast.flags(id));
+    children.extend_from_slice(decorators.as_slice())?;
     p.ast.node(kind, span, op, flags, None, children)
 }

@@ -1,7 +1,7 @@
 -- The names by which the contracts of this crate speak: each definition stands where its line says.
 pub use Rattle.js_base.specs.Contexts.{has_flag, in_flag}
 pub use Rattle.js_base.specs.Kinds.{one_of_kinds}
-pub use Rattle.js_base.specs.declared.kind.Kind.TheVariants.{Break, Catch, Class, Colon, Const, Continue, Debugger, Finally, LCurly, LParen, Return, Semicolon, Str, Switch, Throw, Try}
+pub use Rattle.js_base.specs.declared.kind.Kind.TheVariants.{Break, Catch, Colon, Const, Continue, Debugger, Finally, LCurly, LParen, Return, Semicolon, Str, Switch, Throw, Try}
 pub use Rattle.js_grammar.specs.Marks.{EdgeOf, Mark}
 pub use Rattle.js_grammar.specs.Productions.{Catch as ACatch, Block, Body, ListItem, Sub, at, sym}
 pub use Rattle.parse_control.specs.laws_statements.Blocks.{NoBracesHere, TakesBraces}
@@ -12,6 +12,7 @@ pub use Rattle.parse_control.specs.laws_statements.SwitchStatements.{AllClauses,
 pub use Rattle.parse_control.specs.laws_statements.TryStatements.{NoClauses, TakesClauses, TakesPart, finally_of, neither, parameter_of}
 pub use Rattle.parse_control.specs.laws_statements.WordStatements.{ChecksOperand, ChecksReturn, JumpsHere, TakesArgument, TakesLabel, fault_of_return, late_operand, stray_return}
 pub use Rattle.parse_control.specs.laws_statements.declared.forms.StatementList.TheVariants.{Clause}
+pub use Rattle.parse_primary.specs.laws_primary.Decorators.{ClassHere}
 pub use Rattle.parse_primary.specs.laws_primary.Functions.{BeginsFunction, NoFunctionHere}
 pub use Rattle.parse_shared.specs.js_cursor.Places.{IsAt, goal}
 pub use Rattle.parse_shared.specs.js_tree.Nodes.{node_at}

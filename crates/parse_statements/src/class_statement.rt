@@ -1,7 +1,7 @@
 //! Declarations of classes as statements (ECMA-262, section 15.7).
 
-ghost use Rattle.std.specs.Prelude.{◌≡◌, true};
-ghost use Rattle.parse_statements.specs.Prelude.{at, CanNest, Class, ListItem, room, Standing, StandsHere, Sub, TakesStatement};
+ghost use Rattle.std.specs.Prelude.{true};
+ghost use Rattle.parse_statements.specs.Prelude.{at, CanNest, ClassHere, ListItem, room, Standing, Sub, TakesStatement};
 
 use js_base::DiagnosticKind;
 use parse_members::decorated::parse_class;
@@ -18,7 +18,7 @@ pub fn parse_class_declaration<C: ParserConfig, N: Nested<C>>(
 ) -> Result<NodeId, Stop>
     requires at { Standing p.old }
     requires nests { CanNest (N.can nested.now) (room p.old) }
-    requires word { StandsHere p.old Class true }
+    requires class { ClassHere p.old true }
     ensures { TakesStatement (at ListItem) p.old p.new result }
 {
     parse_class(p, nested, ClassForm::Declaration)
@@ -33,7 +33,7 @@ pub fn parse_class_as_body<C: ParserConfig, N: Nested<C>>(
 ) -> Result<NodeId, Stop>
     requires at { Standing p.old }
     requires nests { CanNest (N.can nested.now) (room p.old) }
-    requires word { StandsHere p.old Class true }
+    requires class { ClassHere p.old true }
     ensures { TakesStatement (at Sub) p.old p.new result }
 {
     let start = p.cur_start();

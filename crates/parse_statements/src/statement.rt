@@ -1,7 +1,7 @@
 //! Statements (ECMA-262, chapter 14).
 
 ghost use Rattle.std.specs.Prelude.{◌≡◌, ◌≤◌, ◌&&◌, ◌↔◌, IsTrue, true, false};
-ghost use Rattle.parse_statements.specs.Prelude.{at, CanNest, Class, Colon, Const, has_flag, in_flag, IsLabel, keyword_kind, LabelsStatement, ListItem, NoFunctionHere, one_of_kinds, room, Semicolon, SpellsName, Standing, StandsHere, statement_kinds, Sub, TakesAnywhere, TakesStatement, TakesUndeclared};
+ghost use Rattle.parse_statements.specs.Prelude.{at, CanNest, ClassHere, Colon, Const, has_flag, in_flag, IsLabel, keyword_kind, LabelsStatement, ListItem, NoFunctionHere, one_of_kinds, room, Semicolon, SpellsName, Standing, StandsHere, statement_kinds, Sub, TakesAnywhere, TakesStatement, TakesUndeclared};
 
 use crate::block::parse_block_statement;
 use crate::class_statement::{parse_class_as_body, parse_class_declaration};
@@ -89,7 +89,7 @@ fn parse_any_statement<C: ParserConfig, N: Sequences<C>>(
     requires allows_in { has_flag in_flag p.old.ctx ≡ true }
     requires other { StandsHere p.old Const false }
     requires no_function { NoFunctionHere p.old }
-    requires no_class { StandsHere p.old Class false }
+    requires no_class { ClassHere p.old false }
     ensures { TakesUndeclared p.old p.new result }
 {
     if escaped_word_stands(p) {

@@ -1,5 +1,7 @@
 use Rattle.std.proofs.Common.{refl, ◌∙◌, sym}
+use Rattle.js_base.specs.declared.kind.Kind.TheVariants.{At as at_sign, Class}
 use Rattle.parse_shared.proofs.laws_shared.Escapes.{keyword_escaped, keyword_none, plain_here}
+use Rattle.parse_primary.proofs.laws_primary.DecoratedClasses.{no_class_here}
 use Rattle.parse_shared.specs.laws_shared.Statements.{statement_kinds}
 use Rattle.std.proofs.lemmas.Bool.{and_parts}
 use Rattle.parse_control.proofs.laws_statements.Statements.{no_own_kind}
@@ -42,7 +44,7 @@ pub parse_variable_statement-requires-clause-word : goal.parse_variable_statemen
 parse_variable_statement-requires-clause-word g c = plain_here c.args.p.now (sym c.cur_kind.ensures ∙ c.in-Var.is) refl c.escaped_word_stands.ensures c.if-escaped_word_stands.false
 
 pub parse_expression_or_labeled_statement-requires-in_default-clause-other : goal.parse_expression_or_labeled_statement-requires-in_default-clause-other
-parse_expression_or_labeled_statement-requires-in_default-clause-other g c = keyword_none c.args.p.now.token statement_kinds (no_own_kind _ (λ e. c.in_default.not-LCurly (c.cur_kind.ensures ∙ e)) (λ e. c.in_default.not-Semicolon (c.cur_kind.ensures ∙ e)) (λ e. c.in_default.not-If (c.cur_kind.ensures ∙ e)) (λ e. c.in_default.not-Do (c.cur_kind.ensures ∙ e)) (λ e. c.in_default.not-While (c.cur_kind.ensures ∙ e)) (λ e. c.in_default.not-With (c.cur_kind.ensures ∙ e)) (λ e. c.in_default.not-Break (c.cur_kind.ensures ∙ e)) (λ e. c.in_default.not-Continue (c.cur_kind.ensures ∙ e)) (λ e. c.in_default.not-Return (c.cur_kind.ensures ∙ e)) (λ e. c.requires.no_function.0 e (plain_here c.args.p.now e refl c.escaped_word_stands.ensures c.if-escaped_word_stands.false).1) (λ e. c.in_default.not-Throw (c.cur_kind.ensures ∙ e)) (λ e. c.in_default.not-Switch (c.cur_kind.ensures ∙ e)) (λ e. c.in_default.not-Try (c.cur_kind.ensures ∙ e)) (λ e. c.in_default.not-For (c.cur_kind.ensures ∙ e)) (λ e. c.in_default.not-Debugger (c.cur_kind.ensures ∙ e)) (λ e. c.in_default.not-Var (c.cur_kind.ensures ∙ e)) (λ e. c.requires.other e (plain_here c.args.p.now e refl c.escaped_word_stands.ensures c.if-escaped_word_stands.false).1) (λ e. c.requires.no_class e (plain_here c.args.p.now e refl c.escaped_word_stands.ensures c.if-escaped_word_stands.false).1)) refl
+parse_expression_or_labeled_statement-requires-in_default-clause-other g c = keyword_none c.args.p.now.token statement_kinds (no_own_kind _ (λ e. c.in_default.not-LCurly (c.cur_kind.ensures ∙ e)) (λ e. c.in_default.not-Semicolon (c.cur_kind.ensures ∙ e)) (λ e. c.in_default.not-If (c.cur_kind.ensures ∙ e)) (λ e. c.in_default.not-Do (c.cur_kind.ensures ∙ e)) (λ e. c.in_default.not-While (c.cur_kind.ensures ∙ e)) (λ e. c.in_default.not-With (c.cur_kind.ensures ∙ e)) (λ e. c.in_default.not-Break (c.cur_kind.ensures ∙ e)) (λ e. c.in_default.not-Continue (c.cur_kind.ensures ∙ e)) (λ e. c.in_default.not-Return (c.cur_kind.ensures ∙ e)) (λ e. c.requires.no_function.0 e (plain_here c.args.p.now e refl c.escaped_word_stands.ensures c.if-escaped_word_stands.false).1) (λ e. c.in_default.not-Throw (c.cur_kind.ensures ∙ e)) (λ e. c.in_default.not-Switch (c.cur_kind.ensures ∙ e)) (λ e. c.in_default.not-Try (c.cur_kind.ensures ∙ e)) (λ e. c.in_default.not-For (c.cur_kind.ensures ∙ e)) (λ e. c.in_default.not-Debugger (c.cur_kind.ensures ∙ e)) (λ e. c.in_default.not-Var (c.cur_kind.ensures ∙ e)) (λ e. c.requires.other e (plain_here c.args.p.now e refl c.escaped_word_stands.ensures c.if-escaped_word_stands.false).1) (λ e. no_class_here c.args.p.now Class refl c.requires.no_class e (plain_here c.args.p.now e refl c.escaped_word_stands.ensures c.if-escaped_word_stands.false).1) (λ e. no_class_here c.args.p.now at_sign refl c.requires.no_class e (plain_here c.args.p.now e refl c.escaped_word_stands.ensures c.if-escaped_word_stands.false).1)) refl
 
 pub returns-in-If : goal.returns-in-If
 returns-in-If g c = λ b u. c.parse_if_statement.ensures b

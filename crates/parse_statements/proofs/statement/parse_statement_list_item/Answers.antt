@@ -1,6 +1,6 @@
 use Rattle.std.proofs.Common.{true, false, ap, arith, subst, sym, ◌∙◌}
 use Rattle.js_base.specs.Contexts.{has_flag, in_flag}
-use Rattle.js_base.specs.declared.kind.Kind.TheVariants.{Class, Const}
+use Rattle.js_base.specs.declared.kind.Kind.TheVariants.{Const}
 use Rattle.parse_shared.specs.js_cursor.Parsers.{Parser}
 use Rattle.js_grammar.specs.Productions.{at, ListItem}
 use Rattle.parse_shared.specs.laws_shared.Nesting.{room}
@@ -11,7 +11,6 @@ use Rattle.parse_primary.specs.laws_primary.Functions.{NoFunctionHere}
 use Rattle.parse_primary.proofs.laws_primary.AsyncWords.{begun_at, found_so}
 use Rattle.parse_control.specs.laws_statements.LetStatements.{NoLet}
 use Rattle.parse_control.proofs.laws_statements.LetStatements.{found_lexical, none_found, taken_from}
-use Rattle.parse_primary.proofs.laws_primary.Members.{stands_so}
 use Rattle.parse_statements.proofs.statement.parse_statement_list_item.Goals as goal
 
 pub returns-in-Some : goal.returns-in-Some
@@ -38,14 +37,14 @@ parse_class_declaration-requires-clause-at g c = let z = none_found true c.args.
 pub parse_class_declaration-requires-clause-nests : goal.parse_class_declaration-requires-clause-nests
 parse_class_declaration-requires-clause-nests g c = let z = none_found true c.args.p.now c.lexical_kind.new.p _ c.in_default.is c.in_ok-kind.ensures in let s = found_so c.lexical_kind.new.p c.function_stands.new.p c.if-branch.false c.in_ok-function_stands.ensures in nests_later c.requires.nests (let e = ap room (s.0 ∙ z.0) in omega arith)
 
-pub parse_class_declaration-requires-clause-word : goal.parse_class_declaration-requires-clause-word
-parse_class_declaration-requires-clause-word g c = stands_so c.function_stands.new.p Class c.if-stands.true c.stands.ensures
+pub parse_class_declaration-requires-clause-class : goal.parse_class_declaration-requires-clause-class
+parse_class_declaration-requires-clause-class g c = c.class_stands.ensures ∙ c.if-class_stands.true
 
-pub returns-then-stands : goal.returns-then-stands
-returns-then-stands g c = let z = none_found true c.args.p.now c.lexical_kind.new.p _ c.in_default.is c.in_ok-kind.ensures in let s = found_so c.lexical_kind.new.p c.function_stands.new.p c.if-branch.false c.in_ok-function_stands.ensures in taken_from (at ListItem) c.args.p.now c.function_stands.new.p _ _ (s.0 ∙ z.0) c.parse_class_declaration.ensures
+pub returns-then-class_stands : goal.returns-then-class_stands
+returns-then-class_stands g c = let z = none_found true c.args.p.now c.lexical_kind.new.p _ c.in_default.is c.in_ok-kind.ensures in let s = found_so c.lexical_kind.new.p c.function_stands.new.p c.if-branch.false c.in_ok-function_stands.ensures in taken_from (at ListItem) c.args.p.now c.function_stands.new.p _ _ (s.0 ∙ z.0) c.parse_class_declaration.ensures
 
 pub parse_any_statement-requires-clause-no_class : goal.parse_any_statement-requires-clause-no_class
-parse_any_statement-requires-clause-no_class g c = stands_so c.function_stands.new.p Class c.if-stands.false c.stands.ensures
+parse_any_statement-requires-clause-no_class g c = c.class_stands.ensures ∙ c.if-class_stands.false
 
 pub parse_any_statement-requires-clause-at : goal.parse_any_statement-requires-clause-at
 parse_any_statement-requires-clause-at g c = let z = none_found true c.args.p.now c.lexical_kind.new.p _ c.in_default.is c.in_ok-kind.ensures in let s = found_so c.lexical_kind.new.p c.function_stands.new.p c.if-branch.false c.in_ok-function_stands.ensures in subst (λ (v : Parser). Standing v) (sym (s.0 ∙ z.0)) c.requires.at
