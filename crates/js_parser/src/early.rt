@@ -17,7 +17,7 @@ ghost use Rattle.js_core.specs.laws_shared.NodeTexts.{NodeFits};
 ghost use Rattle.js_core.specs.laws_shared.States.{NodesLie};
 
 use crate::flags::has_u_and_v;
-use crate::member_names::{is_member, name_fault};
+use crate::member_names::name_fault;
 use js_base::{Diagnostic, DiagnosticKind, Diagnostics, NoMemory};
 use js_tree::{NodeId, NodeKind, Tree};
 use std::alloc::Global;
@@ -137,7 +137,14 @@ fn may_break(kind: NodeKind) -> bool
     ensures rule { result ≡ false → (p : Standing) (w : List ℕ) → broken.broken_rule p (kind_of kind) w ≡ None }
     ensures name { result ≡ false → is_member (kind_of kind) ≡ false }
 {
-    matches!(kind, NodeKind::RegExpLiteral | NodeKind::TemplateElement) || is_member(kind)
+    matches!(
+        kind,
+        NodeKind::RegExpLiteral
+            | NodeKind::TemplateElement
+            | NodeKind::MethodDefinition
+            | NodeKind::PropertyDefinition
+            | NodeKind::AccessorProperty
+    )
 }
 
 /// The rule that the node breaks, standing at the position.

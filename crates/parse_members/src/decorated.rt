@@ -1,9 +1,9 @@
 //! Classes, and what stands behind decorators (ECMA-262, section 15.7, and the proposal Decorators).
 
 ghost use Rattle.std.specs.Prelude.{◌≡◌, ◌≤◌, ◌<◌, ◌++◌, IfOk, MatchResult, false, length, true};
-ghost use Rattle.parse_members.specs.Prelude.{AllDecorators, Answers, at, At, CanNest, class_name, ClassHere, is_textual, kind_of, label, MadeHere, node_at, node_of_class, room, spanning, Standing, StopsDecorators};
+ghost use Rattle.parse_members.specs.Prelude.{AllDecorators, Answers, at, At, CanNest, class_name, ClassHere, EndsParse, GivesUp, is_textual, kind_of, label, MadeHere, node_at, node_of_class, room, spanning, Standing, StopsDecorators};
 
-use crate::decorator::parse_decorator;
+use crate::decorator::{parse_decorator, refuse_form};
 use js_base::{Kind, NoMemory};
 use parse_primary::class::parse_undecorated_class;
 use parse_primary::forms::ClassForm;
@@ -39,11 +39,25 @@ pub fn parse_class<C: ParserConfig, N: Nested<C>>(
     let start = p.cur_start();
     let decorators = parse_decorators(p, nested)?;
     if !stands(p, Kind::Class) {
-        return Err(p.set_unexpected());
+        return Err(refuse_undecorated(p));
     }
     let class = parse_undecorated_class(p, nested, form)?;
     let node = decorate(p, start, class, decorators)?;
     Ok(node)
+}
+
+/// Gives up behind decorators where no class stands. Where an expression would go on, the last of them has another form.
+#[inline(never)]
+fn refuse_undecorated<C: ParserConfig>(p: &mut ParserImpl<'_, C>) -> Stop
+    requires { Standing p.old }
+    ensures { GivesUp EndsParse p.old p.new result }
+{
+    match p.cur_kind() {
+        Kind::LBrack | Kind::QuestionDot | Kind::NoSubstitutionTemplate | Kind::TemplateHead => {
+            refuse_form(p)
+        }
+        _ => p.set_unexpected(),
+    }
 }
 
 /// Decorators, one at least.

@@ -1,14 +1,16 @@
 use Rattle.std.proofs.Common.{◌∙◌, sym, ap, refl, inl, inr, false}
 use Rattle.js_base.specs.KindSets.{number_kinds}
 use Rattle.js_base.specs.Kinds.{one_of_kinds}
-use Rattle.js_base.specs.declared.kind.Kind.TheVariants.{This, Null, True, False, Str}
+use Rattle.js_base.specs.declared.kind.Kind.TheVariants.{At, Class, This, Null, True, False, Str}
 use Rattle.parse_shared.specs.js_tree.declared.kind.NodeKind.TheVariants as node
 use Rattle.parse_shared.specs.js_tree.declared.op.Op.TheVariants as op
 use Rattle.parse_shared.proofs.laws_shared.Escapes.{plain_here, word_plain, no_name_where}
 use Rattle.parse_shared.proofs.laws_shared.Giving.{gives_up_here}
 use Rattle.parse_shared.proofs.laws_shared.NameKinds.{name_at, name_so}
 use Rattle.parse_shared.proofs.laws_shared.Signs.{whole_sign}
+use Rattle.parse_primary.specs.laws_primary.Decorators.{class_kinds}
 use Rattle.parse_primary.proofs.laws_primary.ClassOperands.{class_operand}
+use Rattle.parse_primary.proofs.laws_primary.DecoratedClasses.{class_at}
 use Rattle.parse_primary.proofs.laws_primary.Operands.{escaped_fails, leaf_outcome, this_path, null_path, true_path, false_path, string_path, primary_fails, none_of_these}
 use Rattle.parse_shared.specs.laws_shared.Lexemes.{slashes}
 use Rattle.parse_primary.specs.laws_primary.Templates.{heads}
@@ -49,7 +51,7 @@ parse_template-requires-clause-template t c = elim c.in-NoSubstitutionTemplate.i
 ]
 
 pub returns-in_default : goal.returns-in_default
-returns-in_default t c = λ text f a. gives_up_here _ _ c.set_unexpected-in_default.result a c.set_unexpected-in_default.ensures (primary_fails a (name_at false a (name_so c.args.p.now c.if-name_stands.false c.name_stands.ensures)) (none_of_these _ (λ e. c.in_default.not-This (c.cur_kind-2.ensures ∙ e)) (λ e. c.in_default.not-Null (c.cur_kind-2.ensures ∙ e)) (λ e. c.in_default.not-True (c.cur_kind-2.ensures ∙ e)) (λ e. c.in_default.not-False (c.cur_kind-2.ensures ∙ e)) (λ e. c.in_default.not-Str (c.cur_kind-2.ensures ∙ e)) (no_pattern_here a) (λ e. c.in_default.not-Slash (c.cur_kind-2.ensures ∙ e)) (λ e. c.in_default.not-SlashEq (c.cur_kind-2.ensures ∙ e)) (λ e. c.in_default.not-NoSubstitutionTemplate (c.cur_kind-2.ensures ∙ e)) (λ e. c.in_default.not-TemplateHead (c.cur_kind-2.ensures ∙ e)) (λ e. c.in_default.not-LParen (c.cur_kind-2.ensures ∙ e)) (λ e. c.in_default.not-LBrack (c.cur_kind-2.ensures ∙ e)) (λ e. c.in_default.not-Function (c.cur_kind-2.ensures ∙ e)) (λ e. c.in_default.not-LCurly (c.cur_kind-2.ensures ∙ e)) (λ e. c.in_default.not-Percent (c.cur_kind-2.ensures ∙ e)) (λ e. c.in_default.not-Class (c.cur_kind-2.ensures ∙ e)) (sym (ap (one_of_kinds number_kinds) c.cur_kind.ensures) ∙ (sym c.is_number.ensures ∙ c.if-is_number.false))))
+returns-in_default t c = λ text f a. gives_up_here _ _ c.set_unexpected-in_default.result a c.set_unexpected-in_default.ensures (primary_fails a (name_at false a (name_so c.args.p.now c.if-name_stands.false c.name_stands.ensures)) (none_of_these _ (λ e. c.in_default.not-This (c.cur_kind-2.ensures ∙ e)) (λ e. c.in_default.not-Null (c.cur_kind-2.ensures ∙ e)) (λ e. c.in_default.not-True (c.cur_kind-2.ensures ∙ e)) (λ e. c.in_default.not-False (c.cur_kind-2.ensures ∙ e)) (λ e. c.in_default.not-Str (c.cur_kind-2.ensures ∙ e)) (no_pattern_here a) (λ e. c.in_default.not-Slash (c.cur_kind-2.ensures ∙ e)) (λ e. c.in_default.not-SlashEq (c.cur_kind-2.ensures ∙ e)) (λ e. c.in_default.not-NoSubstitutionTemplate (c.cur_kind-2.ensures ∙ e)) (λ e. c.in_default.not-TemplateHead (c.cur_kind-2.ensures ∙ e)) (λ e. c.in_default.not-LParen (c.cur_kind-2.ensures ∙ e)) (λ e. c.in_default.not-LBrack (c.cur_kind-2.ensures ∙ e)) (λ e. c.in_default.not-Function (c.cur_kind-2.ensures ∙ e)) (λ e. c.in_default.not-LCurly (c.cur_kind-2.ensures ∙ e)) (λ e. c.in_default.not-Percent (c.cur_kind-2.ensures ∙ e)) (λ e. c.in_default.not-Class (c.cur_kind-2.ensures ∙ e)) (λ e. c.in_default.not-At (c.cur_kind-2.ensures ∙ e)) (sym (ap (one_of_kinds number_kinds) c.cur_kind.ensures) ∙ (sym c.is_number.ensures ∙ c.if-is_number.false))))
 
 pub parse_function_expression-requires-clause-word : goal.parse_function_expression-requires-clause-word
 parse_function_expression-requires-clause-word t c = inl (plain_here c.args.p.now (sym c.cur_kind-2.ensures ∙ c.in-Function.is) refl c.escaped_word_stands.ensures c.if-escaped_word_stands.false)
@@ -69,8 +71,11 @@ parse_leaf-requires-in-True-clause-whole t c = elim c.in-True.is [
   | inr e ↦ whole_sign False c.requires.at (sym c.cur_kind-2.ensures ∙ e) refl refl
 ]
 
-pub parse_class-requires-clause-word : goal.parse_class-requires-clause-word
-parse_class-requires-clause-word t c = plain_here c.args.p.now (sym c.cur_kind-2.ensures ∙ c.in-Class.is) refl c.escaped_word_stands.ensures c.if-escaped_word_stands.false
+pub parse_class-requires-clause-class : goal.parse_class-requires-clause-class
+parse_class-requires-clause-class t c = elim c.in-Class.is [
+  | inl e ↦ class_at c.args.p.now Class refl (sym c.cur_kind-2.ensures ∙ e) (plain_here c.args.p.now (sym c.cur_kind-2.ensures ∙ e) refl c.escaped_word_stands.ensures c.if-escaped_word_stands.false).1
+  | inr e ↦ class_at c.args.p.now At refl (sym c.cur_kind-2.ensures ∙ e) (plain_here c.args.p.now (sym c.cur_kind-2.ensures ∙ e) refl c.escaped_word_stands.ensures c.if-escaped_word_stands.false).1
+]
 
 pub returns-in-Class : goal.returns-in-Class
-returns-in-Class t c = λ text f a. class_operand a (plain_here c.args.p.now (sym c.cur_kind-2.ensures ∙ c.in-Class.is) refl c.escaped_word_stands.ensures c.if-escaped_word_stands.false) _ c.parse_class.result (c.parse_class.ensures.taken text f a)
+returns-in-Class t c = λ text f a. class_operand a (elim c.in-Class.is [ inl e ↦ ap (one_of_kinds class_kinds) (sym c.cur_kind-2.ensures ∙ e) | inr e ↦ ap (one_of_kinds class_kinds) (sym c.cur_kind-2.ensures ∙ e) ]) _ c.parse_class.result (c.parse_class.ensures.taken text f a)
