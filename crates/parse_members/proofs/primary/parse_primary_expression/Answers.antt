@@ -14,6 +14,7 @@ use Rattle.parse_primary.proofs.laws_primary.DecoratedClasses.{class_at}
 use Rattle.parse_primary.proofs.laws_primary.Operands.{escaped_fails, leaf_outcome, this_path, null_path, true_path, false_path, string_path, primary_fails, none_of_these}
 use Rattle.parse_shared.specs.laws_shared.Lexemes.{slashes}
 use Rattle.parse_primary.specs.laws_primary.Templates.{heads}
+use Rattle.parse_primary.proofs.laws_primary.Parentheses.{paren_primary}
 use Rattle.parse_primary.proofs.laws_primary.RegularExpressions.{no_pattern_here}
 use Rattle.parse_members.proofs.primary.parse_primary_expression.Goals as goal
 
@@ -49,6 +50,9 @@ parse_template-requires-clause-template t c = elim c.in-NoSubstitutionTemplate.i
   | inl e ↦ ap (one_of_kinds heads) (sym c.cur_kind-2.ensures ∙ e)
   | inr e ↦ ap (one_of_kinds heads) (sym c.cur_kind-2.ensures ∙ e)
 ]
+
+pub returns-in-LParen : goal.returns-in-LParen
+returns-in-LParen t c = λ text f a. paren_primary a (sym c.cur_kind-2.ensures ∙ c.in-LParen.is) _ c.parse_parenthesized_expression.result (c.parse_parenthesized_expression.ensures text f a)
 
 pub returns-in_default : goal.returns-in_default
 returns-in_default t c = λ text f a. gives_up_here _ _ c.set_unexpected-in_default.result a c.set_unexpected-in_default.ensures (primary_fails a (name_at false a (name_so c.args.p.now c.if-name_stands.false c.name_stands.ensures)) (none_of_these _ (λ e. c.in_default.not-This (c.cur_kind-2.ensures ∙ e)) (λ e. c.in_default.not-Null (c.cur_kind-2.ensures ∙ e)) (λ e. c.in_default.not-True (c.cur_kind-2.ensures ∙ e)) (λ e. c.in_default.not-False (c.cur_kind-2.ensures ∙ e)) (λ e. c.in_default.not-Str (c.cur_kind-2.ensures ∙ e)) (no_pattern_here a) (λ e. c.in_default.not-Slash (c.cur_kind-2.ensures ∙ e)) (λ e. c.in_default.not-SlashEq (c.cur_kind-2.ensures ∙ e)) (λ e. c.in_default.not-NoSubstitutionTemplate (c.cur_kind-2.ensures ∙ e)) (λ e. c.in_default.not-TemplateHead (c.cur_kind-2.ensures ∙ e)) (λ e. c.in_default.not-LParen (c.cur_kind-2.ensures ∙ e)) (λ e. c.in_default.not-LBrack (c.cur_kind-2.ensures ∙ e)) (λ e. c.in_default.not-Function (c.cur_kind-2.ensures ∙ e)) (λ e. c.in_default.not-LCurly (c.cur_kind-2.ensures ∙ e)) (λ e. c.in_default.not-Percent (c.cur_kind-2.ensures ∙ e)) (λ e. c.in_default.not-Class (c.cur_kind-2.ensures ∙ e)) (λ e. c.in_default.not-At (c.cur_kind-2.ensures ∙ e)) (sym (ap (one_of_kinds number_kinds) c.cur_kind.ensures) ∙ (sym c.is_number.ensures ∙ c.if-is_number.false))))
