@@ -81,7 +81,7 @@ fn goes_on(kind: Kind) -> bool
 
 /// Gives up where a decorator has another form.
 #[inline(never)]
-fn refuse_form<C: ParserConfig>(p: &mut ParserImpl<'_, C>) -> Stop
+pub(crate) fn refuse_form<C: ParserConfig>(p: &mut ParserImpl<'_, C>) -> Stop
     requires { Standing p.old }
     ensures { GivesUp EndsParse p.old p.new result }
 {
