@@ -119,9 +119,9 @@ module _ {text : List ℕ} {f : Flags} {p q : Parser} {ids : List (Option NodeId
     its_text = element_untextual (node_at r.nodes id).kind (ap (λ (l : Label). is_element l.kind) (sym its_label) ∙ y.element)
 
     -- it was made anew
-    pub decorated_element : {w : Parser} {made : NodeId} → ((node_at r.nodes id).kind ≡ node.StaticBlock → ⊥) → MadeHere (spanning p.token.span.start r.prev_token_end (label (node_at r.nodes id))) ((node_at r.nodes id).children ++ ids) r w made → ElementTaken text f (symbol Element f) p w made
-    decorated_element {w} {made} b n =
-        let m : MadeHere (spanning p.token.span.start r.prev_token_end y.label) ((node_at r.nodes id).children ++ ids) r w made = subst (λ (l : Label). MadeHere (spanning p.token.span.start r.prev_token_end l) ((node_at r.nodes id).children ++ ids) r w made) (sym its_label) n in
+    pub decorated_element : {w : Parser} {made : NodeId} {start : ℕ} → ((node_at r.nodes id).kind ≡ node.StaticBlock → ⊥) → start ≡ p.token.span.start → MadeHere (spanning start r.prev_token_end (label (node_at r.nodes id))) ((node_at r.nodes id).children ++ ids) r w made → ElementTaken text f (symbol Element f) p w made
+    decorated_element {w} {made} b s n =
+        let m : MadeHere (spanning p.token.span.start r.prev_token_end y.label) ((node_at r.nodes id).children ++ ids) r w made = subst (λ (l : Label). MadeHere (spanning p.token.span.start r.prev_token_end l) ((node_at r.nodes id).children ++ ids) r w made) (sym its_label) (subst (λ (v : ℕ). MadeHere (spanning v r.prev_token_end (label (node_at r.nodes id))) ((node_at r.nodes id).children ++ ids) r w made) s n) in
         let none : y.label.kind ≡ static_block → ⊥ = λ i. b (of_block (node_at r.nodes id).kind (ap (λ (l : Label). is_block l.kind) (sym its_label) ∙ ap is_block i)) in
         element_answers (same_both x.same y.same) m.stays (decorated_held p q r w x.holds y.keeps y.holds m) (Keeps-trans (Keeps-trans x.keeps y.keeps) (Keeps-made m.made)) refl (one_lies m) y.element (decorated_path a k x e (element_choice f) (λ ts us y z. z) element_path none)
 

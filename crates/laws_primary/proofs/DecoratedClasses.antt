@@ -14,7 +14,7 @@ use Rattle.js_grammar.specs.Insertion.{after_expression}
 use Rattle.js_grammar.specs.RightEdges.{same_row}
 use Rattle.js_grammar.specs.Table.{rule, rule_of}
 use Rattle.js_grammar.proofs.Lexemes.{first_or}
-use Rattle.js_grammar.proofs.Looks.{covers}
+use Rattle.js_grammar.proofs.Looks.{apart, covers}
 use Rattle.laws_shared.specs.js_tree.declared.id.NodeId.{NodeId}
 use Rattle.laws_shared.specs.js_tree.declared.kind.NodeKind.{NodeKind as NodeKind'}
 use Rattle.laws_shared.specs.js_tree.declared.kind.NodeKind.TheVariants as node
@@ -30,10 +30,12 @@ use Rattle.laws_shared.specs.Moves.{MadeHere}
 use Rattle.laws_shared.specs.NodeTexts.{is_textual}
 use Rattle.laws_shared.specs.Stands.{StandsHere}
 use Rattle.laws_shared.specs.States.{At, Same}
-use Rattle.laws_shared.proofs.Escapes.{keyword_plain}
+use Rattle.laws_shared.proofs.Escapes.{keyword_escaped, keyword_plain}
+use Rattle.laws_shared.proofs.Giving.{fails_at_word}
 use Rattle.laws_shared.proofs.MadeNodes.{held_label, one_lies}
 use Rattle.laws_shared.proofs.Moving.{same_both, stops_so}
 use Rattle.laws_shared.proofs.Paths.{Path}
+use Rattle.laws_shared.proofs.Signs.{other_kind}
 use Rattle.laws_primary.specs.Classes.{class_name, node_of_class}
 use Rattle.laws_primary.specs.declared.forms.ClassForm.{ClassForm}
 use Rattle.laws_primary.specs.declared.forms.ClassForm.TheVariants.{Declaration, Expression}
@@ -41,7 +43,7 @@ use Rattle.laws_primary.specs.Decorators.{ClassHere, DecoratorsTaken, NoDecorato
 use Rattle.laws_primary.proofs.Decorated.{DecorableSymbol, Slotless, behind_stops, decorated_path, decorators_refuse}
 use Rattle.laws_primary.proofs.DecoratedNodes.{decorated_held}
 use Rattle.laws_primary.proofs.KeptSlots.{Decorable, a_line, kept_alone, kept_behind}
-use Rattle.laws_primary.proofs.Operands.{by_such}
+use Rattle.laws_primary.proofs.Operands.{by_such, not_same}
 
 -- ---- the lines
 
@@ -94,6 +96,19 @@ no_class_here p k i h e n = false≢true (sym h ∙ (ap (one_of_kinds class_kind
 pub class_at : (p : Parser) (k : Kind) → one_of_kinds class_kinds k ≡ true → p.token.kind ≡ k → p.token.escaped ≡ false → ClassHere p true
 class_at p k i e n = ap (one_of_kinds class_kinds) (keyword_plain p.token n ∙ e) ∙ i
 
+-- neither its word stands here nor a decorator
+pub class_away : (p : Parser) → StandsHere p a_class false → (p.token.kind ≡ at_sign → ⊥) → ClassHere p false
+class_away p w n = go p.token.escaped refl
+  where
+    go : (b : Bool) → p.token.escaped ≡ b → ClassHere p false
+    go true e = keyword_escaped p.token class_kinds e refl
+    go false e = ap (one_of_kinds class_kinds) (keyword_plain p.token e) ∙ (not_same at_sign p.token.kind _ n ∙ other_kind a_class p.token.kind (λ k. w k e))
+
+pub no_class_there : {text : List ℕ} {f : Flags} {p : Parser} (form : ClassForm) → At text f p → ClassHere p false → Underived text (at (class_name form) f) p.prev_token_end
+unfolding covers apart
+no_class_there {f = f} Declaration a h = fails_at_word (symbol Class f) class_kinds a refl refl h
+no_class_there {f = f} Expression a h = fails_at_word (symbol ClassExpr f) class_kinds a refl refl h
+
 -- ---- the kind of the node
 
 abbrev is_class : NodeKind → Bool
@@ -136,10 +151,10 @@ module _ {text : List ℕ} {f : Flags} {p q : Parser} {ids : List (Option NodeId
   class_stops_behind w s y = behind_stops (after (at (class_name form) f)) (at (class_name form) f) a k x e (decorable form f) (slotless form f) w s y
 
   -- it was made anew
-  pub decorated_class : {r w : Parser} {id made : NodeId} → Numbered text f (at (class_name form) f) q r id → kind_of (node_at r.nodes id).kind ≡ node_of_class form → MadeHere (spanning p.token.span.start r.prev_token_end (label (node_at r.nodes id))) ((node_at r.nodes id).children ++ ids) r w made → Numbered text f (at (class_name form) f) p w made
-  decorated_class {r} {w} {id} {made} y g n =
+  pub decorated_class : {r w : Parser} {id made : NodeId} {start : ℕ} → Numbered text f (at (class_name form) f) q r id → kind_of (node_at r.nodes id).kind ≡ node_of_class form → start ≡ p.token.span.start → MadeHere (spanning start r.prev_token_end (label (node_at r.nodes id))) ((node_at r.nodes id).children ++ ids) r w made → Numbered text f (at (class_name form) f) p w made
+  decorated_class {r} {w} {id} {made} y g s n =
       let its : y.answer.label ≡ label (node_at r.nodes id) = held_label id y.holds in
-      let m : MadeHere (spanning p.token.span.start r.prev_token_end y.answer.label) ((node_at r.nodes id).children ++ ids) r w made = subst (λ (l : Label). MadeHere (spanning p.token.span.start r.prev_token_end l) ((node_at r.nodes id).children ++ ids) r w made) (sym its) n in
+      let m : MadeHere (spanning p.token.span.start r.prev_token_end y.answer.label) ((node_at r.nodes id).children ++ ids) r w made = subst (λ (l : Label). MadeHere (spanning p.token.span.start r.prev_token_end l) ((node_at r.nodes id).children ++ ids) r w made) (sym its) (subst (λ (v : ℕ). MadeHere (spanning v r.prev_token_end (label (node_at r.nodes id))) ((node_at r.nodes id).children ++ ids) r w made) s n) in
       let z : Path text f (after (at (class_name form) f)) (such (at (class_name form) f) always) q nothing r (tree y.answer.label y.answer.slots) = record { at = y.answer.at; further = y.answer.further; pass = y.answer.pass; walked = y.answer.walked; verdict = y.answer.verdict } in
       let h : y.answer.label.kind ≡ node_of_class form = ap (λ (l : Label). l.kind) its ∙ g in
       let held = decorated_held p q r w x.holds y.keeps y.holds m in

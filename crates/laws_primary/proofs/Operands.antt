@@ -256,7 +256,7 @@ name_outcome q (Err NoMemory) a h z m = tt
 pub leaf_outcome : (text : List ℕ) (f : Flags) (p q : Parser) (nk : NodeKindMade) (o : OpMade) (k : Kind) (r : Result NodeId Stop) → same_row after_expression (row_of (plain_label nk o p.token.span) end) ≡ true → Leaf (kind_of nk) (op_of o) k → At text f p → p.token.kind ≡ k → p.token.escaped ≡ false → MatchResult r (λ id. TakesLeaf nk o p q id) OnlyMemory → Outcome text f (at Primary f) p q r
 leaf_outcome text f p q nk o k r e path = leaf_under text f p q nk o k r e (path text f)
 
-not_same : (a k : Kind) (b : Bool) → (k ≡ a → ⊥) → (same_kind a k || b) ≡ b
+pub not_same : (a k : Kind) (b : Bool) → (k ≡ a → ⊥) → (same_kind a k || b) ≡ b
 not_same a k b n = go (same_kind a k) refl
   where
     go : (x : Bool) → same_kind a k ≡ x → (x || b) ≡ b
