@@ -4,7 +4,7 @@ ghost use Rattle.js_parser.specs.Language.{ReadingsAreValid};
 ghost use Rattle.js_parser.specs.SameSource.{ReadingsHaveSources};
 
 /// A reading, which is by the productions that are built, is valid for the text by all productions of the language and
-/// all early rules. Where no lexeme of the text begins a production that isn't built, which `import`, `export` and `@` do,
+/// all early rules. Where no lexeme of the text begins a production that isn't built, which `import` and `export` do,
 /// each valid tree is a reading, but for the mark `pure` on its nodes.
 pub fn law_of_readings()
     ensures { ReadingsAreValid }
