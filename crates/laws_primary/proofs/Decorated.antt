@@ -1,15 +1,15 @@
 -- What stands behind decorators (of the proposal Decorators; no section of ECMA-262), with them.
-use Rattle.std.proofs.Common.{ℕ, ◌≡◌, max, Bool, true, false, List, [], ◌∷◌, ◌++◌, length, Option, refl, sym, ap, subst, arith, ◌∙◌}
+use Rattle.std.proofs.Common.{ℕ, ◌≡◌, max, true, List, Option, refl, sym, ap, arith, ◌∙◌}
 use Rattle.std.proofs.lemmas.Bool.{false≢true}
 use Rattle.js_base.specs.declared.kind.Kind.TheVariants.{At as at_sign}
 use Rattle.js_base.specs.Kinds.{one_of_kinds}
-use Rattle.js_grammar.specs.Trees.{Label, NodeKind, Slots, append, end, static_block, tree}
-use Rattle.js_grammar.specs.Grammar.{Lexeme, Look, many, nothing, seen, such}
-use Rattle.js_grammar.specs.Parsing.{Admits, Test, plain, full, always, still, Goes, Fails, Reads}
-use Rattle.js_grammar.specs.Productions.{G, Flags, Symbol, at, Decorator}
+use Rattle.js_grammar.specs.Trees.{Label, Slots, append, end, static_block, tree}
+use Rattle.js_grammar.specs.Grammar.{Lexeme, nothing, such}
+use Rattle.js_grammar.specs.Parsing.{Admits, Test, plain, full, always, Fails}
+use Rattle.js_grammar.specs.Productions.{Flags, Symbol, Decorator}
 use Rattle.js_grammar.specs.Productions.{sym as symbol}
 use Rattle.js_grammar.specs.Table.{rule}
-use Rattle.js_grammar.proofs.Looks.{apart, covers}
+use Rattle.js_grammar.proofs.Looks.{apart}
 use Rattle.js_grammar.proofs.Calculus.{◌▹◌, more_of, part_fails, right}
 use Rattle.laws_shared.specs.js_tree.declared.id.NodeId.{NodeId}
 use Rattle.laws_shared.specs.js_cursor.Parsers.{Parser}
@@ -17,9 +17,9 @@ use Rattle.laws_shared.specs.js_cursor.declared.stop.Stop.{Stop}
 use Rattle.laws_shared.specs.Answers.{Stops, Stretch}
 use Rattle.laws_shared.specs.Lexemes.{Lex}
 use Rattle.laws_shared.specs.States.{At}
-use Rattle.laws_shared.proofs.Here.{begins_here, kind_here, unsettled}
-use Rattle.laws_shared.proofs.Moving.{stops_behind, stops_so}
-use Rattle.laws_shared.proofs.Paths.{Path, fails_at, walked_both}
+use Rattle.laws_shared.proofs.Here.{begins_here, kind_here}
+use Rattle.laws_shared.proofs.Moving.{stops_behind}
+use Rattle.laws_shared.proofs.Paths.{Path, walked_both}
 use Rattle.laws_shared.proofs.Signs.{other_kind}
 use Rattle.laws_shared.proofs.Verdicts.{and_then, either_way}
 use Rattle.laws_shared.proofs.Verdicts.{after as grown_behind}

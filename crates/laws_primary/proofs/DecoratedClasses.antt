@@ -1,12 +1,12 @@
 -- Classes behind decorators (of the proposal Decorators; no section of ECMA-262): these may stand before each.
-use Rattle.std.proofs.Common.{ℕ, ◌≡◌, Bool, true, false, cond, List, [], ◌∷◌, ◌++◌, length, Option, refl, sym, ap, subst, arith, ◌∙◌}
+use Rattle.std.proofs.Common.{ℕ, ◌≡◌, Bool, true, false, cond, List, ◌++◌, length, Option, refl, sym, ap, subst, ◌∙◌}
 use Rattle.std.proofs.lemmas.Bool.{false≢true}
 use Rattle.js_base.specs.declared.kind.Kind.{Kind}
 use Rattle.js_base.specs.declared.kind.Kind.TheVariants.{At as at_sign, Class as a_class, Ident}
 use Rattle.js_base.specs.Kinds.{one_of_kinds}
-use Rattle.js_grammar.specs.Trees.{Label, NodeKind, Slots, append, class_declaration, class_expression, static_block, tree}
+use Rattle.js_grammar.specs.Trees.{Label, NodeKind, Slots, class_declaration, class_expression, static_block, tree}
 use Rattle.js_grammar.specs.Grammar.{nothing, such}
-use Rattle.js_grammar.specs.Parsing.{Test, always, Admits}
+use Rattle.js_grammar.specs.Parsing.{always}
 use Rattle.js_grammar.specs.Productions.{Flags, at, Class, ClassExpr, Decorator}
 use Rattle.js_grammar.specs.Productions.{sym as symbol}
 use Rattle.js_grammar.specs.Follow.{after, row_of}
@@ -25,7 +25,6 @@ use Rattle.laws_shared.proofs.js_tree.HoldingLemmas.{Keeps-made, Keeps-trans}
 use Rattle.laws_shared.specs.js_cursor.Parsers.{Parser}
 use Rattle.laws_shared.specs.js_cursor.declared.stop.Stop.{Stop}
 use Rattle.laws_shared.specs.Answers.{Numbered, Stops, Underived}
-use Rattle.laws_shared.specs.Lexemes.{keyword_kind}
 use Rattle.laws_shared.specs.Moves.{MadeHere}
 use Rattle.laws_shared.specs.NodeTexts.{is_textual}
 use Rattle.laws_shared.specs.Stands.{StandsHere}

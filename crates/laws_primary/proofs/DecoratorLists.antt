@@ -1,37 +1,32 @@
 -- Decorators (of the proposal Decorators; no section of ECMA-262), one behind the other.
-use Rattle.std.proofs.Common.{ℕ, ◌≡◌, max, Bool, true, false, List, [], ◌∷◌, ◌++◌, length, Option, Some, refl, sym, ap, subst, arith, ◌∙◌}
-use Rattle.std.proofs.lemmas.Bool.{false≢true}
+use Rattle.std.proofs.Common.{ℕ, ◌≡◌, max, List, [], ◌∷◌, ◌++◌, Option, Some, refl, sym, ap, subst, arith}
 use Rattle.js_base.specs.declared.kind.Kind.TheVariants.{At as at_sign}
 use Rattle.js_base.specs.Kinds.{one_of_kinds}
-use Rattle.js_base.specs.Texts.{words}
-use Rattle.js_grammar.specs.Trees.{Label, Slots, append, end, tree}
-use Rattle.js_grammar.specs.Grammar.{Lexeme, Look, many, nothing, such, ◌▸◌}
-use Rattle.js_grammar.specs.Parsing.{Test, plain, full, always, still, Goes, Fails, Reads}
+use Rattle.js_grammar.specs.Trees.{Slots, append, end, tree}
+use Rattle.js_grammar.specs.Grammar.{Look, nothing, ◌▸◌}
+use Rattle.js_grammar.specs.Parsing.{plain, still, Goes, Fails}
 use Rattle.js_grammar.specs.Productions.{Flags, at, Decorator}
 use Rattle.js_grammar.specs.Productions.{sym as symbol}
-use Rattle.js_grammar.specs.Follow.{after, surest}
+use Rattle.js_grammar.specs.Follow.{after}
 use Rattle.js_grammar.specs.Table.{rule}
-use Rattle.js_grammar.proofs.Looks.{apart, covered, covers}
-use Rattle.js_grammar.proofs.Calculus.{◌▹◌, ◌▹✗◌, by_plain, fails_nothing, left, more_of, part_fails, right, then_by, weaken, weaken_fails}
+use Rattle.js_grammar.proofs.Looks.{apart, covers}
+use Rattle.js_grammar.proofs.Calculus.{◌▹◌, ◌▹✗◌, left, more_of, part_fails, then_by}
 use Rattle.js_grammar.proofs.FirstClaims.{firsts}
 use Rattle.js_grammar.proofs.FirstRules.{by_first}
 use Rattle.js_grammar.proofs.FollowLaws.{surely}
 use Rattle.js_grammar.proofs.Frame.{append_assoc}
 use Rattle.laws_shared.specs.js_tree.declared.id.NodeId.{NodeId}
-use Rattle.laws_shared.specs.js_tree.Nodes.{Node}
-use Rattle.laws_shared.specs.js_tree.Holding.{HoldsAll}
 use Rattle.laws_shared.proofs.js_tree.HoldingLemmas.{HoldsAll-next, HoldsAll-one, Keeps-trans}
 use Rattle.laws_shared.specs.js_cursor.Parsers.{Parser}
 use Rattle.laws_shared.specs.js_cursor.declared.stop.Stop.{Stop}
-use Rattle.laws_shared.specs.Answers.{Numbered, Stops, Stretch, Underived, Verdict}
+use Rattle.laws_shared.specs.Answers.{Numbered, Stops, Stretch, Underived}
 use Rattle.laws_shared.specs.Lexemes.{Lex}
 use Rattle.laws_shared.specs.States.{At}
-use Rattle.laws_shared.proofs.Here.{kind_here}
 use Rattle.laws_shared.proofs.Moving.{same_both, stops_behind, stops_so}
 use Rattle.laws_shared.proofs.Paths.{fails_at, walked_both}
 use Rattle.laws_shared.proofs.Verdicts.{and_then, either_way, verdict_of}
 use Rattle.laws_shared.proofs.Verdicts.{after as grown_behind}
-use Rattle.laws_primary.specs.Decorators.{AllDecorators, DecoratorsTaken, NoDecorators, SomeDecorators, StopsDecorators, behind_decorators, class_kinds, decorated_kinds, decorators}
+use Rattle.laws_primary.specs.Decorators.{DecoratorsTaken, NoDecorators, behind_decorators, decorated_kinds, decorators}
 
 -- what may stand behind one of them: another one too
 abbrev behind_one : Look

@@ -6,7 +6,7 @@ use Rattle.js_base.specs.Kinds.{same_kind, one_of_kinds}
 use Rattle.js_base.specs.KindSets.{identifier_name_kinds}
 use Rattle.js_base.specs.Texts.{words}
 use Rattle.js_base.specs.declared.kind.Kind.{Kind}
-use Rattle.js_base.specs.declared.kind.Kind.TheVariants.{Async, Colon, Comma, Dot3, Eof, Eq, Get, LBrack, LParen, PrivateIdentifier, RBrack, RCurly, RParen, Set, Star}
+use Rattle.js_base.specs.declared.kind.Kind.TheVariants.{Async, Colon, Comma, Dot3, Eof, Eq, Get, LBrack, LParen, RBrack, RCurly, RParen, Set, Star}
 use Rattle.js_base.specs.declared.span.Span.{Span}
 use Rattle.js_base.proofs.KindLemmas.{kind_of_same}
 use Rattle.js_grammar.specs.Lexemes.{is_word}

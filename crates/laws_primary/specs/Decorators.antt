@@ -1,12 +1,12 @@
 -- Decorators (of the proposal Decorators; no section of ECMA-262), as they stand before classes (ECMA-262, 15.7) and their elements.
-use Rattle.std.specs.Prelude.{ℕ, ◌≡◌, ◌<◌, Bool, true, List, [], ◌∷◌, ◌++◌, Option, length, Result, Ok, Err}
+use Rattle.std.specs.Prelude.{ℕ, ◌≡◌, ◌<◌, Bool, true, List, [], ◌∷◌, ◌++◌, Option, length}
 use Rattle.js_base.specs.declared.kind.Kind.{Kind}
 use Rattle.js_base.specs.declared.kind.Kind.TheVariants.{At as at_sign, Class, LBrack, PrivateIdentifier, Star, Str}
 use Rattle.js_base.specs.KindSets.{identifier_name_kinds, number_kinds}
 use Rattle.js_base.specs.Kinds.{one_of_kinds}
 use Rattle.js_grammar.specs.Trees.{Label, Slots, append, end}
 use Rattle.js_grammar.specs.Grammar.{Lexemes, Look, many}
-use Rattle.js_grammar.specs.Parsing.{Test, plain, Fails}
+use Rattle.js_grammar.specs.Parsing.{plain, Fails}
 use Rattle.js_grammar.specs.Productions.{G, Flags, Decorator}
 use Rattle.js_grammar.specs.Productions.{sym as symbol}
 use Rattle.js_grammar.specs.Table.{rule}
