@@ -2,7 +2,7 @@
 use Rattle.std.proofs.Common.{ℕ, ◌⊎◌, inl, inr, suc, ◌≡◌, ◌<◌, ◌≤◌, List, [], ◌∷◌, length, Option, Some, Bool, true, false, not, ◌&&◌, IsTrue, refl, sym, ap, subst, arith, ◌∙◌}
 use Rattle.std.proofs.lemmas.Bool.{false≢true, and_from}
 use Rattle.js_base.specs.declared.diagnostic.Diagnostic.{Diagnostic}
-use Rattle.js_base.specs.declared.kind.Kind.TheVariants.{Class, Colon, Function, LCurly, RAngle}
+use Rattle.js_base.specs.declared.kind.Kind.TheVariants.{Colon, LCurly, RAngle}
 use Rattle.js_base.specs.declared.kind.Kind.{Kind}
 use Rattle.js_base.specs.declared.span.Span.{Span}
 use Rattle.js_base.specs.Contexts.{has_flag, in_flag}
@@ -44,7 +44,7 @@ use Rattle.laws_shared.proofs.Here.{found, kind_here, uncut}
 use Rattle.laws_shared.proofs.MadeNodes.{leaf_held, two_held, one_lies, from_start}
 use Rattle.laws_shared.proofs.Moving.{same_both, same_itself, same_with, beside_nodes, stops_behind}
 use Rattle.laws_shared.proofs.Paths.{Path, ◌⟼◌, ◌⟶◌, ◌⟶✗◌, one_read, read_of, token, noded, noded_by, by_symbol_as, label_here}
-use Rattle.laws_statements.proofs.Statements.{by_statement, no_class, no_function, no_function_body, no_symbol, no_lexical, no_expression_ends, before_colon, item_left, sub_left, colon_ends}
+use Rattle.laws_statements.proofs.Statements.{by_statement, no_class, no_expression, no_function, no_function_body, no_symbol, no_lexical, no_expression_ends, before_colon, item_left, sub_left, colon_ends}
 use Rattle.laws_statements.specs.LetStatements.{behind_let, LetIsName}
 use Rattle.laws_statements.proofs.WordLookaheads.{AsyncIsName, let_word, not_followed, ◌⇒✗◌}
 use Rattle.laws_statements.proofs.Strings.{name_node, name_expression}
@@ -231,8 +231,8 @@ module _ {text : List ℕ} {f : Flags} {p q : Parser} (a : At text f p) (x : Ans
   -- it is no expression with a semicolon
   to_placed : (b : Bool) → Goes rule (Lex text) (after_statement (placed b f)) end (rule (placed b f)) p.prev_token_end (symbol AStatement f) p.prev_token_end (λ us. us) (still 0)
   unfolding apart covers
-  to_placed true = subst (λ (g : G). Goes rule (Lex text) (after_statement (at ListItem f)) end (rule (at ListItem f)) p.prev_token_end g p.prev_token_end (λ us. us) (still 0)) (item_left f) (lives (rule (at ListItem f))) ▹ left (fails_alt (not_followed a let_word (word_or (LCurly ∷ [])) (λ y z l h m t. false≢true (sym (label_named true y z l h m) ∙ covered (word_or (LCurly ∷ [])) (λ k w e. behind_let true k) refl z.kind z.newline z.escaped t)) ⇒✗ no_expression_ends true a (keyword_none p.token (LCurly ∷ Function ∷ Class ∷ []) (name_apart (LCurly ∷ Function ∷ Class ∷ []) refl p.token.kind is_listed) refl) label_async (label_named true) x (before_colon x.at (goes_on (row_of x.label x.slots)) i.colon)) (fails_alt (no_function a no_word_here label_async) (fails_alt (no_class a no_word_here) (no_lexical a no_word_here (label_named true)))))
-  to_placed false = subst (λ (g : G). Goes rule (Lex text) (after_statement (at Sub f)) end (rule (at Sub f)) p.prev_token_end g p.prev_token_end (λ us. us) (still 0)) (sub_left f) (lives (rule (at Sub f))) ▹ left (fails_alt (no_expression_ends false a (keyword_none p.token (LCurly ∷ Function ∷ Class ∷ []) (name_apart (LCurly ∷ Function ∷ Class ∷ []) refl p.token.kind is_listed) refl) label_async (label_named false) x (before_colon x.at (goes_on (row_of x.label x.slots)) i.colon)) (no_function_body a no_word_here))
+  to_placed true = subst (λ (g : G). Goes rule (Lex text) (after_statement (at ListItem f)) end (rule (at ListItem f)) p.prev_token_end g p.prev_token_end (λ us. us) (still 0)) (item_left f) (lives (rule (at ListItem f))) ▹ left (fails_alt (not_followed a let_word (word_or (LCurly ∷ [])) (λ y z l h m t. false≢true (sym (label_named true y z l h m) ∙ covered (word_or (LCurly ∷ [])) (λ k w e. behind_let true k) refl z.kind z.newline z.escaped t)) ⇒✗ no_expression_ends true a (keyword_none p.token no_expression (name_apart no_expression refl p.token.kind is_listed) refl) label_async (label_named true) x (before_colon x.at (goes_on (row_of x.label x.slots)) i.colon)) (fails_alt (no_function a no_word_here label_async) (fails_alt (no_class a no_word_here) (no_lexical a no_word_here (label_named true)))))
+  to_placed false = subst (λ (g : G). Goes rule (Lex text) (after_statement (at Sub f)) end (rule (at Sub f)) p.prev_token_end g p.prev_token_end (λ us. us) (still 0)) (sub_left f) (lives (rule (at Sub f))) ▹ left (fails_alt (no_expression_ends false a (keyword_none p.token no_expression (name_apart no_expression refl p.token.kind is_listed) refl) label_async (label_named false) x (before_colon x.at (goes_on (row_of x.label x.slots)) i.colon)) (no_function_body a no_word_here))
 
   -- what is in the node can't be read
   labeled_fails : (b : Bool) → Fails rule (Lex text) (behind_label f) end (labeled_slots f) p.prev_token_end → NoStatement text (placed b f) p.prev_token_end
