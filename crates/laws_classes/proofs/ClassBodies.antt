@@ -3,7 +3,7 @@ use Rattle.std.proofs.Common.{ℕ, ◌≡◌, ◌<◌, max, Bool, true, false, �
 use Rattle.std.specs.Prelude.{Ok, Err}
 use Rattle.std.proofs.lemmas.Bool.{false≢true}
 use Rattle.js_base.specs.declared.diagnostic.DiagnosticKind.TheVariants.{ExpectClosing}
-use Rattle.js_base.specs.declared.kind.Kind.TheVariants.{At as at_sign, Eof, LCurly, RCurly, Semicolon, Star, Undetermined}
+use Rattle.js_base.specs.declared.kind.Kind.TheVariants.{Eof, LCurly, RCurly, Semicolon, Undetermined}
 use Rattle.js_base.specs.declared.span.Span.{Span}
 use Rattle.js_base.specs.Kinds.{same_kind, one_of_kinds}
 use Rattle.js_base.specs.Texts.{words}
@@ -26,7 +26,7 @@ use Rattle.laws_primary.specs.js_tree.declared.op.Op.TheVariants as op
 use Rattle.laws_primary.specs.js_tree.Nodes.{Node}
 use Rattle.laws_primary.specs.js_tree.Holding.{HoldsAll, Keeps}
 use Rattle.laws_primary.proofs.laws_shared.js_tree.HoldingLemmas.{Keeps-made, Keeps-trans}
-use Rattle.laws_primary.specs.js_cursor.Moves.{Expects, GivesUp, IsKind, IsUnexpected, is_last}
+use Rattle.laws_primary.specs.js_cursor.Moves.{Expects, IsKind, is_last}
 use Rattle.laws_primary.specs.js_cursor.Parsers.{Parser}
 use Rattle.laws_primary.specs.js_cursor.declared.stop.Stop.{Stop}
 use Rattle.laws_primary.specs.js_cursor.declared.stop.Stop.TheVariants.{Fatal, NoMemory}
@@ -37,7 +37,7 @@ use Rattle.laws_primary.specs.laws_shared.Nesting.{room}
 use Rattle.laws_primary.specs.laws_shared.States.{At}
 use Rattle.laws_primary.proofs.laws_shared.Classes.{here_ends}
 use Rattle.laws_primary.proofs.laws_shared.Expected.{not_due}
-use Rattle.laws_primary.proofs.laws_shared.Giving.{fails_none, gives_up, gives_up_here}
+use Rattle.laws_primary.proofs.laws_shared.Giving.{fails_none, gives_up}
 use Rattle.laws_primary.proofs.laws_shared.MadeNodes.{node_held, one_lies}
 use Rattle.laws_primary.proofs.laws_shared.Moving.{same_both, stops_behind, stops_so}
 use Rattle.laws_primary.proofs.laws_shared.Paths.{Path, ◌⟶◌, ◌⟶✗◌, ◌⟼◌, at_kind, fails_at, label_here, last_token, noded, token, walked_both}
@@ -50,7 +50,7 @@ use Rattle.laws_statements.specs.declared.forms.StatementList.TheVariants.{Block
 use Rattle.laws_statements.proofs.Blocks.{at_brace, none_told, then_some}
 use Rattle.laws_statements.proofs.StatementLists.{goes_on_here, none_left, one_taken_more}
 use Rattle.laws_classes.specs.ClassBodies.{class_braces, elements_of}
-use Rattle.laws_classes.specs.Elements.{ElementOutcome, ElementTaken, NoElement, behind_element, behind_kinds, name_kinds}
+use Rattle.laws_classes.specs.Elements.{ElementOutcome, ElementTaken, NoElement, behind_element, behind_kinds}
 
 -- ---- one item
 

@@ -1,5 +1,5 @@
 -- Elements of classes behind decorators (of the proposal Decorators; no section of ECMA-262): these may stand before each but a static block.
-use Rattle.std.proofs.Common.{ℕ, ◌≡◌, ◌<◌, Bool, true, false, List, ◌∷◌, ◌++◌, length, Option, refl, sym, ap, subst, arith, ◌∙◌}
+use Rattle.std.proofs.Common.{ℕ, ◌≡◌, Bool, true, false, List, ◌++◌, length, Option, refl, sym, ap, subst, arith, ◌∙◌}
 use Rattle.std.proofs.lemmas.Bool.{false≢true}
 use Rattle.js_base.specs.declared.diagnostic.Diagnostic.{Diagnostic}
 use Rattle.js_base.specs.declared.diagnostic.DiagnosticKind.TheVariants.{DecoratorsAreNotValidHere}
@@ -27,13 +27,13 @@ use Rattle.laws_primary.specs.js_cursor.Moves.{KeepsDiagnostic}
 use Rattle.laws_primary.specs.js_cursor.Parsers.{Parser}
 use Rattle.laws_primary.specs.js_cursor.Places.{goal}
 use Rattle.laws_primary.specs.js_cursor.declared.stop.Stop.{Stop}
-use Rattle.laws_primary.specs.js_lex.States.{goal_of}
+use Rattle.laws_primary.specs.laws_shared.js_lex.States.{goal_of}
 use Rattle.laws_primary.specs.laws_shared.Answers.{Stops, unclean}
 use Rattle.laws_primary.specs.laws_shared.Classes.{IsEarly}
 use Rattle.laws_primary.specs.laws_shared.Lexemes.{spot}
 use Rattle.laws_primary.specs.laws_shared.Moves.{MadeHere}
 use Rattle.laws_primary.specs.laws_shared.NodeTexts.{is_textual}
-use Rattle.laws_primary.specs.laws_shared.States.{At, Same}
+use Rattle.laws_primary.specs.laws_shared.States.{At}
 use Rattle.laws_primary.specs.laws_shared.Told.{unrelated_at}
 use Rattle.laws_primary.proofs.laws_shared.js_tree.HoldingLemmas.{Holds-wider, Keeps-longer, Keeps-made, Keeps-trans}
 use Rattle.laws_primary.proofs.laws_shared.Giving.{kept_one}

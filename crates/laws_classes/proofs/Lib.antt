@@ -1,7 +1,6 @@
 pub mod ClassBodies
 pub mod ConstructorNames
 pub mod DecoratedElements
-pub mod DecoratedElements
 pub mod Elements
 pub mod Fields
 pub mod AccessorMembers

@@ -1,5 +1,5 @@
 -- Elements of classes (ECMA-262, 15.7), and what is answered of one.
-use Rattle.std.specs.Prelude.{ℕ, ◌+◌, ◌≡◌, ◌<◌, Bool, true, false, length, List, [], ◌∷◌, ◌++◌, Result, Ok, Err}
+use Rattle.std.specs.Prelude.{ℕ, ◌+◌, ◌≡◌, ◌<◌, Bool, true, false, length, List, ◌∷◌, Result, Ok, Err}
 use Rattle.js_base.specs.declared.kind.Kind.{Kind}
 use Rattle.js_base.specs.declared.kind.Kind.TheVariants.{At as at_sign, RCurly, Semicolon, Star, Static}
 use Rattle.js_base.specs.Kinds.{one_of_kinds}
@@ -9,7 +9,6 @@ use Rattle.js_grammar.specs.Parsing.{Test, plain, Fails}
 use Rattle.js_grammar.specs.Productions.{G, Flags, computed_flag, flag, only, static_flag, tok, Decorator, Element}
 use Rattle.js_grammar.specs.Productions.{sym as symbol}
 use Rattle.js_grammar.specs.Table.{rule}
-use Rattle.laws_primary.specs.Decorators.{decorated_kinds}
 pub use Rattle.laws_primary.specs.Decorators.{name_kinds, other_name_kinds}
 use Rattle.laws_primary.specs.js_tree.declared.id.NodeId.{NodeId}
 use Rattle.laws_primary.specs.js_tree.Holding.{Holds, Keeps}

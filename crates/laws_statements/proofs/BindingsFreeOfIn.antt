@@ -1,5 +1,5 @@
 -- What is bound, as members and targets, is read alike whether `in` is an operator around it or not (ECMA-262, 14.3.3, 14.7.5).
-use Rattle.std.proofs.Common.{ℕ, ◌≡◌, Bool, true, false, ◌||◌, ◌∙◌, refl}
+use Rattle.std.proofs.Common.{ℕ, ◌≡◌, Bool, true, false, refl}
 use Rattle.std.proofs.lemmas.Bool.{false≢true}
 use Rattle.js_grammar.specs.Trees.{Slots}
 use Rattle.js_grammar.specs.Grammar.{Lexemes, Takes}

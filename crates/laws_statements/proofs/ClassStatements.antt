@@ -8,7 +8,7 @@ use Rattle.std.proofs.lemmas.Bool.{false≢true}
 use Rattle.js_grammar.specs.Conditions.{ends_in_sub}
 use Rattle.js_grammar.specs.Trees.{Label, end, tree, class_declaration}
 use Rattle.js_grammar.specs.Grammar.{nothing, such}
-use Rattle.js_grammar.specs.Parsing.{Test, always, still, Goes}
+use Rattle.js_grammar.specs.Parsing.{always, still, Goes}
 use Rattle.js_grammar.specs.Productions.{Flags, at, ListItem, Sub}
 use Rattle.js_grammar.specs.Productions.{Class as AClass}
 use Rattle.js_grammar.specs.Productions.{sym as symbol}
