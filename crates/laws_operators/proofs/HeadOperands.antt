@@ -22,6 +22,7 @@ use Rattle.laws_shared.specs.js_tree.Holding.{Made}
 use Rattle.laws_shared.specs.js_tree.declared.kind.NodeKind.TheVariants.{ParenthesizedExpression}
 use Rattle.laws_shared.specs.js_tree.Labels.{kind_of}
 use Rattle.laws_shared.specs.js_tree.Nodes.{Node, empty_program, label, node_at}
+pub use Rattle.laws_patterns.proofs.laws_primary.DecoratedNodes.{made_kind}
 use Rattle.laws_shared.specs.js_cursor.Moves.{OnlyMemory}
 use Rattle.laws_shared.specs.js_cursor.Parsers.{Parser}
 use Rattle.laws_shared.specs.js_cursor.declared.stop.Stop.{Stop}
@@ -52,9 +53,6 @@ pub made_no_target : {l : Label} {ids : List (Option NodeId)} {p q : Parser} {id
 made_no_target {l} a b m = λ lo hi k cs h.
     let e : k ≡ l = label_at h.stands ∙ (ap label (made_node m.made) ∙ m.label_is) in
     (subst (λ (v : Label). is_literal v.kind ≡ false) (sym e) a, subst (λ (v : Label). target_of v cs ≡ None) (sym e) (b cs))
-
-pub made_kind : {l : Label} {ids : List (Option NodeId)} {p q : Parser} {id : NodeId} → MadeHere l ids p q id → kind_of (node_at q.nodes id).kind ≡ l.kind
-made_kind m = ap (λ (v : Label). v.kind) (ap label (made_node m.made) ∙ m.label_is)
 
 -- ---- where memory is wanting nothing is told
 

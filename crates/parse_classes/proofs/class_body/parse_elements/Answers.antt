@@ -30,11 +30,11 @@ elements-preserved-in-Continue-1 t c = λ text f a.
     let s = c.elements.invariant text f a in
     semicolon_more s (c.at.ensures.0 c.if-at.true) (c.in_ok-advance.ensures text f s.at)
 
-pub parse_undecorated_element-requires-clause-at : goal.parse_undecorated_element-requires-clause-at
-parse_undecorated_element-requires-clause-at t c = standing (c.elements.invariant _ _ c.requires.at).at
+pub parse_element-requires-clause-at : goal.parse_element-requires-clause-at
+parse_element-requires-clause-at t c = standing (c.elements.invariant _ _ c.requires.at).at
 
-pub parse_undecorated_element-requires-clause-nests : goal.parse_undecorated_element-requires-clause-nests
-parse_undecorated_element-requires-clause-nests t c =
+pub parse_element-requires-clause-nests : goal.parse_element-requires-clause-nests
+parse_element-requires-clause-nests t c =
     let s = c.elements.invariant _ _ c.requires.at in
     nests_later c.requires.nests (let r = later_room s.further s.same in omega arith)
 
