@@ -19,6 +19,7 @@ pub use Rattle.laws_classes.specs.laws_primary.laws_shared.States.{Standing}
 pub use Rattle.laws_classes.specs.Members.{ReadsAccessorField, ReadsAccessorMethod, ReadsBehindWord, ReadsMember, ReadsWordMethod, accessor_of, begins_accessor, begins_async, kind_of_string, kind_of_word, name_kinds, other_name_kinds, special_firsts}
 pub use Rattle.js_base.specs.Spans.{LiesIn}
 pub use Rattle.laws_classes.specs.laws_primary.js_tree.Nodes.{node_at}
+pub use Rattle.laws_classes.specs.laws_primary.js_tree.declared.kind.NodeKind.TheVariants.{StaticBlock}
 pub use Rattle.laws_classes.specs.laws_primary.js_tree.Sources.{IsString, units_of}
 pub use Rattle.laws_classes.specs.SpecialMethods.{ReadsAsyncMethod, ReadsNamedMethod}
 pub use Rattle.parse_statements.specs.laws_statements.StatementLists.{ends_list}

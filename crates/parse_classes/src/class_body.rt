@@ -1,7 +1,7 @@
 //! Class bodies (ECMA-262, section 15.7).
 
-ghost use Rattle.std.specs.Prelude.{◌≡◌, ◌+◌, MatchResult};
-ghost use Rattle.parse_classes.specs.Prelude.{AllElements, Answers, at, Block, CanNest, ClassBody, ends_list, NoElements, ReadsElement, room, Standing};
+ghost use Rattle.std.specs.Prelude.{◌≡◌, ◌+◌, ◌<◌, ◌↔◌, IsTrue, length, MatchResult};
+ghost use Rattle.parse_classes.specs.Prelude.{AllElements, Answers, at, Block, CanNest, ClassBody, ends_list, node_at, NoElements, ReadsElement, room, Standing, StaticBlock};
 
 use crate::element::parse_class_element;
 use js_base::{DiagnosticKind, Kind};
@@ -78,10 +78,18 @@ fn parse_element<C: ParserConfig, N: Sequences<C>>(
     let decorators = parse_decorators(p, nested)?;
     let span = p.end_span(start);
     let element = parse_class_element(p, nested)?;
-    if p.ast.kind(element) == NodeKind::StaticBlock {
+    if is_static_block(p, element) {
         p.error(diagnostic_at(DiagnosticKind::DecoratorsAreNotValidHere, span))?;
         return Ok(element);
     }
     let node = decorate(p, start, element, decorators)?;
     Ok(node)
+}
+
+/// Whether the node is that of a static block.
+fn is_static_block<C: ParserConfig>(p: &ParserImpl<'_, C>, id: NodeId) -> bool
+    requires { id.0 < length p.now.nodes }
+    ensures { IsTrue result ↔ ((node_at p.now.nodes id).kind ≡ StaticBlock) }
+{
+    matches!(p.ast.kind(id), NodeKind::StaticBlock)
 }
