@@ -14,7 +14,7 @@ use Rattle.js_grammar.specs.Trees.{NodeKind, method_definition, property_definit
 use Rattle.js_tree.specs.declared.flags.NodeFlags.{NodeFlags}
 use Rattle.js_tree.specs.declared.id.NodeId.{NodeId}
 use Rattle.js_tree.specs.Bits.{flags_of}
-use Rattle.js_tree.specs.Holding.{Stands, stands, StandsAll, no_slots, next_child, next_hole}
+use Rattle.js_tree.specs.Holding.{StandsAll, no_slots, next_child, next_hole}
 use Rattle.js_tree.specs.Labels.{kind_of, number_of, op_of}
 use Rattle.js_tree.specs.Nodes.{Node, label, node_at, empty_program}
 use Rattle.js_tree.proofs.BitLemmas.{flags_of-number_of}

@@ -26,7 +26,7 @@ use Rattle.js_grammar.proofs.NoEnd.{ends_once_by, ends_behind}
 use Rattle.js_cursor.specs.js_lex.Reading.{LexemeBehind}
 use Rattle.js_cursor.proofs.js_lex.TriviaLemmas.{some_width}
 use Rattle.js_core.specs.laws_shared.Lexemes.{Faultless, is_read}
-use Rattle.js_parser.specs.Language.{is_built, AllBuilt, AreBuilt, ReadingsAreValid}
+use Rattle.js_parser.specs.Language.{AllBuilt, AreBuilt, ReadingsAreValid}
 use Rattle.js_grammar.specs.BuiltTexts as built
 use Rattle.js_core.specs.Readings.{parameters, AreRead, Reading, from_text_start, behind_a_hashbang}
 use Rattle.js_parser.proofs.BuiltTrees.{derived_fine, early_fine, record_fine, pure_fine, rules_without}

@@ -10,7 +10,7 @@ ghost use Rattle.js_cursor.specs.js_lex.States.{goal_of};
 ghost use Rattle.js_core.specs.laws_shared.States.{NodesLie};
 ghost use Rattle.js_parser.specs.FaultsTold.{AreAlike, AreBesideFatal, last_of};
 ghost use Rattle.js_core.specs.Kept.{KeepsRight};
-ghost use Rattle.js_parser.specs.Leftover.{told_at, with_leftover};
+ghost use Rattle.js_parser.specs.Leftover.{ToldOf, told_at, with_leftover};
 ghost use Rattle.js_parser.specs.Parsed.{options_of, IsAnswer, IsOverlong, output_of};
 ghost use Rattle.js_core.specs.Taken.{ProgramTaken, ProgramRefused};
 
@@ -70,10 +70,7 @@ pub fn taken(
     let parts = p.into_parts();
     let kept = parts.lexer.finish();
     let tree = parts.ast.finish(span, items)?;
-    let found = joined(kept.errors, parts.errors)?;
-    let early = early_errors(alloc, &tree, source)?;
-    let covers = tree.cover_initializers(alloc)?;
-    let diagnostics = with_leftover(found, early, covers)?;
+    let diagnostics = told_of(alloc, &tree, source, kept.errors, parts.errors)?;
     let (module_record, _) = parts.module_record_builder.build()?;
     Ok(ParserReturn {
         program: Program {
@@ -88,6 +85,23 @@ pub fn taken(
         fatal_error: false,
         is_flow_language: false,
     })
+}
+
+/// What is told of a tree: faults of lexemes, what the parser found, and what is left to tell.
+fn told_of(
+    alloc: Global,
+    tree: &Tree,
+    source: &str,
+    faults: Diagnostics,
+    found: Diagnostics,
+) -> Result<Diagnostics, NoMemory>
+    requires { NodesLie source.now tree.now }
+    ensures { IfOk result (λ all. ToldOf source.now tree.now (faults ++ found) all) }
+{
+    let early = early_errors(alloc, tree, source)?;
+    let covers = tree.cover_initializers(alloc)?;
+    let found = joined(faults, found)?;
+    with_leftover(found, early, covers)
 }
 
 /// The answer for a text whose parse a fatal diagnostic ended: a program without children.

@@ -1,6 +1,7 @@
 use Rattle.std.proofs.Common.{ℕ, ◌≡◌, List, length, ap, sym, subst, ◌++◌, ◌∙◌}
 use Rattle.js_base.specs.declared.token.Token.{Token}
 use Rattle.js_grammar.specs.Trees.{Slots, Tree}
+use Rattle.js_cursor.specs.js_lex.declared.output.LexerOutput.{LexerOutput}
 use Rattle.js_cursor.specs.js_lex.Kept.{LieIn}
 use Rattle.js_cursor.specs.js_lex.States.{State}
 use Rattle.js_tree.specs.Nodes.{Node, program_node}
@@ -10,27 +11,31 @@ use Rattle.js_core.specs.laws_shared.States.{NodesLie}
 use Rattle.js_cursor.specs.Parsers.{Parser}
 use Rattle.js_parser.specs.Broken.{told_in}
 use Rattle.js_parser.specs.declared.early.Position.TheVariants.{Anywhere}
-use Rattle.js_parser.specs.Leftover.{with_leftover}
+use Rattle.js_parser.specs.Leftover.{ToldOf, with_leftover}
 use Rattle.js_parser.proofs.Answering.{nodes_lie, taken_answer, taken_kept}
 use Rattle.js_parser.proofs.answer.taken.Goals as goal
 
+-- what is kept, with what is told in place of the faults
+told_so : (kept : LexerOutput) {text : List ℕ} {ns : List Node} {found found' told : List Diagnostic} → (x : ToldOf text ns found told) → found ≡ found' → record kept { errors = told } ≡ record kept { errors = with_leftover found' x.early x.covers }
+told_so kept x e = ap (λ (ds : List Diagnostic). record kept { errors = ds }) (x.is ∙ ap (λ (ds : List Diagnostic). with_leftover ds x.early x.covers) e)
+
 pub returns-clause-answer : goal.returns-clause-answer
-returns-clause-answer c = λ text s o asks h. taken_answer c.new-span.result _ _ c.finish-kept.result c.in_ok-early.early c.in_ok-covers.covers.items (c.finish-kept.ensures.kept ∙ ap (λ (l : State). l.kept) c.into_parts-parts.ensures.lexer) c.new-span.ensures.start (c.new-span.ensures.end ∙ (c.end.ensures ∙ ap (λ (t : Token). t.span.end) c.cur_token.ensures))
+returns-clause-answer c = λ text s o asks h. taken_answer c.new-span.result _ _ c.finish-kept.result c.in_ok-diagnostics.ensures.early c.in_ok-diagnostics.ensures.covers (c.finish-kept.ensures.kept ∙ ap (λ (l : State). l.kept) c.into_parts-parts.ensures.lexer) c.new-span.ensures.start (c.new-span.ensures.end ∙ (c.end.ensures ∙ ap (λ (t : Token). t.span.end) c.cur_token.ensures))
     (subst (λ (ns : List Node). (cs : Slots) → HoldsAll ns 1 (length ns) c.args.items.items cs → IsTree c.in_ok-tree.tree (program_tree c.new-span.result cs)) c.into_parts-parts.ensures.ast c.in_ok-tree.ensures.tree)
     (c.in_ok-tree.ensures.nodes ∙ ap (λ (ns : List Node). with_program (program_node c.new-span.result c.args.items.items) ns) c.into_parts-parts.ensures.ast)
-    (subst (λ (w : List ℕ). (t : Tree) → IsTree c.in_ok-tree.tree t → c.in_ok-early.early ≡ told_in w Anywhere t.slots) (ap (λ (q : Parser). q.text) c.p.view_is) c.in_ok-early.ensures)
-    c.in_ok-covers.ensures
-    (ap (λ ds. record c.finish-kept.result { errors = ds }) (c.in_ok-diagnostics.ensures ∙ ap (λ (ds : List Diagnostic). with_leftover ds c.in_ok-early.early c.in_ok-covers.covers.items) (c.in_ok-found.ensures ∙ (λ i. ((c.finish-kept.ensures.kept ∙ ap (λ (l : State). l.kept) c.into_parts-parts.ensures.lexer) i).errors ++ c.into_parts-parts.ensures.errors i))))
+    (subst (λ (w : List ℕ). (t : Tree) → IsTree c.in_ok-tree.tree t → c.in_ok-diagnostics.ensures.early ≡ told_in w Anywhere t.slots) (ap (λ (q : Parser). q.text) c.p.view_is) c.in_ok-diagnostics.ensures.early_are)
+    c.in_ok-diagnostics.ensures.covers_are
+    (told_so c.finish-kept.result c.in_ok-diagnostics.ensures (λ i. ((c.finish-kept.ensures.kept ∙ ap (λ (l : State). l.kept) c.into_parts-parts.ensures.lexer) i).errors ++ c.into_parts-parts.ensures.errors i))
     (subst (λ (v : State). LieIn v.text c.finish-kept.result) c.into_parts-parts.ensures.lexer c.finish-kept.ensures.lies)
     h
 
 pub returns-clause-kept : goal.returns-clause-kept
-returns-clause-kept c = λ text s o asks h. taken_kept _ c.finish-kept.result c.in_ok-early.early c.in_ok-covers.covers.items
-    (ap (λ ds. record c.finish-kept.result { errors = ds }) (c.in_ok-diagnostics.ensures ∙ ap (λ (ds : List Diagnostic). with_leftover ds c.in_ok-early.early c.in_ok-covers.covers.items) (c.in_ok-found.ensures ∙ (λ i. ((c.finish-kept.ensures.kept ∙ ap (λ (l : State). l.kept) c.into_parts-parts.ensures.lexer) i).errors ++ c.into_parts-parts.ensures.errors i))))
+returns-clause-kept c = λ text s o asks h. taken_kept _ c.finish-kept.result c.in_ok-diagnostics.ensures.early c.in_ok-diagnostics.ensures.covers
+    (told_so c.finish-kept.result c.in_ok-diagnostics.ensures (λ i. ((c.finish-kept.ensures.kept ∙ ap (λ (l : State). l.kept) c.into_parts-parts.ensures.lexer) i).errors ++ c.into_parts-parts.ensures.errors i))
     (c.finish-kept.ensures.kept ∙ ap (λ (l : State). l.kept) c.into_parts-parts.ensures.lexer)
     h
 
-pub early_errors-requires : goal.early_errors-requires
-early_errors-requires c =
+pub told_of-requires : goal.told_of-requires
+told_of-requires c =
     subst (λ (w : List ℕ). NodesLie w c.in_ok-tree.tree) (sym (ap (λ (q : Parser). q.text) c.p.view_is))
     (nodes_lie c.new-span.result c.in_ok-tree.tree c.new-span.ensures.start (c.new-span.ensures.end ∙ (c.end.ensures ∙ ap (λ (t : Token). t.span.end) c.cur_token.ensures)) (c.in_ok-tree.ensures.nodes ∙ ap (λ (ns : List Node). with_program (program_node c.new-span.result c.args.items.items) ns) c.into_parts-parts.ensures.ast) c.requires.at c.requires.lie)
