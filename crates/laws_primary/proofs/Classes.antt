@@ -2,8 +2,8 @@
 use Rattle.std.proofs.Common.{ℕ, ◌≡◌, true, false, List, [], ◌∷◌, ◌++◌, length, Option, Some, None, refl, sym, ap, subst, arith, ◌∙◌}
 use Rattle.std.specs.Prelude.{Ok, Err}
 use Rattle.js_base.specs.declared.diagnostic.Diagnostic.{Diagnostic}
-use Rattle.js_base.specs.declared.diagnostic.DiagnosticKind.TheVariants.{ExpectClassName}
-use Rattle.js_base.specs.declared.kind.Kind.TheVariants.{At as at_sign, Class as a_class, Extends, LCurly, Undetermined}
+use Rattle.js_base.specs.declared.diagnostic.DiagnosticKind.TheVariants.{ExpectClassName, ImplementsClauseInTs}
+use Rattle.js_base.specs.declared.kind.Kind.TheVariants.{At as at_sign, Class as a_class, Extends, Implements, LCurly, Undetermined}
 use Rattle.js_base.specs.Kinds.{one_of_kinds}
 use Rattle.js_grammar.specs.Marks.{Mark, the_end, the_start}
 use Rattle.js_grammar.specs.Trees.{end, hole, tree}
@@ -33,6 +33,7 @@ use Rattle.laws_shared.specs.Lexemes.{Lex}
 use Rattle.laws_shared.specs.Moves.{MadeHere, Moved}
 use Rattle.laws_shared.specs.Stands.{NameHere, StandsHere}
 use Rattle.laws_shared.specs.States.{At}
+use Rattle.laws_shared.specs.Told.{unrelated_at}
 use Rattle.laws_shared.proofs.Classes.{gives_up_by, unexpected_ends}
 use Rattle.laws_shared.proofs.Expected.{not_due}
 use Rattle.laws_shared.proofs.Giving.{gives_up}
@@ -169,3 +170,16 @@ lexeme_ends p q e a g = gives_up_by p q e g (λ d u. unexpected_ends a d u)
 pub name_refused : (form : ClassForm) (p q : Parser) (e : Stop) → (form ≡ Expression → ⊥) → NameHere p false → GivesUp EndsParse p q e → NamesClass form p q (Err e)
 name_refused Declaration p q e i h g = λ text f a. gives_up EndsParse p q e a g (λ d u. u) (unnamed a h)
 name_refused Expression p q e i h g = absurd (i refl)
+
+-- ---- what is told where an interface is named
+
+-- no body stands there
+pub unembodied : {text : List ℕ} {f : Flags} {p : Parser} → At text f p → p.token.kind ≡ Implements → Underived text (at ClassBody f) p.prev_token_end
+unfolding covers apart
+unembodied {f = f} a k = fails_at a (symbol ClassBody f) (LCurly ∷ []) refl (ap (one_of_kinds (LCurly ∷ [])) k)
+
+pub implements_marked : (p : Parser) {d : Diagnostic} → IsAt p → p.token.kind ≡ Implements → d ≡ unrelated_at ImplementsClauseInTs p.token.span → Mark (goal p) p.text d
+implements_marked p a k e = subst (λ (v : Diagnostic). Mark (goal p) p.text v) (sym e) (mark_here ImplementsClauseInTs p.token.span None a (at_lexeme (λ i. let z : Implements ≡ Undetermined = sym k ∙ i in cc) refl) (λ s l i. ((the_start l.of_text l.is.0, the_end l.of_text l.is.1), (refl, refl))))
+
+pub implements_ends : (p q : Parser) (d : Diagnostic) (e : Stop) → d ≡ unrelated_at ImplementsClauseInTs p.token.span → GivesUp (λ v. v ≡ d) p q e → GivesUp EndsParse p q e
+implements_ends p q d e i g = gives_up_by p q e g (λ v u. subst EndsParse (sym (u ∙ i)) refl)

@@ -5,8 +5,12 @@ use Rattle.std.proofs.Common.{ℕ, ◌≡◌, ◌≤◌, ◌<◌, ◌+◌, ◌�
 use Rattle.std.specs.Prelude.{Result, Ok, Err, MatchResult}
 use Rattle.std.proofs.lemmas.Bool.{false≢true, and_parts, and_from}
 use Rattle.js_base.specs.declared.diagnostic.Diagnostic.{Diagnostic}
+use Rattle.js_base.specs.Texts.{words}
+use Rattle.laws_shared.specs.Classes.{EndsParse}
+use Rattle.laws_shared.specs.Told.{unrelated_at}
+use Rattle.laws_shared.proofs.Classes.{gives_up_by}
 use Rattle.js_base.specs.declared.kind.Kind.{Kind}
-use Rattle.js_base.specs.declared.kind.Kind.TheVariants.{RAngle, New, Dot, QuestionDot, LParen, LBrack, NoSubstitutionTemplate, RBrack, PrivateIdentifier, Super as super_kind, TemplateHead}
+use Rattle.js_base.specs.declared.kind.Kind.TheVariants.{RAngle, New, Dot, QuestionDot, LParen, LBrack, NoSubstitutionTemplate, RBrack, PrivateIdentifier, Super as super_kind, TemplateHead, LAngle}
 use Rattle.js_base.specs.declared.span.Span.{Span}
 use Rattle.js_base.specs.Kinds.{same_kind, one_of_kinds, every_kind}
 use Rattle.js_base.specs.KindSets.{identifier_name_kinds, binding_identifier_kinds}
@@ -19,7 +23,7 @@ use Rattle.js_grammar.specs.Productions.{G, Flags, Symbol, at, tok, plus_in, Ide
 use Rattle.js_grammar.specs.Productions.{New as new_symbol, sym as symbol}
 use Rattle.js_grammar.specs.Table.{rule, rule_of, args}
 use Rattle.js_grammar.specs.Follow.{Edge, row_of, edge_of, follow, follow_of, after, tight}
-use Rattle.js_grammar.proofs.Looks.{covers, covered, apart, not_both}
+use Rattle.js_grammar.proofs.Looks.{covers, covered, apart, not_both, same_self}
 use Rattle.js_grammar.proofs.Calculus.{Inside, Within, inside_full, weaken, ◌▹◌, ◌▹✗◌, then_by, part_fails, fails_node, fails_under, fails_lexeme, weaken_fails}
 use Rattle.js_grammar.proofs.FirstClaims.{firsts}
 use Rattle.js_grammar.proofs.FirstRules.{by_first, fails_here}
@@ -1313,19 +1317,31 @@ begun_at {k} {b} {left = left} {id} {p} {q} e y = subst (λ (v : ℕ). WithArgum
 pub taken_room : {text : List ℕ} {f : Flags} {C : Label → Slots → (Lexemes → Lexemes) → ℕ → Type 0} {A : Type 0} {o p : Parser} {id : NodeId} → At text f o → Taken text f o p id C A → room p ≤ room o
 taken_room a x = later_room (let j = x.further in let d = a.behind in omega arith) x.same
 
--- what is told of a `?.` that can't stand behind `new`
--- where a `?.` stands, what is told of it has its mark
-pub sign_marked : {text : List ℕ} {f : Flags} {p : Parser} (k : DiagnosticKind) (s : Span) → ((s : Span) → LexemeAt (of_kinds (QuestionDot ∷ [])) (goal p) p.text s → StandsAt k (goal p) p.text s None None) → At text f p → StandsHere p QuestionDot true → s ≡ p.token.span → Mark (goal p) p.text (record { kind = k; span = s; first = None; second = None })
-sign_marked {text} {f} {p} k s t a h e =
-    let y = found a (uncut a (ap (same_kind RAngle) h.0)) (ap is_last h.0) in
+-- where a sign stands, what is told of it has its mark
+pub kind_marked : (w : Kind) → same_kind RAngle w ≡ false → is_last w ≡ false → {text : List ℕ} {f : Flags} {p : Parser} (k : DiagnosticKind) (s : Span) → ((s : Span) → LexemeAt (of_kinds (w ∷ [])) (goal p) p.text s → StandsAt k (goal p) p.text s None None) → At text f p → StandsHere p w true → s ≡ p.token.span → Mark (goal p) p.text (record { kind = k; span = s; first = None; second = None })
+kind_marked w u n {text} {f} {p} k s t a h e =
+    let y = found a (uncut a (ap (same_kind RAngle) h.0 ∙ u)) (ap is_last h.0 ∙ n) in
+    let i : one_of_kinds (w ∷ []) w ≡ true = rw (same_self w) refl in
     let m : Mark (goal p) p.text (record { kind = k; span = p.token.span; first = None; second = None }) = record {
       ordered = a.at.lies.ordered;
       within = a.at.lies.ends_whole.0;
       begins_between = a.at.lies.starts_whole;
       ends_between = a.at.lies.ends_whole;
-      stands = t p.token.span (record { lexeme = y.0; of_text = a_lexeme a.at.reached (subst (λ (t : List ℕ). NextLexeme all_faults t p.prev_token_end y.0) (sym a.text_is) y.1); is = (sym y.2.start, sym y.2.end); passes = and_from (one_of_kinds (QuestionDot ∷ []) y.0.kind) (not y.0.escaped) (subst (λ (v : Kind). one_of_kinds (QuestionDot ∷ []) v ≡ true) (sym (sym y.2.kind ∙ h.0)) refl) (ap not (sym y.2.escaped ∙ h.1)) });
+      stands = t p.token.span (record { lexeme = y.0; of_text = a_lexeme a.at.reached (subst (λ (t : List ℕ). NextLexeme all_faults t p.prev_token_end y.0) (sym a.text_is) y.1); is = (sym y.2.start, sym y.2.end); passes = and_from (one_of_kinds (w ∷ []) y.0.kind) (not y.0.escaped) (subst (λ (v : Kind). one_of_kinds (w ∷ []) v ≡ true) (sym (sym y.2.kind ∙ h.0)) i) (ap not (sym y.2.escaped ∙ h.1)) });
     } in
     subst (λ (v : Span). Mark (goal p) p.text (record { kind = k; span = v; first = None; second = None })) (sym e) m
+
+-- so what is told of a `?.` that can't stand behind `new`
+pub sign_marked : {text : List ℕ} {f : Flags} {p : Parser} (k : DiagnosticKind) (s : Span) → ((s : Span) → LexemeAt (of_kinds (QuestionDot ∷ [])) (goal p) p.text s → StandsAt k (goal p) p.text s None None) → At text f p → StandsHere p QuestionDot true → s ≡ p.token.span → Mark (goal p) p.text (record { kind = k; span = s; first = None; second = None })
+sign_marked k s t a h e = kind_marked QuestionDot refl refl k s t a h e
+
+-- and of a `<` where an operand is due
+pub angle_marked : {text : List ℕ} {f : Flags} {p : Parser} {d : Diagnostic} → At text f p → p.token.kind ≡ LAngle → d ≡ unrelated_at fault.JsxInNonJsx p.token.span → Mark (goal p) p.text d
+unfolding words
+angle_marked {p = p} a k e = subst (λ (v : Diagnostic). Mark (goal p) p.text v) (sym e) (kind_marked LAngle refl refl fault.JsxInNonJsx p.token.span (λ s x. (x, (refl, refl))) a (k, plain_sign LAngle a k refl refl refl) refl)
+
+pub angle_ends : (p q : Parser) (d : Diagnostic) (e : Stop) → d ≡ unrelated_at fault.JsxInNonJsx p.token.span → GivesUp (λ v. v ≡ d) p q e → GivesUp EndsParse p q e
+angle_ends p q d e i g = gives_up_by p q e g (λ v u. subst EndsParse (sym (u ∙ i)) refl)
 
 -- and so it is behind it
 pub link_marked : {text : List ℕ} {f : Flags} {p q : Parser} (s : Span) → At text f p → StandsHere p QuestionDot true → s ≡ p.token.span → Moved text f p q → Mark (goal q) q.text (no_link_behind s)

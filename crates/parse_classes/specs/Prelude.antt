@@ -10,7 +10,9 @@ pub use Rattle.laws_classes.specs.Methods.{ReadsMethod, form_of_method, method_l
 pub use Rattle.laws_classes.specs.Names.{NamesElement}
 pub use Rattle.laws_classes.specs.StaticBlocks.{InStaticBlock, ReadsStaticBlock}
 pub use Rattle.laws_classes.specs.laws_primary.js_tree.Labels.{kind_of, number_of}
+pub use Rattle.laws_classes.specs.laws_primary.js_cursor.Moves.{GivesUp}
 pub use Rattle.laws_classes.specs.laws_primary.laws_shared.Answers.{Answers}
+pub use Rattle.laws_classes.specs.laws_primary.laws_shared.Classes.{EndsParse}
 pub use Rattle.laws_classes.specs.laws_primary.laws_shared.Contexts.{EntersMethod}
 pub use Rattle.laws_classes.specs.laws_primary.laws_shared.Moves.{MadeHere}
 pub use Rattle.laws_classes.specs.laws_primary.laws_shared.Nesting.{CanNest, room}

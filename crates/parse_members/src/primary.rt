@@ -1,13 +1,13 @@
 //! Names, literals and parentheses (ECMA-262, section 13.2).
 
 ghost use Rattle.std.specs.Prelude.{◌≡◌, true, false, ◌<◌, length};
-ghost use Rattle.parse_members.specs.Prelude.{Answers, at, CanNest, kind_of, LParen, Marks, MarksNode, NameHere, number_kinds, one_of_kinds, Percent, Primary, ReadsParentheses, room, slashes, Standing, Str};
+ghost use Rattle.parse_members.specs.Prelude.{Answers, at, CanNest, EndsParse, GivesUp, kind_of, LParen, Marks, MarksNode, NameHere, number_kinds, one_of_kinds, Percent, Primary, ReadsParentheses, room, slashes, Standing, Str};
 ghost use Rattle.parse_shared.specs.js_tree.declared.kind.NodeKind.TheVariants as node;
 ghost use Rattle.parse_primary.specs.laws_primary.Marked as marked;
 
 use crate::decorated::parse_class;
 use crate::left_hand_side::parse_with_arguments;
-use js_base::Kind;
+use js_base::{DiagnosticKind, Kind};
 use parse_primary::array::parse_array_expression;
 use parse_primary::forms::ClassForm;
 use parse_primary::function::{function_stands, parse_function_expression};
@@ -18,6 +18,7 @@ use parse_primary::leaf::{
 use parse_primary::object::parse_object_expression;
 use parse_primary::template::parse_template;
 use parse_shared::context::expression_with_in;
+use parse_shared::diagnostics::diagnostic_at;
 use parse_shared::lexemes::{advance, escaped_word_stands, name_stands, stands};
 use parse_shared::nested::Nested;
 use parse_shared::nodes::{make_leaf, make_one};
@@ -58,8 +59,21 @@ pub fn parse_primary_expression<C: ParserConfig, N: Nested<C>>(
         Kind::Class | Kind::At => parse_class(p, nested, ClassForm::Expression),
         Kind::LCurly => parse_object_expression(p, nested),
         Kind::Percent => parse_v8_intrinsic_expression(p, nested),
-        _ => Err(p.set_unexpected()),
+        _ => Err(refuse_operand(p)),
     }
+}
+
+/// Gives up where an operand is due and none stands. A `<` begins an element of JSX.
+#[inline(never)]
+fn refuse_operand<C: ParserConfig>(p: &mut ParserImpl<'_, C>) -> Stop
+    requires { Standing p.old }
+    ensures { GivesUp EndsParse p.old p.new result }
+{
+    if !p.at(Kind::LAngle) {
+        return p.set_unexpected();
+    }
+    let span = p.cur_token().span();
+    p.set_fatal_error(diagnostic_at(DiagnosticKind::JsxInNonJsx, span))
 }
 
 /// A name; where it is `async` with `function` behind it on its line, an asynchronous function (ECMA-262, sections 15.6

@@ -2,7 +2,7 @@
 pub use Rattle.js_base.specs.Contexts.{await_flag, has_flag, yield_flag}
 pub use Rattle.js_base.specs.KindSets.{identifier_name_kinds}
 pub use Rattle.js_base.specs.Kinds.{one_of_kinds}
-pub use Rattle.js_base.specs.declared.kind.Kind.TheVariants.{Class, Colon, Comma, Dot3, Eq, LBrack, LCurly, LParen, PrivateIdentifier, RBrack, RCurly, RParen, Star, Str}
+pub use Rattle.js_base.specs.declared.kind.Kind.TheVariants.{Class, Colon, Comma, Dot3, Eq, Implements, LBrack, LCurly, LParen, PrivateIdentifier, RBrack, RCurly, RParen, Star, Str}
 pub use Rattle.js_grammar.specs.Productions.{IdentifierName, Primary, Property, async_flag, at, computed_flag, flag, generator_flag, method_flag, shorthand_flag}
 pub use Rattle.laws_primary.specs.Arrays.{Elements, NoElements, TakesElement}
 pub use Rattle.laws_primary.specs.Classes.{NamesClass, TakesHeritage, class_label, class_name, node_of_class}

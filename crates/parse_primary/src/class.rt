@@ -1,7 +1,7 @@
 //! Classes (ECMA-262, section 15.7).
 
 ghost use Rattle.std.specs.Prelude.{◌≡◌, ◌≤◌, ◌∷◌, [], IfOk, Some, true, false};
-ghost use Rattle.parse_primary.specs.Prelude.{Answers, at, CanNest, Class, class_label, class_name, EndsParse, GivesUp, is_textual, kind_of, MadeHere, NamesClass, node_at, node_of_class, room, Standing, StandsHere, TakesHeritage};
+ghost use Rattle.parse_primary.specs.Prelude.{Answers, at, CanNest, Class, class_label, class_name, EndsParse, GivesUp, Implements, is_textual, kind_of, MadeHere, NamesClass, node_at, node_of_class, room, Standing, StandsHere, TakesHeritage};
 
 use crate::leaf::parse_name;
 use js_base::{DiagnosticKind, Kind, NoMemory};
@@ -29,6 +29,9 @@ pub fn parse_undecorated_class<C: ParserConfig, N: Nested<C>>(
     advance(p)?;
     let name = parse_class_name(p, form)?;
     let heritage = parse_heritage(p, nested)?;
+    if p.at(Kind::Implements) {
+        return Err(refuse_implements(p));
+    }
     let body = nested.class_body(p)?;
     let node = make_class(p, form, start, name, heritage, body)?;
     Ok(node)
@@ -79,6 +82,17 @@ fn parse_heritage<C: ParserConfig, N: Nested<C>>(
     advance(p)?;
     let heritage = nested.left_hand_side(p)?;
     Ok(Some(heritage))
+}
+
+/// Gives up at the `implements` of a class of TypeScript.
+#[inline(never)]
+fn refuse_implements<C: ParserConfig>(p: &mut ParserImpl<'_, C>) -> Stop
+    requires at { Standing p.old }
+    requires word { p.old.token.kind ≡ Implements }
+    ensures { GivesUp EndsParse p.old p.new result }
+{
+    let span = p.cur_token().span();
+    p.set_fatal_error(diagnostic_at(DiagnosticKind::ImplementsClauseInTs, span))
 }
 
 /// The node of a class that began at a place: its name and its heritage, or none, and its body.

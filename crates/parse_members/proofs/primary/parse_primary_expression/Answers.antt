@@ -5,7 +5,8 @@ use Rattle.js_base.specs.declared.kind.Kind.TheVariants.{At, Class, This, Null, 
 use Rattle.parse_shared.specs.js_tree.declared.kind.NodeKind.TheVariants as node
 use Rattle.parse_shared.specs.js_tree.declared.op.Op.TheVariants as op
 use Rattle.parse_shared.proofs.laws_shared.Escapes.{plain_here, word_plain, no_name_where}
-use Rattle.parse_shared.proofs.laws_shared.Giving.{gives_up_here}
+use Rattle.parse_shared.specs.laws_shared.Classes.{EndsParse}
+use Rattle.parse_shared.proofs.laws_shared.Giving.{gives_up, gives_up_here}
 use Rattle.parse_shared.proofs.laws_shared.NameKinds.{name_at, name_so}
 use Rattle.parse_shared.proofs.laws_shared.Signs.{whole_sign}
 use Rattle.parse_primary.specs.laws_primary.Decorators.{class_kinds}
@@ -55,7 +56,7 @@ pub returns-in-LParen : goal.returns-in-LParen
 returns-in-LParen t c = λ text f a. paren_primary a (sym c.cur_kind-2.ensures ∙ c.in-LParen.is) _ c.parse_parenthesized_expression.result (c.parse_parenthesized_expression.ensures text f a)
 
 pub returns-in_default : goal.returns-in_default
-returns-in_default t c = λ text f a. gives_up_here _ _ c.set_unexpected-in_default.result a c.set_unexpected-in_default.ensures (primary_fails a (name_at false a (name_so c.args.p.now c.if-name_stands.false c.name_stands.ensures)) (none_of_these _ (λ e. c.in_default.not-This (c.cur_kind-2.ensures ∙ e)) (λ e. c.in_default.not-Null (c.cur_kind-2.ensures ∙ e)) (λ e. c.in_default.not-True (c.cur_kind-2.ensures ∙ e)) (λ e. c.in_default.not-False (c.cur_kind-2.ensures ∙ e)) (λ e. c.in_default.not-Str (c.cur_kind-2.ensures ∙ e)) (no_pattern_here a) (λ e. c.in_default.not-Slash (c.cur_kind-2.ensures ∙ e)) (λ e. c.in_default.not-SlashEq (c.cur_kind-2.ensures ∙ e)) (λ e. c.in_default.not-NoSubstitutionTemplate (c.cur_kind-2.ensures ∙ e)) (λ e. c.in_default.not-TemplateHead (c.cur_kind-2.ensures ∙ e)) (λ e. c.in_default.not-LParen (c.cur_kind-2.ensures ∙ e)) (λ e. c.in_default.not-LBrack (c.cur_kind-2.ensures ∙ e)) (λ e. c.in_default.not-Function (c.cur_kind-2.ensures ∙ e)) (λ e. c.in_default.not-LCurly (c.cur_kind-2.ensures ∙ e)) (λ e. c.in_default.not-Percent (c.cur_kind-2.ensures ∙ e)) (λ e. c.in_default.not-Class (c.cur_kind-2.ensures ∙ e)) (λ e. c.in_default.not-At (c.cur_kind-2.ensures ∙ e)) (sym (ap (one_of_kinds number_kinds) c.cur_kind.ensures) ∙ (sym c.is_number.ensures ∙ c.if-is_number.false))))
+returns-in_default t c = λ text f a. gives_up EndsParse _ _ c.refuse_operand.result a c.refuse_operand.ensures (λ d u. u) (primary_fails a (name_at false a (name_so c.args.p.now c.if-name_stands.false c.name_stands.ensures)) (none_of_these _ (λ e. c.in_default.not-This (c.cur_kind-2.ensures ∙ e)) (λ e. c.in_default.not-Null (c.cur_kind-2.ensures ∙ e)) (λ e. c.in_default.not-True (c.cur_kind-2.ensures ∙ e)) (λ e. c.in_default.not-False (c.cur_kind-2.ensures ∙ e)) (λ e. c.in_default.not-Str (c.cur_kind-2.ensures ∙ e)) (no_pattern_here a) (λ e. c.in_default.not-Slash (c.cur_kind-2.ensures ∙ e)) (λ e. c.in_default.not-SlashEq (c.cur_kind-2.ensures ∙ e)) (λ e. c.in_default.not-NoSubstitutionTemplate (c.cur_kind-2.ensures ∙ e)) (λ e. c.in_default.not-TemplateHead (c.cur_kind-2.ensures ∙ e)) (λ e. c.in_default.not-LParen (c.cur_kind-2.ensures ∙ e)) (λ e. c.in_default.not-LBrack (c.cur_kind-2.ensures ∙ e)) (λ e. c.in_default.not-Function (c.cur_kind-2.ensures ∙ e)) (λ e. c.in_default.not-LCurly (c.cur_kind-2.ensures ∙ e)) (λ e. c.in_default.not-Percent (c.cur_kind-2.ensures ∙ e)) (λ e. c.in_default.not-Class (c.cur_kind-2.ensures ∙ e)) (λ e. c.in_default.not-At (c.cur_kind-2.ensures ∙ e)) (sym (ap (one_of_kinds number_kinds) c.cur_kind.ensures) ∙ (sym c.is_number.ensures ∙ c.if-is_number.false))))
 
 pub parse_function_expression-requires-clause-word : goal.parse_function_expression-requires-clause-word
 parse_function_expression-requires-clause-word t c = inl (plain_here c.args.p.now (sym c.cur_kind-2.ensures ∙ c.in-Function.is) refl c.escaped_word_stands.ensures c.if-escaped_word_stands.false)
