@@ -21,8 +21,8 @@ use Rattle.parse_shared.specs.part_words.Scans.{NoLexeme}
 use Rattle.parse_shared.proofs.part_words.KindsOfLexemes.{hashbang_is}
 use Rattle.parse_shared.proofs.js_lex.TriviaLemmas.{some_width}
 use Rattle.parse_shared.specs.laws_shared.Lexemes.{Faultless, Lex, is_read_kind}
-use Rattle.parse_statements.specs.laws_statements.StatementLists.{with_directives}
-use Rattle.parse_statements.specs.laws_statements.declared.forms.StatementList.TheVariants.{Text}
+use Rattle.parse_classes.specs.laws_statements.StatementLists.{with_directives}
+use Rattle.parse_classes.specs.laws_statements.declared.forms.StatementList.TheVariants.{Text}
 use Rattle.parse_shared.proofs.laws_shared.Kept.{faults_aside}
 use Rattle.js_core.specs.Kept.{each_of, each_read, comments_before, blanks_before, TellsEach, TellsRead}
 use Rattle.js_core.specs.Readings.{AreRead, AreReadAnyhow, from_text_start, behind_a_hashbang, anyhow_from_start, anyhow_behind_hashbang}

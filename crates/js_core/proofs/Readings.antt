@@ -38,14 +38,14 @@ use Rattle.parse_shared.specs.laws_shared.Lexemes.{IsRight, Lex, goal_for, is_re
 use Rattle.parse_shared.specs.laws_shared.Heads.{widened}
 use Rattle.parse_shared.specs.laws_shared.NodeTexts.{NodeFits}
 use Rattle.parse_shared.specs.laws_shared.States.{At, IsPlain, whole, sign, nothing as no_lexeme, flags_of, Standing, NodesLie, SpansLie}
-use Rattle.parse_statements.specs.laws_statements.StatementLists.{at_end, with_directives, statements, NoList, Taken, AllTaken, AllRefused}
-use Rattle.parse_statements.specs.laws_statements.declared.forms.StatementList.TheVariants.{Text}
+use Rattle.parse_classes.specs.laws_statements.StatementLists.{at_end, with_directives, statements, NoList, Taken, AllTaken, AllRefused}
+use Rattle.parse_classes.specs.laws_statements.declared.forms.StatementList.TheVariants.{Text}
 use Rattle.parse_shared.proofs.laws_shared.Beginning.{begins, begins_with_hashbang, behind_first, none_noted}
 use Rattle.parse_shared.proofs.laws_shared.Escapes.{read_plain}
 use Rattle.parse_shared.proofs.laws_shared.Giving.{fails_none}
 use Rattle.parse_shared.proofs.laws_shared.Here.{alike, told, plain_there, kind_here}
 use Rattle.parse_shared.proofs.laws_shared.Paths.{at_kind, read_of}
-use Rattle.parse_statements.proofs.laws_statements.StatementLists.{none_left, text_ends}
+use Rattle.parse_classes.proofs.laws_statements.StatementLists.{none_left, text_ends}
 use Rattle.parse_shared.proofs.laws_shared.Verdicts.{grown_some, ending}
 use Rattle.parse_shared.specs.js_cursor.Starts.{is_module, is_commonjs}
 use Rattle.parse_shared.specs.js_tree.Nodes.{Node, empty_program}

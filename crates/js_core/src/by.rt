@@ -2,13 +2,13 @@
 
 ghost use Rattle.js_core.specs.Prelude.{Reads};
 
+use parse_classes::patterns::Patterns;
+use parse_classes::sequences::Sequences;
 use parse_operators::sequence::parse_sequence_expression;
 use parse_patterns::binding::parse_binding_pattern;
 use parse_patterns::parameters::parse_formal_parameters;
 use parse_shared::nested::{MethodForm, Nested, Nonterminal};
 use parse_shared::{NodeId, ParserImpl, RuntimeParserConfig, Stop};
-use parse_statements::patterns::Patterns;
-use parse_statements::sequences::Sequences;
 
 /// A function that reads whatever is asked for. It is one over the config that is told when the program runs: a bound on
 /// a function over any config can't be stated yet.

@@ -6,25 +6,23 @@ ghost use Rattle.js_core.specs.Calls.{above};
 
 use crate::by::By;
 use js_base::{Kind, Precedence, StatementContext};
-use parse_arrows::arrow;
-use parse_classes::class_body;
-use parse_members::left_hand_side;
+use parse_classes::sequences::Sequences;
+use parse_classes::{
+    PropertyName, StatementList, block, class_body, left_hand_side, property_name, statement,
+    statement_list,
+};
+use parse_operators::arrow;
 use parse_operators::assignment::parse_assignment_expression;
 use parse_operators::operators::{self, parse_exponentiation_expression, parse_operators};
 use parse_operators::sequence::parse_sequence_expression;
 use parse_operators::unary::parse_unary_expression_or_higher;
 use parse_patterns::method_parameters::parse_method_parameters;
 use parse_patterns::{binding, parameters};
-use parse_primary::forms::PropertyName;
-use parse_primary::property_name;
 use parse_shared::lexemes::{
     ADDITIVE, AND, BIT_AND, BIT_OR, BIT_XOR, EQUALITY, MULTIPLICATIVE, OR, RELATIONAL, SHIFT,
 };
 use parse_shared::nested::{MethodForm, Nested, Nonterminal};
 use parse_shared::{NodeId, ParserConfig, ParserImpl, RuntimeParserConfig, Stop};
-use parse_statements::forms::StatementList;
-use parse_statements::sequences::Sequences;
-use parse_statements::{block, statement, statement_list};
 
 /// A parser that is told when the program runs whether it keeps the tokens.
 pub type RuntimeParser<'a> = ParserImpl<'a, RuntimeParserConfig>;

@@ -9,4 +9,5 @@ mod member_names;
 mod parser;
 
 pub use answer::{ParserReturn, Program};
+pub use js_core;
 pub use parser::Parser;

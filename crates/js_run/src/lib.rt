@@ -16,6 +16,7 @@ mod words;
 
 pub use ends::{Failed, Sink, Source};
 pub use failing::FailingSource;
+pub use js_parser;
 pub use laws::run_steady;
 pub use program::run;
 pub use room::RoomSink;

@@ -15,3 +15,8 @@ pub mod string_member;
 pub mod word_member;
 
 pub use laws_classes::forms;
+pub use parse_members::left_hand_side;
+pub use parse_primary::forms::PropertyName;
+pub use parse_primary::property_name;
+pub use parse_statements::forms::StatementList;
+pub use parse_statements::{block, patterns, sequences, statement, statement_list};

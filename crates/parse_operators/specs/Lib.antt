@@ -1,1 +1,2 @@
 pub mod Prelude
+pub use Rattle.laws_operators.specs as laws_operators

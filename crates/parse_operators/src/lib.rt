@@ -9,3 +9,5 @@ pub mod sequence;
 pub mod unary;
 pub mod update;
 pub mod yield_expression;
+
+pub use parse_arrows::arrow;

@@ -6,7 +6,7 @@ ghost use Rattle.parse_targets.specs.Covered.{AnyLabel, ReadBefore, an_expressio
 ghost use Rattle.parse_shared.specs.laws_shared.States.{Standing};
 
 use js_base::Kind;
-use js_core::{
+use js_parser::js_core::{
     ArrayAssignmentTargetId, ArrayExpressionId, AssignmentExpressionId, AssignmentTargetId,
     AssignmentTargetMaybeDefaultId, AssignmentTargetPropertyId, AssignmentTargetWithDefaultId,
     CoverGrammar, ExpressionId, ObjectAssignmentTargetId, ObjectExpressionId, ObjectPropertyId,

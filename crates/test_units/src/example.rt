@@ -1,7 +1,7 @@
 //! The example of README.md.
 
 use js_base::{NoMemory, SourceType, Span};
-use js_parser::Parser;
+use js_run::js_parser::Parser;
 use std::alloc::Global;
 
 /// How many nodes the tree of a module has, or the span of its first diagnostic.

@@ -5,14 +5,14 @@ ghost use Rattle.js_base.specs.declared.TheConstants.{MAX_LEN};
 ghost use Rattle.js_grammar.specs.CoreTexts.{CoreSource};
 ghost use Rattle.js_grammar.specs.ModuleRecords.{record_of_parts};
 ghost use Rattle.js_cursor.specs.js_lex.States.{goal_of};
-ghost use Rattle.js_parser.specs.CoreAnswers.{IsCoreAnswer};
-ghost use Rattle.js_core.specs.Kept.{KeepsRight};
-ghost use Rattle.js_core.specs.Readings.{read_at};
-ghost use Rattle.js_parser.specs.Parsed.{options_of, IsReturn, output_of};
+ghost use Rattle.js_run.specs.js_parser.CoreAnswers.{IsCoreAnswer};
+ghost use Rattle.js_run.specs.js_parser.js_core.Kept.{KeepsRight};
+ghost use Rattle.js_run.specs.js_parser.js_core.Readings.{read_at};
+ghost use Rattle.js_run.specs.js_parser.Parsed.{options_of, IsReturn, output_of};
 
 use js_base::NoMemory;
 use js_cursor::ParserConfig;
-use js_parser::{Parser, ParserReturn};
+use js_run::js_parser::{Parser, ParserReturn};
 
 /// `Parser::parse`.
 pub fn parse<C: ParserConfig>(parser: Parser<'_, C>) -> Result<ParserReturn, NoMemory>

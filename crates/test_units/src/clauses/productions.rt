@@ -1,12 +1,12 @@
 //! Calls of `js_core`.
 
 ghost use Rattle.std.specs.Prelude.{◌≡◌, true, not};
-ghost use Rattle.js_core.specs.Calls.{above};
-ghost use Rattle.js_core.specs.Prelude.{Answers, at, Expression, has_flag, in_flag, is_single, placed, Standing, TakesStatement};
+ghost use Rattle.js_run.specs.js_parser.js_core.Calls.{above};
+ghost use Rattle.js_run.specs.js_parser.js_core.Prelude.{Answers, at, Expression, has_flag, in_flag, is_single, placed, Standing, TakesStatement};
 
 use js_base::{Precedence, StatementContext};
-use js_core::RuntimeParser;
 use js_cursor::Stop;
+use js_run::js_parser::js_core::{self, RuntimeParser};
 use js_tree::NodeId;
 
 /// `parse_expr`.
