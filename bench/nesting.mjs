@@ -10,9 +10,11 @@ const [program, stack = '7680', count = '300', seed = '1'] = process.argv.slice(
 // a function's body or elsewhere, a pattern. What stands before the room and what behind it.
 const forms = {
   ee: [['(', ')'], ['[', ']'], ['[...', ']'], ['f(', ')'], ['a[', ']'], ['a?.(', ')'], ['a?.[', ']'], ['new f(', ')'], ['a?', ':b'], ['a?b:', ''], ['a=', ''], ['a**', ''], ['a??', ''], ['a+', ''], ['!', ''], ['new ', ''],
-    ['a=>', ''], ['({a:', '})'], ['({[', ']:b})'], ['({...', '})'], ['[a=', ']=b'], ['(a,', ')'], ['(a=', ')=>b']],
-  el: [['(function(){', '})'], ['(function*(){', '})'], ['a=>{', '}'], ['({a(){', '}})'], ['({get a(){', '}})'], ['({*a(){', '}})']],
-  ep: [['((', ')=>b)'], ['(function(', '){})'], ['({a(', '){}})']],
+    ['a=>', ''], ['({a:', '})'], ['({[', ']:b})'], ['({...', '})'], ['[a=', ']=b'], ['(a,', ')'], ['(a=', ')=>b'],
+    ['(class{a=', '})'], ['(class{[', ']})'], ['(class extends ', '{})'], ['(@(', ')class{})'], ['(class{@(', ')a})'], ['(@a(', ')class{})'], ['', '.#b'], ['', '?.#b'], ['#b in ', '']],
+  el: [['(function(){', '})'], ['(function*(){', '})'], ['a=>{', '}'], ['({a(){', '}})'], ['({get a(){', '}})'], ['({*a(){', '}})'],
+    ['(class{static{', '}})'], ['(class{a(){', '}})'], ['(class{get a(){', '}})']],
+  ep: [['((', ')=>b)'], ['(function(', '){})'], ['({a(', '){}})'], ['(class{a(', '){}})'], ['(class{set a(', '){}})']],
   pe: [['[a=', ']'], ['{a=', '}'], ['{a:b=', '}'], ['{[', ']:a}']],
   pp: [['[', ']'], ['[...', ']'], ['{a:', '}']],
   ss: [['if(a)', ''], ['if(a);else ', ''], ['while(a)', ''], ['with(a)', ''], ['do ', ' while(a)'], ['a:', ''], ['for(;;)', ''], ['for(a in b)', ''], ['for(var a of b)', '']],
@@ -20,8 +22,8 @@ const forms = {
   sl: [['{', '}'], ['switch(a){case b:', '}'], ['switch(a){default:', '}'], ['try{', '}finally{}'], ['try{}catch{', '}'], ['try{}catch(a){}finally{', '}']],
   sp: [['var ', '=a'], ['try{}catch(', '){}'], ['for(var ', ' of b);']],
   ls: [['', ''], ['a;', '']],
-  le: [['', ''], ['return ', ''], ['let a=', ''], ['const a=', '']],
-  ll: [['function f(){', '}'], ['function*f(){', '}']],
+  le: [['', ''], ['return ', ''], ['let a=', ''], ['const a=', ''], ['class A{a=', '}'], ['class A{[', ']}'], ['class A extends ', '{}'], ['@(', ')class A{}']],
+  ll: [['function f(){', '}'], ['function*f(){', '}'], ['class A{static{', '}}'], ['class A{a(){', '}}']],
 }
 let state = BigInt(seed)
 const below = n => {

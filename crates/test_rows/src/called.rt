@@ -8,14 +8,14 @@ ghost use Rattle.parse_shared.specs.laws_shared.States.{Standing};
 use crate::answer::Answer;
 use crate::covered::cover_text;
 use js_base::{Kind, MAX_LEN, ParseOptions, Precedence, SourceType, StatementContext};
+use js_cursor::{ParserImpl, Stop};
+use js_lex::RuntimeParserConfig;
 use js_parser::js_core::{
     RuntimeParser, parse_assignment_expression_or_higher, parse_binary_expression_or_higher,
     parse_binding_pattern, parse_expr, parse_formal_parameters, parse_function_body,
     parse_lhs_expression_or_higher, parse_property_name, parse_statement_list_item,
     try_parse_parenthesized_arrow_function_expression,
 };
-use js_cursor::{ParserImpl, Stop};
-use js_lex::RuntimeParserConfig;
 use js_tree::{NodeId, ParserAstBuilder};
 use std::alloc::Global;
 

@@ -6,13 +6,13 @@ ghost use Rattle.parse_targets.specs.Covered.{AnyLabel, ReadBefore, an_expressio
 ghost use Rattle.parse_shared.specs.laws_shared.States.{Standing};
 
 use js_base::Kind;
+use js_cursor::Stop;
 use js_parser::js_core::{
     ArrayAssignmentTargetId, ArrayExpressionId, AssignmentExpressionId, AssignmentTargetId,
     AssignmentTargetMaybeDefaultId, AssignmentTargetPropertyId, AssignmentTargetWithDefaultId,
     CoverGrammar, ExpressionId, ObjectAssignmentTargetId, ObjectExpressionId, ObjectPropertyId,
     RuntimeParser, SimpleAssignmentTargetId, parse_assignment_expression_or_higher,
 };
-use js_cursor::Stop;
 use js_tree::{NodeId, NodeKind};
 use parse_shared::diagnostics::kept_so_far;
 use parse_targets::cover::{child_at, is_object};
