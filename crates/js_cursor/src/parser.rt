@@ -76,7 +76,7 @@ impl<'a, C: ParserConfig> Model for ParserImpl<'a, C> {
 
 /// How many levels deep productions may be nested: where more are asked for, `enter` answers `NoMemory`, so that no text
 /// overflows the stack.
-pub const MAX_DEPTH: u32 = 16_100;
+pub const MAX_DEPTH: u32 = 15_500;
 
 /// The parameters in force where a text begins.
 fn context_at_start(source_type: SourceType, options: ParseOptions) -> Context

@@ -15,7 +15,7 @@ abbrev pub begins_primary : Kind → Bool
 begins_primary k = may_bind k || (is_number k || one_of_kinds ('this' ∷ 'null' ∷ 'true' ∷ 'false' ∷ Str ∷ RegExp ∷ LParen ∷ LBrack ∷ LCurly ∷ At ∷ 'function' ∷ 'class' ∷ NoSubstitutionTemplate ∷ TemplateHead ∷ Percent ∷ []) k)
 
 abbrev pub begins_member : Kind → Bool
-begins_member k = begins_primary k || one_of_kinds ('new' ∷ 'super' ∷ []) k
+begins_member k = begins_primary k || one_of_kinds ('new' ∷ 'super' ∷ 'import' ∷ []) k
 
 abbrev pub begins_unary : Kind → Bool
 begins_unary k = begins_member k || one_of_kinds (Plus2 ∷ Minus2 ∷ Minus ∷ Plus ∷ Bang ∷ Tilde ∷ 'typeof' ∷ 'void' ∷ 'delete' ∷ []) k

@@ -305,12 +305,13 @@ rule_of Update f = sym LeftHandSide f ◇ branches (Plus2 ∷ Minus2 ∷ []) (λ
 rule_of LeftHandSide f = sym New f ◇ sym Call f ◇ sym Chain f
 -- NewExpression (13.3)
 rule_of New f = sym Member f ◇ mk new_expression (tok 'new' ▸ sym New f)
--- MemberExpression (13.3), with SuperProperty and NewTarget
+-- MemberExpression (13.3), with SuperProperty and MetaProperty
 rule_of Member f = sym Primary f ◇ mk new_expression (tok 'new' ▸ sym Member f ▸ args f) ◇ member_access f ◇ mk tagged_template_expression (sym Member f ▸ sym Template f)
-    ◇ when f.new_target (mk new_target_expression (tok 'new' ▸ tok Dot ▸ tok 'target'))
--- CallExpression (13.3), with SuperCall
+    ◇ when f.new_target (mk new_target_expression (tok 'new' ▸ tok Dot ▸ tok 'target')) ◇ when f.module_goal (mk import_meta (tok 'import' ▸ tok Dot ▸ tok 'meta'))
+-- CallExpression (13.3), with SuperCall and ImportCall
 rule_of Call f = mk call_expression ((sym Member f ◇ sym Super f ◇ sym Call f) ▸ args f)
     ◇ call_access f ◇ mk tagged_template_expression (sym Call f ▸ sym Template f)
+    ◇ mk import_expression (tok 'import' ▸ parens (sym Assignment (plus_in f) ▸ slot (tok Comma ▸ sym Assignment (plus_in f)) ▸ opt (tok Comma)))
 -- OptionalExpression (13.3)
 rule_of Chain f = mk chain_expression (sym Links f)
 -- OptionalChain (13.3), with what it hangs on
@@ -390,12 +391,9 @@ rule_of ExportDecl f = mk export_all_declaration (tok 'export' ▸ tok Star ▸ 
 -- The head of an arrow function with its parameters in parentheses, before what stands behind `=>` is looked at (CoverParenthesizedExpressionAndArrowParameterList, 13.2; CoverCallExpressionAndAsyncArrowHead, 13.3): a newline may stand before `=>`.
 rule_of LooseHead f = each (λ a. only a (tok 'async' ▸ no_newline) ▸ sym Params (record f { await_ = f.await_ || a }) ▸ tok Arrow)
 
--- The lines of the language that no parse function reads yet, beside those above: those that begin with `import` and `export`.
+-- The lines of the language that no parse function reads yet, beside those above: import and export declarations.
 unfoldable pub unbuilt_of : Name → Flags → G
 unbuilt_of Item f = when f.module_goal (sym ImportDecl f ◇ sym ExportDecl f)  -- ModuleItem (16.2)
-unbuilt_of Member f = when f.module_goal (mk import_meta (tok 'import' ▸ tok Dot ▸ tok 'meta'))  -- ImportMeta (13.3)
--- ImportCall (13.3)
-unbuilt_of Call f = mk import_expression (tok 'import' ▸ parens (sym Assignment (plus_in f) ▸ slot (tok Comma ▸ sym Assignment (plus_in f)) ▸ opt (tok Comma)))
 unbuilt_of _ f = never
 
 -- The productions that are built.

@@ -81,7 +81,7 @@ pub heads_kept : (p q : Parser) → q.text ≡ p.text → q.source_type ≡ p.so
 heads_kept p q t s o h g a b n = (λ w c x y k. stays NoHead w c x (n.0 w c x y (subst (λ (v : List ℕ). is_noted v c x ≡ true) h k)), λ w c x y k. stays OnlyArrow w c x (n.1 w c x y (subst (λ (v : List ℕ). is_noted v c x ≡ true) g k)), subst (λ (v : List ℕ). NotedClosings q.text v q.state.others) (sym a) (subst (λ (v : List ℕ). NotedClosings q.text p.state.arrows v) (sym b) (subst (λ (v : List ℕ). NotedClosings v p.state.arrows p.state.others) (sym t) n.2)))
   where
     stays : (P : List ℕ → Flags → ℕ → Type 0) → (w : Bool) (c : Context) (x : ℕ) → P p.text (widened w (flags_in p c)) x → P q.text (widened w (flags_in q c)) x
-    stays P w c x z = subst (λ (v : List ℕ). P v (widened w (flags_in q c)) x) (sym t) (subst (λ (f : Flags). P p.text f x) (λ i. record (widened w (flags_in q c)) { module_goal = is_module (sym s i); v8 = (sym o i).allow_v8_intrinsics }) z)
+    stays P w c x z = subst (λ (v : List ℕ). P v (widened w (flags_in q c)) x) (sym t) (subst (λ (f : Flags). P p.text f x) (λ i. record (widened w (flags_in q c)) { module_goal = w || is_module (sym s i); v8 = (sym o i).allow_v8_intrinsics }) z)
 
 pub same_itself : {p : Parser} → Same p p
 same_itself {p} = record { follows = follows_itself p; options = refl; ctx = refl; depth = refl; visits = refl; early = λ h. h; lies = λ h. h }

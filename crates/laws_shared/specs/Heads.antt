@@ -33,9 +33,9 @@ flags_in p c = record {
   wide = false;
 }
 
--- The same in wider forms, with true: an assignment target is taken as a parser meets it before it says what is wrong with it, and `new.target` may stand everywhere.
+-- The same in wider forms, with true: an assignment target is taken as a parser meets it before it says what is wrong with it, and `new.target` and `import.meta` may stand everywhere.
 abbrev pub widened : Bool → Flags → Flags
-widened w f = record f { new_target = w || f.new_target; wide = w }
+widened w f = record f { new_target = w || f.new_target; module_goal = w || f.module_goal; wide = w }
 
 -- Behind arguments that are derived from the place `=>` stands: no parentheses there are an operand (CoverParenthesizedExpressionAndArrowParameterList, 13.2).
 abbrev pub OnlyArrow : List ℕ → Flags → ℕ → Type 0
