@@ -1,7 +1,7 @@
 -- The counts of the nodes that are reached from each number.
-use Rattle.std.proofs.Common.{◌≡◌, ℕ, zero, suc, ◌+◌, ◌<◌, ◌≤◌, Bool, true, false, cond, List, [], ◌∷◌, ◌++◌, length, take, set, Option, Some, None, nat_lt, get_or, slice_get, refl, ap, sym, ◌∙◌, arith, inl, inr, lt-ltb, le-ltb, ltb-true, add-one, length-append, length-set}
+use Rattle.std.proofs.Common.{◌≡◌, ℕ, zero, suc, ◌+◌, ◌<◌, ◌≤◌, Bool, true, false, cond, List, [], ◌∷◌, ◌++◌, length, take, drop, set, Option, Some, None, nat_lt, get_or, slice_get, refl, ap, sym, ◌∙◌, arith, inl, inr, lt-ltb, le-ltb, ltb-true, add-one, length-append, length-set, take-append-drop}
 use Rattle.std.proofs.lemmas.Bool.{cases_lt}
-use Rattle.std.proofs.lemmas.List.{get_or_append_left, get_or_push, length_push}
+use Rattle.std.proofs.lemmas.List.{get_or-take, get_or_append_left, get_or_push, length-take, length_push}
 use Rattle.js_base.specs.declared.span.Span.{Span}
 use Rattle.js_grammar.specs.Trees.{Label, Slots}
 use Rattle.js_grammar.specs.BoundNames.{every}
@@ -76,6 +76,23 @@ AreCounts-appended ns n counts h =
     ∙ ap (λ (x : Node). suc (counted (counts ++ count ∷ []) i x.children)) (sym (get_or_push ns n empty_program i (sym w)))) in
     let some = h.some in
     record { some = omega arith; one_each = omega arith; each = λ i w. elim (cases_lt i (length ns)) [ inl b ↦ before i b | inr b ↦ last i (omega arith) ] }
+
+-- the first nodes
+pub AreCounts-truncated : (ns : List Node) (counts : List ℕ) (n : ℕ) → 0 < n → AreCounts ns counts → AreCounts (take n ns) (take n counts)
+AreCounts-truncated ns counts n p h =
+    let l = length-take n ns in
+    let m = length-take n counts in
+    let e = h.one_each in
+    let some = h.some in
+    record {
+      some = omega arith;
+      one_each = omega arith;
+      each = λ i w.
+          get_or-take n counts i 0 (omega arith) ∙ h.each i (omega arith)
+          ∙ ap (λ (v : List ℕ). suc (counted v i (get_or ns i empty_program).children)) (sym (take-append-drop n counts))
+          ∙ ap suc (counted_longer (take n counts) (drop n counts) i (get_or ns i empty_program).children (omega arith))
+          ∙ ap (λ (x : Node). suc (counted (take n counts) i x.children)) (sym (get_or-take n ns i empty_program (omega arith)));
+    }
 
 flags_children : (f : NodeFlags) (ns : List Node) (k i : ℕ) → (get_or (set ns k (with_flags f (get_or ns k empty_program))) i empty_program).children ≡ (get_or ns i empty_program).children
 flags_children f [] k i = refl

@@ -1,7 +1,7 @@
 -- Whether a shorthand with an initialiser may be reached from each number (CoverInitializedName, ECMA-262, 13.2.5).
-use Rattle.std.proofs.Common.{◌≡◌, ℕ, zero, suc, ◌+◌, ◌<◌, ◌≤◌, Bool, true, false, cond, ◌&&◌, ◌||◌, List, [], ◌∷◌, ◌++◌, length, take, set, Option, Some, None, nat_lt, get_or, refl, ap, sym, ◌∙◌, arith, inl, inr, lt-ltb, le-ltb, ltb-true, add-one, length-set}
+use Rattle.std.proofs.Common.{◌≡◌, ℕ, zero, suc, ◌+◌, ◌<◌, ◌≤◌, Bool, true, false, cond, ◌&&◌, ◌||◌, List, [], ◌∷◌, ◌++◌, length, take, drop, set, Option, Some, None, nat_lt, get_or, refl, ap, sym, ◌∙◌, arith, inl, inr, lt-ltb, le-ltb, ltb-true, add-one, length-set, take-append-drop}
 use Rattle.std.proofs.lemmas.Bool.{cases_lt, or_parts}
-use Rattle.std.proofs.lemmas.List.{get_or_append_left, get_or_push, length_push}
+use Rattle.std.proofs.lemmas.List.{get_or-take, get_or_append_left, get_or_push, length-take, length_push}
 use Rattle.std.proofs.Math.Bool.{or-false, or_assoc}
 use Rattle.js_base.specs.declared.span.Span.{Span}
 use Rattle.js_grammar.specs.Trees.{Label, Slots}
@@ -77,6 +77,22 @@ AreCovers-appended ns n covers h =
     ∙ ap (λ (b : Bool). may_cover n || b) (sym (known_longer covers (known ∷ []) i n.children (omega arith)))
     ∙ ap (told i) (sym (get_or_push ns n empty_program i (sym w)))) in
     record { one_each = omega arith; each = λ i w. elim (cases_lt i (length ns)) [ inl b ↦ before i b | inr b ↦ last i (omega arith) ] }
+
+-- the first nodes
+pub AreCovers-truncated : (ns : List Node) (covers : List Bool) (n : ℕ) → AreCovers ns covers → AreCovers (take n ns) (take n covers)
+AreCovers-truncated ns covers n h =
+    let l = length-take n ns in
+    let m = length-take n covers in
+    let e = h.one_each in
+    let told : ℕ → Node → Bool = (λ i x. may_cover x || covered_in (take n covers) i x.children) in
+    record {
+      one_each = omega arith;
+      each = λ i w.
+          get_or-take n covers i false (omega arith) ∙ h.each i (omega arith)
+          ∙ ap (λ (v : List Bool). may_cover (get_or ns i empty_program) || covered_in v i (get_or ns i empty_program).children) (sym (take-append-drop n covers))
+          ∙ ap (λ (b : Bool). may_cover (get_or ns i empty_program) || b) (known_longer (take n covers) (drop n covers) i (get_or ns i empty_program).children (omega arith))
+          ∙ ap (told i) (sym (get_or-take n ns i empty_program (omega arith)));
+    }
 
 flags_same : (covers : List Bool) (j : ℕ) (f : NodeFlags) (ns : List Node) (k i : ℕ) → (may_cover (get_or (set ns k (with_flags f (get_or ns k empty_program))) i empty_program) || covered_in covers j (get_or (set ns k (with_flags f (get_or ns k empty_program))) i empty_program).children) ≡ (may_cover (get_or ns i empty_program) || covered_in covers j (get_or ns i empty_program).children)
 flags_same covers j f [] k i = refl

@@ -1,7 +1,7 @@
 -- What a change of columns is as a change of the list of nodes.
-use Rattle.std.proofs.Common.{◌≡◌, ℕ, zero, suc, ◌+◌, ◌<◌, ◌≤◌, List, [], ◌∷◌, ◌++◌, map, length, get_or, take, drop, set, Option, Some, None, refl, ap, sym, ◌∙◌, subst, arith, add-one, inl, inr, length-set, length-drop, get_or-set_same, get_or-set_other, length-append, eq-eqb}
-use Rattle.std.proofs.lemmas.List.{get_or_append_left, get_or_push, get_or_past, length_push, take-append-le, drop-append-le, drop_at, take_all, take_more, map_push, get_or_read}
-use Rattle.std.proofs.lemmas.Bool.{cases_order, ne_eqb}
+use Rattle.std.proofs.Common.{◌≡◌, ℕ, zero, suc, ◌+◌, ◌<◌, ◌≤◌, List, [], ◌∷◌, ◌++◌, map, length, get_or, take, drop, set, Option, Some, None, refl, ap, sym, ◌∙◌, subst, arith, add-one, inl, inr, length-set, length-drop, get_or-set_same, get_or-set_other, length-append, take-append-drop, eq-eqb}
+use Rattle.std.proofs.lemmas.List.{get_or_append_left, get_or_push, get_or_past, get_or-take, length-take-le, length_push, take-append-le, drop-append-le, drop_at, take_all, take_more, map_push, get_or_read}
+use Rattle.std.proofs.lemmas.Bool.{cases_lt, cases_order, ne_eqb}
 use Rattle.std.specs.Ordering.{nat_cmp}
 use Rattle.std.specs.BTreeMap.{BTreeMap, get}
 use Rattle.js_base.specs.declared.span.Span.{Span}
@@ -16,8 +16,8 @@ use Rattle.js_tree.specs.Bits.{flags_of}
 use Rattle.js_tree.specs.Nodes.{Node, new_node, node_at, empty_program, program_node, with_flags, flags_set}
 use Rattle.js_tree.specs.Holding.{with_program}
 use Rattle.js_tree.specs.Names.{kept_name}
-use Rattle.js_tree.specs.Rows.{Entries, entry_of, no_entry, slots_of, table, row, rows, AreEntries}
-use Rattle.js_tree.proofs.TableLemmas.{length-table, get-table, table-more, table-set, set-first}
+use Rattle.js_tree.specs.Rows.{Entries, entry_of, no_entry, slots_of, slots_end, slots_before, table, row, rows, AreEntries}
+use Rattle.js_tree.proofs.TableLemmas.{length-table, get-table, take-table, table-more, table-same, table-set, set-first}
 
 pub length-rows : (c : Entries) → length (rows c) ≡ length c.kinds
 unfolding rows
@@ -77,6 +77,19 @@ appended_range c d {s = s} {o = o} {ids = ids} h a i =
       | inr (inr b) ↦ let u = length_push c.entries last in let m = h.entries in let x : get_or (c.entries ++ last ∷ []) i no_entry ≡ no_entry = get_or_past (c.entries ++ last ∷ []) i no_entry (omega arith) in rw x (omega arith)
     ])
 
+appended_order : (c d : Entries) {k : NodeKind} {s : Span} {o : Op} {f : NodeFlags} {name : Option (List ℕ)} {ids : List (Option NodeId)} → AreEntries c → Appended c d k s o f name ids → (i j : ℕ) → 0 < i → i < j → j < length d.kinds → slots_end (get_or d.entries i no_entry) ≤ (get_or d.entries j no_entry).start
+appended_order c d {k} {s} {o} {ids = ids} h a i j p b w =
+    let last : Entry = entry_of s (length c.slots) (length ids) a.bits o in
+    let n : length d.kinds ≡ suc (length c.kinds) = (let l = length_push c.kinds k in rw a.kinds (omega arith)) in
+    let e = h.entries in
+    let x : get_or (c.entries ++ last ∷ []) i no_entry ≡ get_or c.entries i no_entry = get_or_append_left c.entries (last ∷ []) no_entry i (omega arith) in
+    rw (a.entries, x)
+    (elim (cases_order j (length c.kinds)) [
+      | inl q ↦ let y : get_or (c.entries ++ last ∷ []) j no_entry ≡ last = get_or_push c.entries last no_entry j (e ∙ sym q) in rw y (h.ranges i)
+      | inr (inl q) ↦ let y : get_or (c.entries ++ last ∷ []) j no_entry ≡ get_or c.entries j no_entry = get_or_append_left c.entries (last ∷ []) no_entry j (omega arith) in rw y (h.ordered i j p b q)
+      | inr (inr q) ↦ absurd (omega arith)
+    ])
+
 pub AreEntries-appended : (c d : Entries) {k : NodeKind} {s : Span} {o : Op} {f : NodeFlags} {name : Option (List ℕ)} {ids : List (Option NodeId)} → AreEntries c → Appended c d k s o f name ids → AreEntries d
 AreEntries-appended c d {k} {s} {o} {f} {name} {ids} h a =
     let n : length d.kinds ≡ suc (length c.kinds) = (let l = length_push c.kinds k in rw a.kinds (omega arith)) in
@@ -84,6 +97,7 @@ AreEntries-appended c d {k} {s} {o} {f} {name} {ids} h a =
       some = omega arith;
       entries = (let l = length_push c.entries (entry_of s (length c.slots) (length ids) a.bits o) in let e = h.entries in rw (n, a.entries) (omega arith));
       ranges = appended_range c d h a;
+      ordered = appended_order c d h a;
       names = λ i b. a.names i (omega arith) ∙ h.names i (omega arith);
     }
 
@@ -166,3 +180,64 @@ rows-finished c d s ids h a =
 -- what is read at a number
 pub read : {A B : Type 0} (c : Entries) (ns : List Node) (id : NodeId) (f : Node → B) (xs : List A) (x d : A) (g : A → B) → rows c ≡ ns → id.0 < length ns → length xs ≡ length c.kinds → g (get_or xs id.0 d) ≡ f (row c id.0) → x ≡ get_or xs id.0 x → g x ≡ f (node_at ns id)
 read c ns id f xs x d g e h l q r = ap g (get_or_read xs id.0 x (let b = number_below c ns id.0 e h in omega arith) r d) ∙ q ∙ sym (ap f (node_is c ns id e h))
+
+-- ---- fewer nodes
+
+-- the first entries of each column, so many, and their slots
+pub record Truncated (c d : Entries) (n : ℕ) : Type 0 where
+  pub some : 0 < n
+  pub below : n < length c.kinds
+  pub kinds : d.kinds ≡ take n c.kinds
+  pub entries : d.entries ≡ take n c.entries
+  pub slots : d.slots ≡ take (slots_before c.entries n) c.slots
+  pub kept : (i : ℕ) → i < n → d.names i ≡ c.names i
+  pub dropped : (i : ℕ) → n ≤ i → d.names i ≡ None
+
+module _ (c d : Entries) (n : ℕ) (h : AreEntries c) (t : Truncated c d n) where
+  cut_within : slots_before c.entries n ≤ length c.slots
+  cut_within = let a = h.ranges n in let b = h.ranges 0 in omega arith
+
+  -- the slots of the nodes that are kept
+  kept_below : (i : ℕ) → i < n → slots_end (get_or c.entries i no_entry) ≤ slots_before c.entries n
+  kept_below zero w = omega arith
+  kept_below (suc i) w = let a = h.ordered (suc i) n (omega arith) w t.below in omega arith
+
+  entry_kept : (i : ℕ) → i < n → get_or d.entries i no_entry ≡ get_or c.entries i no_entry
+  entry_kept i w = rw t.entries (get_or-take n c.entries i no_entry w)
+
+  slots_kept : (e : Entry) → slots_end e ≤ slots_before c.entries n → slots_of e d.slots ≡ slots_of e c.slots
+  slots_kept e w =
+      let m : ℕ = slots_before c.entries n in
+      let l : length (take m c.slots) ≡ m = length-take-le m c.slots cut_within in
+      let x : take e.count (drop e.start (take m c.slots ++ drop m c.slots)) ≡ take e.count (drop e.start (take m c.slots)) = range_kept (take m c.slots) (drop m c.slots) e.start e.count (omega arith) in
+      ap (λ (v : List (Option NodeId)). slots_of e v) t.slots ∙ sym x ∙ ap (λ (v : List (Option NodeId)). slots_of e v) (take-append-drop m c.slots)
+
+  row_left : (i : ℕ) → i < n → row d i ≡ row c i
+  row_left i w =
+      let kind : get_or d.kinds i node.Program ≡ get_or c.kinds i node.Program = rw t.kinds (get_or-take n c.kinds i node.Program w) in
+      let entry = entry_kept i w in
+      let children : slots_of (get_or d.entries i no_entry) d.slots ≡ slots_of (get_or c.entries i no_entry) c.slots = ap (λ (e : Entry). slots_of e d.slots) entry ∙ slots_kept (get_or c.entries i no_entry) (kept_below i w) in
+      λ j. record { kind = kind j; op = (entry j).op; flags = flags_of (entry j).flags; span = (entry j).span; name = t.kept i w j; children = children j }
+
+  length_left : length d.kinds ≡ n
+  length_left = rw t.kinds (length-take-le n c.kinds (let b = t.below in omega arith))
+
+  pub rows-truncated : rows d ≡ take n (rows c)
+  unfolding rows
+  rows-truncated = ap (table (row d)) length_left ∙ table-same (row c) (row d) n row_left ∙ sym (take-table (row c) (length c.kinds) n (let b = t.below in omega arith))
+
+  pub AreEntries-truncated : AreEntries d
+  AreEntries-truncated =
+      let l = length_left in
+      let e : length d.entries ≡ n = rw t.entries (length-take-le n c.entries (let a = h.entries in let b = t.below in omega arith)) in
+      let m : length d.slots ≡ slots_before c.entries n = rw t.slots (length-take-le (slots_before c.entries n) c.slots cut_within) in
+      record {
+        some = let s = t.some in omega arith;
+        entries = e ∙ sym l;
+        ranges = λ i. elim (cases_lt i n) [
+          | inl w ↦ let k = kept_below i w in rw (entry_kept i w) (omega arith)
+          | inr w ↦ let x : get_or d.entries i no_entry ≡ no_entry = get_or_past d.entries i no_entry (omega arith) in rw x (omega arith)
+        ];
+        ordered = λ i j p b w. let q : j < n = omega arith in let r : i < n = omega arith in rw (entry_kept i r, entry_kept j q) (h.ordered i j p b (let k = t.below in omega arith));
+        names = λ i w. t.dropped i (omega arith);
+      }

@@ -1,6 +1,6 @@
 -- The values of a function at the numbers below a number.
-use Rattle.std.proofs.Common.{◌≡◌, ℕ, zero, suc, ◌<◌, List, [], ◌∷◌, ◌++◌, length, get_or, set, drop, refl, ap, sym, ◌∙◌, arith, inl, inr, length-set, get_or-set_same, get_or-set_other}
-use Rattle.std.proofs.lemmas.List.{get_or_append_left, get_or_push, length_push, same_lists}
+use Rattle.std.proofs.Common.{◌≡◌, ℕ, zero, suc, ◌<◌, ◌≤◌, List, [], ◌∷◌, ◌++◌, length, get_or, set, take, drop, refl, ap, sym, ◌∙◌, arith, inl, inr, length-set, get_or-set_same, get_or-set_other}
+use Rattle.std.proofs.lemmas.List.{get_or_append_left, get_or_push, get_or-take, length-take-le, length_push, same_lists}
 use Rattle.std.proofs.lemmas.Bool.{cases_lt, cases_eq}
 use Rattle.js_tree.specs.Rows.{table}
 
@@ -15,6 +15,11 @@ get-table f (suc n) i d h = elim (cases_lt i n) [ inl b ↦ get_or_append_left (
 pub table-same : {A : Type 0} (f g : ℕ → A) (n : ℕ) → ((i : ℕ) → i < n → g i ≡ f i) → table g n ≡ table f n
 table-same f g zero h = refl
 table-same f g (suc n) h = let e = table-same f g n (λ i b. h i (omega arith)) in let q = h n (omega arith) in rw (e, q)
+
+-- the first values
+pub take-table : {A : Type 0} (f : ℕ → A) (n m : ℕ) → m ≤ n → take m (table f n) ≡ table f m
+take-table f n m w = same_lists _ _ (length-take-le m (table f n) (let l = length-table f n in omega arith) ∙ sym (length-table f m))
+    (λ k d b. let l = length-take-le m (table f n) (let x = length-table f n in omega arith) in let q : k < m = omega arith in get_or-take m (table f n) k d q ∙ get-table f n k d (omega arith) ∙ sym (get-table f m k d q))
 
 -- one value more
 pub table-more : {A : Type 0} (f g : ℕ → A) (n : ℕ) (x : A) → ((i : ℕ) → i < n → g i ≡ f i) → g n ≡ x → table g (suc n) ≡ table f n ++ x ∷ []

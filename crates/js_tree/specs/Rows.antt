@@ -1,7 +1,7 @@
 -- Columns of nodes: which node the entries of a number make up.
-use Rattle.std.specs.Prelude.{◌≡◌, ℕ, zero, suc, ◌+◌, ◌<◌, ◌≤◌, List, [], ◌∷◌, ◌++◌, length, Option, None, get_or, take, drop}
+use Rattle.std.specs.Prelude.{◌≡◌, ℕ, zero, suc, ◌+◌, ◌<◌, ◌≤◌, max, List, [], ◌∷◌, ◌++◌, length, Option, None, get_or, take, drop}
 use Rattle.std.specs.Ordering.{nat_cmp}
-use Rattle.std.specs.BTreeMap.{get}
+use Rattle.std.specs.BTreeMap.{BTreeMap, get}
 use Rattle.js_base.specs.declared.span.Span.{Span}
 use Rattle.js_tree.specs.declared.columns.Columns.TheInside.{Inside}
 use Rattle.js_tree.specs.declared.columns.Entry.{Entry}
@@ -46,12 +46,26 @@ row c i = record { kind = get_or c.kinds i node.Program; op = (get_or c.entries 
 unfoldable pub rows : Entries → List Node
 rows c = table (row c) (length c.kinds)
 
--- One entry of each node in each column; its children in the column of slots; a name for no number without a node.
+-- where the slots of an entry end
+abbrev pub slots_end : Entry → ℕ
+slots_end e = e.start + e.count
+
+-- how many slots belong to the nodes before this one
+abbrev pub slots_before : List Entry → ℕ → ℕ
+slots_before es n = max (get_or es n no_entry).start (slots_end (get_or es 0 no_entry))
+
+-- One entry of each node in each column; its children in the column of slots, behind those of the nodes before it, Program aside; a name for no number without a node.
 pub record AreEntries (c : Entries) : Type 0 where
   pub some : 0 < length c.kinds
   pub entries : length c.entries ≡ length c.kinds
   pub ranges : (i : ℕ) → (get_or c.entries i no_entry).start + (get_or c.entries i no_entry).count ≤ length c.slots
+  pub ordered : (i j : ℕ) → 0 < i → i < j → j < length c.kinds → slots_end (get_or c.entries i no_entry) ≤ (get_or c.entries j no_entry).start
   pub names : (i : ℕ) → length c.kinds ≤ i → c.names i ≡ None
+
+-- the names from a number on are dropped, where there are none from another on
+pub record DropsNames (first : ℕ) (old new : BTreeMap ℕ (List ℕ)) : Type 0 where
+  pub kept : (i : ℕ) → i < first → get nat_cmp new i ≡ get nat_cmp old i
+  pub dropped : (i : ℕ) → first ≤ i → get nat_cmp new i ≡ None
 
 abbrev pub nodes_of : Inside → List Node
 nodes_of c = rows (entries_of c)

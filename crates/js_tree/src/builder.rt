@@ -1,6 +1,6 @@
 //! The nodes that a parser makes.
 
-ghost use Rattle.std.specs.Prelude.{◌≡◌, ◌<◌, ◌↔◌, ◌∷◌, [], length, map, is_some, slice_get, IfOk, IsTrue, Some, None, ℕ, List, chars};
+ghost use Rattle.std.specs.Prelude.{◌≡◌, ◌<◌, ◌↔◌, ◌∷◌, [], length, map, is_some, slice_get, IfOk, IsTrue, Some, None, take, ℕ, List, chars};
 ghost use Rattle.js_base.specs.Spans.{LiesIn};
 ghost use Rattle.js_grammar.specs.Trees.{Label, Slots};
 ghost use Rattle.js_tree.specs.Nodes.{node_at, new_node, empty_program, flags_set, program_node};
@@ -189,6 +189,23 @@ impl ParserAstBuilder {
         ensures { self.new ≡ flags_set self.old id flags }
     {
         self.columns.set_flags(id, flags);
+    }
+
+    /// How many nodes there are, Program's included.
+    pub fn len(&self) -> usize
+        ensures { result ≡ length self.now }
+    {
+        self.columns.len()
+    }
+
+    /// Keeps the first nodes, so many, one at least, and drops those behind them.
+    pub fn truncate(&mut self, len: usize)
+        requires { 0 < len }
+        ensures { self.new ≡ take len self.old }
+    {
+        self.columns.truncate(len);
+        self.counts.truncate(len);
+        self.covers.truncate(len);
     }
 
     /// The tree of a program of this span and these children. Where the children stand for slots and reach no number twice,

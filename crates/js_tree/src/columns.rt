@@ -1,12 +1,13 @@
 //! Nodes in columns: of each number one entry in each column, and the children of all nodes in one column of slots.
 
-ghost use Rattle.std.specs.Prelude.{◌≡◌, ◌+◌, ◌<◌, ◌≤◌, ◌∷◌, [], ◌++◌, IfOk, OnOk, IsTrue, ◌↔◌, ℕ, length, map, vec_len, OnErr};
+ghost use Rattle.std.specs.Prelude.{◌≡◌, ◌+◌, ◌<◌, ◌≤◌, ◌∷◌, [], ◌++◌, IfOk, OnOk, IsTrue, ◌↔◌, ℕ, length, map, vec_len, OnErr, None, take};
 ghost use Rattle.std.specs.Ordering.{nat_cmp};
 ghost use Rattle.std.specs.BTreeMap.{get};
 ghost use Rattle.std.specs.Option.{option_copied};
 ghost use Rattle.js_tree.specs.Names.{kept_name};
 ghost use Rattle.js_tree.specs.Rooms.{HasRoom};
-ghost use Rattle.js_tree.specs.Rows.{entry_of};
+ghost use Rattle.js_tree.specs.Rows.{DropsNames, entry_of};
+ghost use Rattle.js_tree.specs.Rows as rows;
 ghost use Rattle.js_tree.specs.declared.op.Op.TheVariants as op;
 ghost use Rattle.std.specs.Vec.{vec_capacity};
 ghost use Rattle.js_tree.specs.Nodes.{node_at, no_flags, new_node, empty_program, flags_set, program_node};
@@ -144,6 +145,27 @@ fn keep_name(
     Ok(())
 }
 
+/// How many slots belong to the nodes before this one.
+fn slots_before(entries: &[Entry], number: usize) -> usize
+    requires { number < length entries.now }
+    ensures { result ≡ rows.slots_before entries.now number }
+{
+    let start = entries[number].start as usize;
+    let end = entries[0].start as usize + entries[0].count as usize;
+    if start < end { end } else { start }
+}
+
+/// Drops the names of the numbers from one on and below another, from which on there are none.
+fn drop_names(names: &mut BTreeMap<usize, Text>, first: usize, last: usize)
+    requires order { first ≤ last }
+    requires none { (i : ℕ) → last ≤ i → get nat_cmp names.old i ≡ None }
+    ensures { DropsNames first names.old names.new }
+{
+    'numbers: for number in first..last {
+        let _ = names.remove(&number);
+    }
+}
+
 impl Columns {
     /// Program's entries alone, with room for so many nodes where there is that much memory.
     pub(crate) fn new(alloc: Global, nodes: usize) -> Result<Self, NoMemory>
@@ -203,6 +225,22 @@ impl Columns {
         ensures { self.new ≡ flags_set self.old id flags }
     {
         self.entries[id.0].flags = bits_of(flags);
+    }
+
+    /// Keeps the first nodes, so many, and drops those behind them with their slots and their names.
+    pub(crate) fn truncate(&mut self, len: usize)
+        requires { 0 < len }
+        ensures { self.new ≡ take len self.old }
+    {
+        let last = self.kinds.len();
+        if len >= last {
+            return;
+        }
+        let slots = slots_before(self.entries.as_slice(), len);
+        drop_names(&mut self.names, len, last);
+        self.kinds.truncate(len);
+        self.entries.truncate(len);
+        self.slots.truncate(slots);
     }
 
     /// Program's span and children. All room is made first.

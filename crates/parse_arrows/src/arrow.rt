@@ -5,7 +5,7 @@ ghost use Rattle.parse_arrows.specs.Prelude.{ArgumentsTold, Arrow, arrow_functio
 
 use crate::closing::is_arrow_behind_one;
 use crate::lookahead::is_parenthesized_head;
-use crate::notes::{is_arrow_noted, set_attempting};
+use crate::notes::{drop_nodes, is_arrow_noted, set_attempting};
 use js_base::{Context, DiagnosticKind, Kind, NoMemory, Span};
 use laws_operators::forms::{ArrowHead, HeadLookahead};
 use laws_operators::patterns::Patterns;
@@ -140,12 +140,14 @@ fn parse_async_head<C: ParserConfig, N: Patterns<C>>(
     if !begins_async_head(p)? {
         return Ok(None);
     }
+    let nodes = p.ast.len();
     let here = p.checkpoint()?;
     advance(p)?;
     if let Some(parameters) = parse_head_behind_async(p, nested)? {
         return Ok(Some(parameters));
     }
     p.rewind(here);
+    drop_nodes(p, nodes);
     Ok(None)
 }
 
@@ -321,6 +323,7 @@ fn attempt_head<C: ParserConfig, N: Patterns<C>>(
 {
     let place = p.prev_token_end();
     let kept = kept_so_far(p);
+    let nodes = p.ast.len();
     let here = p.checkpoint()?;
     if let Some(parameters) = attempt_parameters(p, nested, is_async)? {
         if excludes_operand(p, place, kept)? {
@@ -331,6 +334,7 @@ fn attempt_head<C: ParserConfig, N: Patterns<C>>(
         }
         let is_told = kept_so_far(p) != kept;
         p.rewind(here);
+        drop_nodes(p, nodes);
         return attempt_head_again(p, nested, is_async, is_told);
     }
     Ok(None)
@@ -399,11 +403,13 @@ fn try_parse_parameters<C: ParserConfig, N: Patterns<C>>(
     if p.arrow_failed(place) {
         return Ok(None);
     }
+    let nodes = p.ast.len();
     let here = p.checkpoint()?;
     if let Some(parameters) = parse_parenthesized_head(p, nested)? {
         return Ok(Some(parameters));
     }
     p.rewind(here);
+    drop_nodes(p, nodes);
     p.note_arrow_failed(place)?;
     Ok(None)
 }
@@ -467,9 +473,11 @@ fn attempt_head_again<C: ParserConfig, N: Patterns<C>>(
     ensures { MatchResult result (λ found. AttemptsHead is_async p.old p.new found) OnlyMemory }
 {
     let place = p.prev_token_end();
+    let nodes = p.ast.len();
     let here = p.checkpoint()?;
     let excluded = is_arrow_due(p, nested)?;
     p.rewind(here);
+    drop_nodes(p, nodes);
     if !excluded {
         if is_told {
             return Err(Stop::NoMemory);

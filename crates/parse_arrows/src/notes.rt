@@ -1,6 +1,6 @@
-//! What is noted of parentheses, and of heads that are attempted.
+//! What is noted of parentheses, and of heads that are attempted; and what goes with an attempt that is taken back.
 
-ghost use Rattle.std.specs.Prelude.{◌≡◌, true, IfOk};
+ghost use Rattle.std.specs.Prelude.{◌≡◌, ◌<◌, true, take, IfOk};
 ghost use Rattle.parse_arrows.specs.Prelude.{closing_known, is_place, NotesOne};
 
 use js_base::NoMemory;
@@ -43,4 +43,12 @@ pub(crate) fn set_attempting<C: ParserConfig>(p: &mut ParserImpl<'_, C>, is_atte
     ensures { p.new ≡ record p.old { state = record p.old.state { attempting = is_attempting } } }
 {
     p.state.set_attempting(is_attempting);
+}
+
+/// Keeps the first nodes, so many, and drops those that an attempt made behind them.
+pub(crate) fn drop_nodes<C: ParserConfig>(p: &mut ParserImpl<'_, C>, nodes: usize)
+    requires { 0 < nodes }
+    ensures { p.new ≡ record p.old { nodes = take nodes p.old.nodes } }
+{
+    p.ast.truncate(nodes);
 }
