@@ -191,9 +191,10 @@ impl ParserAstBuilder {
         self.columns.set_flags(id, flags);
     }
 
-    /// How many nodes there are, Program's included.
+    /// How many nodes there are; there is one at least, Program's.
     pub fn len(&self) -> usize
-        ensures { result ≡ length self.now }
+        ensures len { result ≡ length self.now }
+        ensures some { 0 < length self.now }
     {
         self.columns.len()
     }

@@ -1,5 +1,5 @@
 -- Arrow functions (ECMA-262, 15.3 and 15.9), and where none is derived.
-use Rattle.std.proofs.Common.{ℕ, ◌≡◌, ◌≤◌, ◌<◌, inl, inr, List, [], ◌∷◌, length, Bool, true, false, not, cond, ◌&&◌, ◌||◌, IsTrue, Option, Some, None, refl, sym, ap, subst, arith, ◌∙◌, ◌+◌, ◌⊎◌, max}
+use Rattle.std.proofs.Common.{ℕ, ◌≡◌, ◌≤◌, ◌<◌, inl, inr, List, [], ◌∷◌, length, take, Bool, true, false, not, cond, ◌&&◌, ◌||◌, IsTrue, Option, Some, None, refl, sym, ap, subst, arith, ◌∙◌, ◌+◌, ◌⊎◌, max}
 use Rattle.std.specs.Prelude.{IsCharBoundary, Result, Ok, Err, nat_lt}
 use Rattle.std.proofs.lemmas.Bool.{false≢true, and_parts, or_left, or_right, not-true}
 use Rattle.js_base.specs.Contexts.{has_flag, yield_flag}
@@ -65,6 +65,7 @@ use Rattle.laws_shared.proofs.js_cursor.Changing.{came_back, back_follows}
 use Rattle.laws_shared.proofs.js_cursor.Later.{keeps_follows}
 use Rattle.laws_shared.specs.Answers.{Underived, Answer, Answers, beside, Numbered, Outcome, Refuses, Stretch, Stops, Grown, Verdict, clean, unclean, wider}
 use Rattle.laws_shared.specs.js_cursor.Notes.{Notes}
+use Rattle.laws_shared.specs.NodeTexts.{NodeFits}
 use Rattle.laws_shared.specs.Contexts.{arrow_body, braced_body, arrow_head}
 use Rattle.laws_operators.specs.Arrows.{ArrowBehind, AsyncPassed, BeforeArrow, led_head, told_led, ChecksLine, FindsAnyHead, FindsHead, Head, HeadDerived, HeadRead, read_clean, read_unclean, IsHeadBefore, IsHeadHere, Leads, LooksForHead, NamesHead, NoArrowHere, NoLed, NoLine, NoLineHere, NoParametersHere, OnlyLed, ParametersRead, PlainHead, Quiet, a_head, told_head, Single, ToldHead, Unmoved, WentOn, arrow_label, body_of, head_of, late_arrow, lead_of, line_of}
 use Rattle.laws_operators.specs.declared.forms.ArrowHead.{ArrowHead}
@@ -103,7 +104,8 @@ use Rattle.laws_shared.proofs.Verdicts.{grown_both, grown_first, grown_on, grown
 use Rattle.laws_shared.specs.Classes.{IsEarly}
 use Rattle.laws_shared.proofs.Classes.{kept_early}
 use Rattle.laws_shared.proofs.PlainSigns.{arrow_plain}
-use Rattle.std.proofs.lemmas.List.Elements.{All-same}
+use Rattle.std.proofs.Math.Seq.{take-append_seam}
+use Rattle.std.proofs.lemmas.List.Elements.{All-same, All-take}
 use Rattle.std.proofs.Math.Bool.{or-false}
 
 -- ---- what begins like a head, with `=>` behind it, is no operand
@@ -691,6 +693,22 @@ went_back {p} {q} {r} o m (f, n, l) g =
       kind = ap (λ z. z.kind) b.token;
       keeps = s.follows.nodes;
     }
+
+-- and the nodes that were made since are dropped
+pub dropped : {p q r : Parser} {n : ℕ} → n ≡ length p.nodes → Unmoved p q → r ≡ record q { nodes = take n q.nodes } → Unmoved p r
+dropped {p} {q} {r} {n} e u i = subst (λ (z : Parser). Unmoved p z) (sym i) (record {
+  at = λ text f a. beside_nodes (take n q.nodes) (u.at text f a);
+  same = same_with (take n q.nodes) u.same before (λ b h. All-take (NodeFits q.text) n q.nodes h);
+  kept = u.kept;
+  place = u.place;
+  spot_is = u.spot_is;
+  start = u.start;
+  kind = u.kind;
+  keeps = before;
+})
+  where
+    before : Keeps p.nodes (take n q.nodes)
+    before = subst (Keeps p.nodes) (sym (ap (λ (m : ℕ). take m q.nodes) e ∙ (ap (take (length p.nodes)) u.keeps.whole ∙ take-append_seam p.nodes u.keeps.more))) (Keeps-refl p.nodes)
 
 -- ---- an arrow function
 

@@ -5,7 +5,7 @@ ghost use Rattle.parse_arrows.specs.Prelude.{ArgumentsTold, Arrow, arrow_functio
 
 use crate::closing::is_arrow_behind_one;
 use crate::lookahead::is_parenthesized_head;
-use crate::notes::{drop_nodes, is_arrow_noted, set_attempting};
+use crate::notes::{drop_nodes, is_arrow_noted, node_count, set_attempting};
 use js_base::{Context, DiagnosticKind, Kind, NoMemory, Span};
 use laws_operators::forms::{ArrowHead, HeadLookahead};
 use laws_operators::patterns::Patterns;
@@ -140,7 +140,7 @@ fn parse_async_head<C: ParserConfig, N: Patterns<C>>(
     if !begins_async_head(p)? {
         return Ok(None);
     }
-    let nodes = p.ast.len();
+    let nodes = node_count(p);
     let here = p.checkpoint()?;
     advance(p)?;
     if let Some(parameters) = parse_head_behind_async(p, nested)? {
@@ -323,7 +323,7 @@ fn attempt_head<C: ParserConfig, N: Patterns<C>>(
 {
     let place = p.prev_token_end();
     let kept = kept_so_far(p);
-    let nodes = p.ast.len();
+    let nodes = node_count(p);
     let here = p.checkpoint()?;
     if let Some(parameters) = attempt_parameters(p, nested, is_async)? {
         if excludes_operand(p, place, kept)? {
@@ -403,7 +403,7 @@ fn try_parse_parameters<C: ParserConfig, N: Patterns<C>>(
     if p.arrow_failed(place) {
         return Ok(None);
     }
-    let nodes = p.ast.len();
+    let nodes = node_count(p);
     let here = p.checkpoint()?;
     if let Some(parameters) = parse_parenthesized_head(p, nested)? {
         return Ok(Some(parameters));
@@ -473,7 +473,7 @@ fn attempt_head_again<C: ParserConfig, N: Patterns<C>>(
     ensures { MatchResult result (λ found. AttemptsHead is_async p.old p.new found) OnlyMemory }
 {
     let place = p.prev_token_end();
-    let nodes = p.ast.len();
+    let nodes = node_count(p);
     let here = p.checkpoint()?;
     let excluded = is_arrow_due(p, nested)?;
     p.rewind(here);

@@ -1,6 +1,6 @@
 //! What is noted of parentheses, and of heads that are attempted; and what goes with an attempt that is taken back.
 
-ghost use Rattle.std.specs.Prelude.{◌≡◌, ◌<◌, true, take, IfOk};
+ghost use Rattle.std.specs.Prelude.{◌≡◌, ◌<◌, true, length, take, IfOk};
 ghost use Rattle.parse_arrows.specs.Prelude.{closing_known, is_place, NotesOne};
 
 use js_base::NoMemory;
@@ -43,6 +43,14 @@ pub(crate) fn set_attempting<C: ParserConfig>(p: &mut ParserImpl<'_, C>, is_atte
     ensures { p.new ≡ record p.old { state = record p.old.state { attempting = is_attempting } } }
 {
     p.state.set_attempting(is_attempting);
+}
+
+/// How many nodes there are, one at least.
+pub(crate) fn node_count<C: ParserConfig>(p: &ParserImpl<'_, C>) -> usize
+    ensures count { result ≡ length p.now.nodes }
+    ensures some { 0 < result }
+{
+    p.ast.len()
 }
 
 /// Keeps the first nodes, so many, and drops those that an attempt made behind them.

@@ -3,7 +3,7 @@ use Rattle.parse_shared.specs.js_cursor.Tokens.{may_be_read_again}
 use Rattle.parse_shared.proofs.js_cursor.Changing.{may_return}
 use Rattle.parse_shared.proofs.laws_shared.Moving.{standing}
 use Rattle.parse_shared.proofs.laws_shared.Nesting.{later_room, nests_later}
-use Rattle.laws_operators.proofs.Arrows.{went_back}
+use Rattle.laws_operators.proofs.Arrows.{dropped, went_back}
 use Rattle.laws_operators.proofs.SlashedHeads.{attempts_there, excluded_more, excluded_so, head_between, head_more, head_noted, head_settled, head_stands, head_went_on, none_told, none_tried, some_tried, stands_there, stood_here}
 use Rattle.parse_arrows.proofs.arrow.attempt_head.Goals as goal
 
@@ -36,29 +36,32 @@ rewind-requires-clause-may g c = may_return c.requires.at.at c.in_ok-here.ensure
 pub attempt_head_again-requires-clause-at : goal.attempt_head_again-requires-clause-at
 attempt_head_again-requires-clause-at g c =
     let x = head_went_on c.args.is_async c.requires.at (head_more c.args.is_async (some_tried c.args.is_async _ _ c.attempt_parameters.new.p _ _ c.in_ok-here.ensures.same c.in-Some.is c.in_ok-parameters.ensures) (excluded_more _ _ c.attempt_parameters.new.p c.excludes_operand.new.p _ c.in_ok-excludes_operand.ensures)) in
-    standing ((went_back (ap may_be_read_again c.requires.open) c.in_ok-here.ensures.remembers x c.rewind.ensures).at _ _ c.requires.at)
+    standing ((dropped c.node_count-nodes.ensures.count (went_back (ap may_be_read_again c.requires.open) c.in_ok-here.ensures.remembers x c.rewind.ensures) c.drop_nodes.ensures).at _ _ c.requires.at)
 
 pub attempt_head_again-requires-clause-nests : goal.attempt_head_again-requires-clause-nests
 attempt_head_again-requires-clause-nests g c =
     let x = head_went_on c.args.is_async c.requires.at (head_more c.args.is_async (some_tried c.args.is_async _ _ c.attempt_parameters.new.p _ _ c.in_ok-here.ensures.same c.in-Some.is c.in_ok-parameters.ensures) (excluded_more _ _ c.attempt_parameters.new.p c.excludes_operand.new.p _ c.in_ok-excludes_operand.ensures)) in
-    let w = went_back (ap may_be_read_again c.requires.open) c.in_ok-here.ensures.remembers x c.rewind.ensures in
+    let w = dropped c.node_count-nodes.ensures.count (went_back (ap may_be_read_again c.requires.open) c.in_ok-here.ensures.remembers x c.rewind.ensures) c.drop_nodes.ensures in
     nests_later c.requires.nests (let u = w.place in later_room (omega arith) w.same)
 
 pub attempt_head_again-requires-clause-open : goal.attempt_head_again-requires-clause-open
 attempt_head_again-requires-clause-open g c =
     let x = head_went_on c.args.is_async c.requires.at (head_more c.args.is_async (some_tried c.args.is_async _ _ c.attempt_parameters.new.p _ _ c.in_ok-here.ensures.same c.in-Some.is c.in_ok-parameters.ensures) (excluded_more _ _ c.attempt_parameters.new.p c.excludes_operand.new.p _ c.in_ok-excludes_operand.ensures)) in
-    (went_back (ap may_be_read_again c.requires.open) c.in_ok-here.ensures.remembers x c.rewind.ensures).kind ∙ c.requires.open
+    (dropped c.node_count-nodes.ensures.count (went_back (ap may_be_read_again c.requires.open) c.in_ok-here.ensures.remembers x c.rewind.ensures) c.drop_nodes.ensures).kind ∙ c.requires.open
 
 pub attempt_head_again-requires-clause-stood : goal.attempt_head_again-requires-clause-stood
 attempt_head_again-requires-clause-stood g c = λ n.
     let x = head_more c.args.is_async (some_tried c.args.is_async _ _ c.attempt_parameters.new.p _ _ c.in_ok-here.ensures.same c.in-Some.is c.in_ok-parameters.ensures) (excluded_more _ _ c.attempt_parameters.new.p c.excludes_operand.new.p _ c.in_ok-excludes_operand.ensures) in
-    let w = went_back (ap may_be_read_again c.requires.open) c.in_ok-here.ensures.remembers (head_went_on c.args.is_async c.requires.at x) c.rewind.ensures in
+    let w = dropped c.node_count-nodes.ensures.count (went_back (ap may_be_read_again c.requires.open) c.in_ok-here.ensures.remembers (head_went_on c.args.is_async c.requires.at x) c.rewind.ensures) c.drop_nodes.ensures in
     stands_there c.args.is_async c.requires.at w (stood_here c.args.is_async c.requires.open x (sym c.kept_so_far-in-Some.ensures ∙ (none_told _ _ n ∙ c.kept_so_far-kept.ensures)))
 
 pub returns-in-Some : goal.returns-in-Some
 returns-in-Some g c =
     let x = head_went_on c.args.is_async c.requires.at (head_more c.args.is_async (some_tried c.args.is_async _ _ c.attempt_parameters.new.p _ _ c.in_ok-here.ensures.same c.in-Some.is c.in_ok-parameters.ensures) (excluded_more _ _ c.attempt_parameters.new.p c.excludes_operand.new.p _ c.in_ok-excludes_operand.ensures)) in
-    attempts_there c.args.is_async c.attempt_head_again.new.p _ (went_back (ap may_be_read_again c.requires.open) c.in_ok-here.ensures.remembers x c.rewind.ensures) c.attempt_head_again.ensures
+    attempts_there c.args.is_async c.attempt_head_again.new.p _ (dropped c.node_count-nodes.ensures.count (went_back (ap may_be_read_again c.requires.open) c.in_ok-here.ensures.remembers x c.rewind.ensures) c.drop_nodes.ensures) c.attempt_head_again.ensures
 
 pub returns : goal.returns
 returns g c = none_tried c.args.is_async _ _ c.attempt_parameters.new.p _ c.in_ok-here.ensures.same c.in_default.is c.in_ok-parameters.ensures
+
+pub drop_nodes-requires : goal.drop_nodes-requires
+drop_nodes-requires g c = c.node_count-nodes.ensures.some

@@ -1,4 +1,4 @@
-use Rattle.std.proofs.Common.{arith, refl, sym, subst, ◌∙◌}
+use Rattle.std.proofs.Common.{ap, arith, length, refl, sym, subst, ◌∙◌}
 use Rattle.js_base.specs.declared.kind.Kind.TheVariants.{Async}
 use Rattle.parse_shared.specs.js_cursor.Parsers.{Parser}
 use Rattle.parse_shared.specs.laws_shared.Moves.{IsWholeHere}
@@ -6,7 +6,7 @@ use Rattle.parse_shared.specs.laws_shared.States.{Standing}
 use Rattle.parse_shared.proofs.laws_shared.Moving.{standing}
 use Rattle.parse_shared.proofs.laws_shared.Nesting.{nested_room, nests_later}
 use Rattle.parse_shared.proofs.laws_shared.Signs.{whole_sign}
-use Rattle.laws_operators.proofs.Arrows.{unmoved}
+use Rattle.laws_operators.proofs.Arrows.{dropped, unmoved}
 use Rattle.laws_operators.proofs.AsyncHeads.{async_read, async_unread, back_to_word, begins_so, may_go_to_word, moves_from, none_behind, some_behind}
 use Rattle.parse_arrows.proofs.arrow.parse_async_head.Goals as goal
 
@@ -53,4 +53,7 @@ pub returns : goal.returns
 returns g c =
     let b = begins_so c.args.p.now c.begins_async_head.new.p c.if-not-branch.false c.in_ok-begins_async_head.ensures in
     let n = async_unread b.1 b.2 (moves_from (c.in_ok-here.ensures.same ∙ b.0) c.in_ok-advance.ensures) c.requires.at (none_behind _ c.parse_head_behind_async.new.p _ c.in_default.is c.in_ok-parameters.ensures) in
-    (back_to_word b.0 b.1.0 c.in_ok-here.ensures.remembers n.0 c.rewind.ensures, n.1)
+    (dropped (c.node_count-nodes.ensures.count ∙ ap (λ (z : Parser). length z.nodes) b.0) (back_to_word b.0 b.1.0 c.in_ok-here.ensures.remembers n.0 c.rewind.ensures) c.drop_nodes.ensures, n.1)
+
+pub drop_nodes-requires : goal.drop_nodes-requires
+drop_nodes-requires g c = c.node_count-nodes.ensures.some

@@ -1,7 +1,7 @@
 use Rattle.std.proofs.Common.{ap, refl}
 use Rattle.parse_shared.specs.js_cursor.Tokens.{may_be_read_again}
 use Rattle.parse_shared.proofs.js_cursor.Changing.{may_return}
-use Rattle.laws_operators.proofs.Arrows.{none_looked, some_looked, unmoved, went_back}
+use Rattle.laws_operators.proofs.Arrows.{dropped, none_looked, some_looked, unmoved, went_back}
 use Rattle.laws_operators.proofs.NotedHeads.{noted_here, noted_none}
 use Rattle.parse_arrows.proofs.arrow.try_parse_parameters.Goals as goal
 
@@ -20,9 +20,12 @@ rewind-requires-clause-may g c = may_return c.requires.at.at c.in_ok-here.ensure
 pub note_arrow_failed-requires : goal.note_arrow_failed-requires
 note_arrow_failed-requires g c =
     let n = none_looked _ _ c.parse_parenthesized_head.new.p _ c.in_ok-here.ensures.same c.in_default.is c.in_ok-parameters.ensures in
-    ((went_back (ap may_be_read_again c.requires.open) c.in_ok-here.ensures.remembers n.0 c.rewind.ensures).at _ _ c.requires.at).at
+    ((dropped c.node_count-nodes.ensures.count (went_back (ap may_be_read_again c.requires.open) c.in_ok-here.ensures.remembers n.0 c.rewind.ensures) c.drop_nodes.ensures).at _ _ c.requires.at).at
 
 pub returns : goal.returns
 returns g c =
     let n = none_looked _ _ c.parse_parenthesized_head.new.p _ c.in_ok-here.ensures.same c.in_default.is c.in_ok-parameters.ensures in
-    (noted_here c.requires.at (went_back (ap may_be_read_again c.requires.open) c.in_ok-here.ensures.remembers n.0 c.rewind.ensures) n.1 c.prev_token_end-place.ensures c.in_ok-note_arrow_failed.ensures.ok, n.1)
+    (noted_here c.requires.at (dropped c.node_count-nodes.ensures.count (went_back (ap may_be_read_again c.requires.open) c.in_ok-here.ensures.remembers n.0 c.rewind.ensures) c.drop_nodes.ensures) n.1 c.prev_token_end-place.ensures c.in_ok-note_arrow_failed.ensures.ok, n.1)
+
+pub drop_nodes-requires : goal.drop_nodes-requires
+drop_nodes-requires g c = c.node_count-nodes.ensures.some
