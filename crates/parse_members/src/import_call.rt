@@ -1,7 +1,7 @@
 //! Calls of `import` (ECMA-262, section 13.3.10).
 
-ghost use Rattle.std.specs.Prelude.{◌≡◌, ◌+◌, ◌≤◌, IfOk, true};
-ghost use Rattle.parse_members.specs.Prelude.{Answers, Assignment, at, BehindWord, behind_new_at, CanNest, EndsParse, GivesUp, goal, IsAt, KeepsDiagnostic, LParen, MakesImport, Mark, plus_in, ReadsOptions, room, RParen, Standing, StandsHere};
+ghost use Rattle.std.specs.Prelude.{◌+◌, IfOk, true};
+ghost use Rattle.parse_members.specs.Prelude.{Answers, Assignment, at, BehindWord, behind_new_at, CanNest, ClosesImport, Dot3, EndsImport, EndsParse, GivesUp, IsAt, KeepsDiagnostic, LParen, MakesImport, plus_in, ReadsOptions, room, RParen, Standing, StandsHere};
 
 use js_base::{DiagnosticKind, Kind, NoMemory, Span};
 use parse_shared::context::assignment_with_in;
@@ -30,11 +30,7 @@ pub(crate) fn parse_import_call<C: ParserConfig, N: Nested<C>>(
         return Err(refuse_empty(p, start));
     }
     let specifier = parse_import_argument(p, nested)?;
-    let options = parse_import_options(p, nested)?;
-    if !stands(p, Kind::RParen) {
-        return Err(refuse_arguments(p, start));
-    }
-    advance(p)?;
+    let options = parse_import_options(p, nested, start)?;
     let span = p.end_span(start);
     let kind = NodeKind::ImportExpression;
     let node = make_with_optional(p, kind, span, specifier, options)?;
@@ -93,25 +89,55 @@ fn refuse_spread<C: ParserConfig>(p: &mut ParserImpl<'_, C>) -> Stop
     p.set_fatal_error(diagnostic_at(DiagnosticKind::DynamicImportArgumentSpread, span))
 }
 
-/// What stands behind the first argument of an ImportCall: a comma and a second one, or nothing, and a comma behind either.
+/// What stands behind the first argument of an ImportCall, with its closing parenthesis: a comma and a second argument, or
+/// none, and a comma behind either.
 fn parse_import_options<C: ParserConfig, N: Nested<C>>(
     p: &mut ParserImpl<'_, C>,
     nested: &N,
+    start: u32,
 ) -> Result<Option<NodeId>, Stop>
     requires at { Standing p.old }
     requires nests { CanNest (N.can nested.now) (room p.old + 1) }
+    requires behind { BehindWord start p.old }
     ensures { ReadsOptions p.old p.new result }
 {
     if !stands(p, Kind::Comma) {
+        close_import(p, start)?;
         return Ok(None);
     }
     advance(p)?;
     if stands(p, Kind::RParen) {
+        advance(p)?;
         return Ok(None);
     }
     let options = parse_import_argument(p, nested)?;
-    p.bump(Kind::Comma)?;
+    end_import(p, start)?;
     Ok(Some(options))
+}
+
+/// The closing parenthesis of an ImportCall behind its second argument, and a comma before it or none.
+fn end_import<C: ParserConfig>(p: &mut ParserImpl<'_, C>, start: u32) -> Result<(), Stop>
+    requires at { Standing p.old }
+    requires behind { BehindWord start p.old }
+    ensures { EndsImport p.old p.new result }
+{
+    if !stands(p, Kind::Comma) {
+        return close_import(p, start);
+    }
+    advance(p)?;
+    close_import(p, start)
+}
+
+/// The closing parenthesis of an ImportCall.
+fn close_import<C: ParserConfig>(p: &mut ParserImpl<'_, C>, start: u32) -> Result<(), Stop>
+    requires at { Standing p.old }
+    requires behind { BehindWord start p.old }
+    ensures { ClosesImport p.old p.new result }
+{
+    if !stands(p, Kind::RParen) {
+        return Err(refuse_arguments(p, start));
+    }
+    advance(p)
 }
 
 /// Tells of an ImportCall behind `new`, which began at a place. Reading goes on.
@@ -121,8 +147,7 @@ pub(crate) fn refuse_behind_new<C: ParserConfig>(
     start: u32,
 ) -> Result<(), NoMemory>
     requires at { IsAt p.old }
-    requires start { start ≤ p.old.prev_token_end }
-    requires mark { Mark (goal p.old) p.old.text (behind_new_at start p.old.prev_token_end) }
+    requires behind { BehindWord start p.old }
     ensures { IfOk result (λ _. KeepsDiagnostic (behind_new_at start p.old.prev_token_end) p.old p.new) }
 {
     let span = p.end_span(start);

@@ -1,7 +1,7 @@
 //! `import.meta` (ECMA-262, section 13.3.12).
 
-ghost use Rattle.std.specs.Prelude.{◌≡◌, false, IfOk};
-ghost use Rattle.parse_members.specs.Prelude.{BehindWord, ChecksMeta, Dot, EndsParse, GivesUp, goal, IsAt, Mark, Meta, outside_module_at, Standing, StandsHere, TakesMeta};
+ghost use Rattle.std.specs.Prelude.{IfOk};
+ghost use Rattle.parse_members.specs.Prelude.{BehindWord, ChecksMeta, EndsParse, GivesUp, goal, IsAt, Mark, outside_module_at, Standing, TakesMeta};
 
 use js_base::{DiagnosticKind, Kind, NoMemory, Span};
 use parse_shared::diagnostics::diagnostic_at;

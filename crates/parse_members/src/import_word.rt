@@ -1,6 +1,6 @@
 //! What begins with `import` where an operand is due: ImportCall and ImportMeta (ECMA-262, sections 13.3.10 and 13.3.12).
 
-ghost use Rattle.std.specs.Prelude.{◌≡◌, ◌≤◌, true};
+ghost use Rattle.std.specs.Prelude.{true};
 ghost use Rattle.parse_members.specs.Prelude.{CanNest, Heads, Import, ReadsCallee, room, Standing, StandsHere};
 
 use crate::import_call::{parse_import_call, refuse_behind_new};

@@ -1,7 +1,7 @@
 //! Members, `new`, calls and optional chains (ECMA-262, section 13.3).
 
 ghost use Rattle.std.specs.Prelude.{◌≡◌, ◌≤◌, ◌∷◌, [], Some, IfOk, cond, true, false};
-ghost use Rattle.parse_members.specs.Prelude.{Answers, at, CallsMember, CanNest, ChainsCallee, Dot, flagged_label, GivesUp, goal, GoesOn, GoesOnMember, Heads, is_textual, LBrack, LeftHandSide, LinkHere, LParen, MadeHere, MakesWithArguments, MakesWithIndex, MakesWithName, Mark, member_name_kinds, no_link_behind, number_of, one_of_kinds, optional_flag, QuestionDot, ReadsChainLink, ReadsLink, room, Standing, StandsHere, TellsChain};
+ghost use Rattle.parse_members.specs.Prelude.{Answers, at, CallsMember, CanNest, ChainsCallee, Dot, flagged_label, GivesUp, goal, GoesOn, GoesOnCall, GoesOnMember, Heads, is_textual, LBrack, LeftHandSide, LinkHere, LParen, MadeHere, MakesWithArguments, MakesWithIndex, MakesWithName, Mark, member_name_kinds, no_link_behind, number_of, one_of_kinds, optional_flag, QuestionDot, ReadsCallee, ReadsChainLink, ReadsLink, room, Standing, StandsHere, TellsChain};
 ghost use Rattle.parse_primary.specs.laws_primary.Members as members;
 ghost use Rattle.parse_primary.specs.laws_primary.declared.forms.LinkBase.TheVariants as base;
 
