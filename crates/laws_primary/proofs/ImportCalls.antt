@@ -1,7 +1,7 @@
 -- ImportCall (ECMA-262, 13.3.10): its arguments from left to right, and the call that they make.
 use Rattle.std.proofs.Common.{ℕ, ◌≡◌, ◌≤◌, ◌<◌, max, List, [], ◌∷◌, ◌++◌, length, Option, Some, None, true, false, refl, sym, ap, subst, arith, ◌∙◌}
 use Rattle.std.specs.Prelude.{Result, Ok, Err, MatchResult}
-use Rattle.js_base.specs.declared.kind.Kind.TheVariants.{Comma, Import, LParen, RParen}
+use Rattle.js_base.specs.declared.kind.Kind.TheVariants.{Comma, Dot3, Import, LParen, RParen}
 use Rattle.js_base.specs.declared.span.Span.{Span}
 use Rattle.js_grammar.specs.Trees.{Label, Slots, end, hole, tree, append}
 use Rattle.js_grammar.specs.FirstSets.{first as first_of}
@@ -86,6 +86,10 @@ module _ (f : Flags) where
 argument_begins : (f : Flags) → apart (first_of (at Assignment (plus_in f))) (is RParen) ≡ true
 unfolding apart
 argument_begins f = refl
+
+never_spread : (f : Flags) → apart (first_of (at Assignment (plus_in f))) (is Dot3) ≡ true
+unfolding apart
+never_spread f = refl
 
 -- an empty slot before what is read
 module _ {text : List ℕ} {f : Flags} {p q : Parser} {g g' : G} {ids js : List (Option NodeId)} where
@@ -310,3 +314,11 @@ behind_moved b a m = behind_later b a m.at m.same (walked_one m) (let i = a.behi
 
 pub behind_answer : {text : List ℕ} {f : Flags} {p m q : Parser} {n : Symbol} {id : NodeId} {start : ℕ} → BehindWord start p → At text f p → Moved text f p m → Numbered text f n m q id → BehindWord start q
 behind_answer b a m x = behind_later b a x.answer.at (same_both m.same x.answer.same) (walked_both (walked_one m) x.answer.walked) (let i = a.behind in let j = m.further in let k = m.at.behind in let l = x.answer.further in omega arith)
+
+-- behind the second one
+pub behind_options : {text : List ℕ} {f : Flags} {p q : Parser} {o : Option NodeId} {start : ℕ} → BehindWord start p → At text f p → ReadsOptions p q (Ok o) → start ≤ q.prev_token_end
+behind_options b a c = let i = b.before in let j = a.behind in let k = (c _ _ a []).further in omega arith
+
+-- `...` stands where an argument is due
+pub spread_stops : (p q : Parser) (e : Stop) → StandsHere p Dot3 true → GivesUp EndsParse p q e → Answers (λ f. at Assignment (plus_in f)) p q (Err e)
+spread_stops p q e s g = λ text f a. gives_up EndsParse p q e a g (λ d i. i) (fails_here firsts (λ y l h. not_both (first_of (at Assignment (plus_in f))) (is Dot3) (never_spread f) y.kind y.newline y.escaped h (is_that Dot3 y (stands_there a s.0 refl y l))))

@@ -2,7 +2,8 @@
 use Rattle.std.proofs.Common.{ℕ, ◌≡◌, ◌≤◌, ◌<◌, inl, inr, List, [], ◌∷◌, Bool, true, false, None, ◌||◌, IsCharBoundary, IsTrue, refl, sym, ap, subst, arith, ◌∙◌}
 use Rattle.std.specs.Prelude.{Ok, ◌↔◌}
 use Rattle.std.proofs.lemmas.Bool.{or_right}
-use Rattle.js_base.specs.Kinds.{one_of_kinds, same_kind}
+use Rattle.js_base.specs.Diagnostics.{class_of}
+use Rattle.js_base.specs.Kinds.{one_of_kinds}
 use Rattle.js_base.specs.KindSets.{binding_identifier_kinds}
 use Rattle.js_base.specs.Sources.{is_goal}
 use Rattle.js_base.specs.declared.diagnostic.Diagnostic.{Diagnostic}
@@ -36,14 +37,15 @@ use Rattle.laws_shared.specs.js_cursor.Parsers.{Parser}
 use Rattle.laws_shared.specs.js_cursor.Places.{IsAt, goal}
 use Rattle.laws_shared.specs.js_cursor.Starts.{is_module}
 use Rattle.laws_shared.specs.js_cursor.declared.stop.Stop.{Stop}
-use Rattle.laws_shared.proofs.js_cursor.Standing.{counts}
+use Rattle.laws_shared.proofs.js_cursor.Standing.{counts, mark_here}
 use Rattle.laws_shared.specs.Answers.{Grown, Stops, Stretch, Underived, Verdict, unclean}
-use Rattle.laws_shared.specs.Classes.{EndsParse}
+use Rattle.laws_shared.specs.Classes.{EndsParse, ends_parse}
 use Rattle.laws_shared.specs.Lexemes.{Lex, Walked, spot}
 use Rattle.laws_shared.specs.Moves.{MadeHere, Moved, plain_label}
 use Rattle.laws_shared.specs.Stands.{StandsHere}
 use Rattle.laws_shared.specs.States.{At, Same, flags_of}
 use Rattle.laws_shared.specs.Told.{unrelated_at}
+use Rattle.laws_shared.proofs.Classes.{gives_up_by}
 use Rattle.laws_shared.proofs.Edges.{last_edge}
 use Rattle.laws_shared.proofs.Giving.{gives_up, gives_up_here, kept_one}
 use Rattle.laws_shared.proofs.Here.{begins_here}
@@ -113,6 +115,10 @@ module _ {p : Parser} {start : ℕ} (k : DiagnosticKind) (t : ByEdges k) (b : Be
   here_marked a n z e h =
       let l = (counts a.at (at_lexeme n refl)).lexeme in
       edges_marked z e (the_end l.of_text (l.is.1 ∙ sym h)) (subst (λ (v : ℕ). IsCharBoundary p.text v) (sym h) a.at.lies.ends_whole) (let i = before_here a in omega arith)
+
+-- what stands here
+pub token_marked : (k : DiagnosticKind) → ByEdges k → {p : Parser} → IsAt p → (p.token.kind ≡ Undetermined → ⊥) → {d : Diagnostic} → d ≡ unrelated_at k p.token.span → Mark (goal p) p.text d
+token_marked k t {p} a n e = subst (λ (v : Diagnostic). Mark (goal p) p.text v) (sym e) (mark_here k p.token.span None a (at_lexeme n refl) (λ s l i. t (goal p) p.text s (the_start l.of_text l.is.0, the_end l.of_text l.is.1)))
 
 -- ---- what begins with the word
 
@@ -254,3 +260,7 @@ module_so s b h = go s.goal b h
 pub meta_checked : (z : Span) (p q : Parser) (b : Bool) → IsTrue b ↔ (is_goal p.source_type ≡ source.Module) → (b ≡ false → KeepsDiagnostic (outside_module_at z) p q) → (b ≡ true → q ≡ p) → ChecksMeta z p q
 meta_checked z p q true h k e = inr (module_so p.source_type true h, e refl)
 meta_checked z p q false h k e = inl (module_so p.source_type false h, k refl)
+
+-- what is told of another form ends the parse
+pub told_ends : (k : DiagnosticKind) (z : Span) (p q : Parser) (e : Stop) → ends_parse (class_of k) ≡ true → {d : Diagnostic} → d ≡ unrelated_at k z → GivesUp (λ x. x ≡ d) p q e → GivesUp EndsParse p q e
+told_ends k z p q e h {d} i g = gives_up_by p q e g (λ x j. ap (λ (v : Diagnostic). ends_parse (class_of v.kind)) (j ∙ i) ∙ h)

@@ -1129,7 +1129,7 @@ abbrev pub MemberGoes : NodeId → ℕ → Parser → Parser → NodeId → Type
 MemberGoes member start p q left = (text : List ℕ) (f : Flags) (o : Parser) → start ≡ o.token.span.start → Membered text f o p member → Membered text f o q left
 
 abbrev pub CallGoes : NodeId → ℕ → Parser → Parser → NodeId → Type 0
-CallGoes member start p q left = (text : List ℕ) (f : Flags) (o : Parser) → At text f o → start ≡ o.token.span.start → HeadTaken text f o p member → Called text f o q left
+CallGoes call start p q left = (text : List ℕ) (f : Flags) (o : Parser) → start ≡ o.token.span.start → Called text f o p call → Called text f o q left
 
 abbrev pub ChainGoes : NodeId → ℕ → Parser → Parser → NodeId → Type 0
 ChainGoes callee start p q left = (text : List ℕ) (f : Flags) (o : Parser) → At text f o → start ≡ o.token.span.start → CalleeTaken text f o p callee → Chained text f o q left
