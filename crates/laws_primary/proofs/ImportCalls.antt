@@ -1,12 +1,12 @@
 -- ImportCall (ECMA-262, 13.3.10): its arguments from left to right, and the call that they make.
-use Rattle.std.proofs.Common.{ℕ, ◌≡◌, ◌≤◌, ◌<◌, max, List, [], ◌∷◌, ◌++◌, length, Option, Some, None, true, false, refl, sym, ap, subst, arith, ◌∙◌}
+use Rattle.std.proofs.Common.{ℕ, ◌≡◌, ◌≤◌, ◌<◌, max, List, [], ◌∷◌, ◌++◌, length, Option, Some, None, true, false, refl, sym, ap, subst, arith}
 use Rattle.std.specs.Prelude.{Result, Ok, Err, MatchResult}
 use Rattle.js_base.specs.declared.kind.Kind.TheVariants.{Comma, Dot3, Import, LParen, RParen}
 use Rattle.js_base.specs.declared.span.Span.{Span}
-use Rattle.js_grammar.specs.Trees.{Label, Slots, end, hole, tree, append}
+use Rattle.js_grammar.specs.Trees.{Label, Slots, end, hole, append}
 use Rattle.js_grammar.specs.FirstSets.{first as first_of}
 use Rattle.js_grammar.specs.Follow.{surest}
-use Rattle.js_grammar.specs.Grammar.{Lexemes, Takes, alt, empty_slot, is, is_empty_slot, is_left, is_lexeme, is_nothing, is_right, is_seq, next, nothing, seq, such}
+use Rattle.js_grammar.specs.Grammar.{Lexemes, Takes, alt, empty_slot, is, is_left, is_nothing, is_right, is_seq, next, nothing, seq, such}
 use Rattle.js_grammar.specs.Parsing.{Fails, Goes, Test, always, full, plain, still}
 use Rattle.js_grammar.specs.Productions.{Assignment, Flags, G, Symbol, at, plus_in, tok}
 use Rattle.js_grammar.specs.Table.{rule}

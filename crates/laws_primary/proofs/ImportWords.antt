@@ -1,5 +1,5 @@
 -- What begins with `import` where an operand is due (ECMA-262, 13.3.10 and 13.3.12): where what is told of it stands, and ImportMeta.
-use Rattle.std.proofs.Common.{ℕ, ◌≡◌, ◌≤◌, ◌<◌, inl, inr, List, [], ◌∷◌, Bool, true, false, None, ◌||◌, IsCharBoundary, IsTrue, refl, sym, ap, subst, arith, ◌∙◌}
+use Rattle.std.proofs.Common.{ℕ, ◌≡◌, ◌≤◌, ◌<◌, inl, inr, List, [], Bool, true, false, None, ◌||◌, IsCharBoundary, IsTrue, refl, sym, ap, subst, arith, ◌∙◌}
 use Rattle.std.specs.Prelude.{Ok, ◌↔◌}
 use Rattle.std.proofs.lemmas.Bool.{or_right}
 use Rattle.js_base.specs.Diagnostics.{class_of}
@@ -43,7 +43,7 @@ use Rattle.laws_shared.specs.Classes.{EndsParse, ends_parse}
 use Rattle.laws_shared.specs.Lexemes.{Lex, Walked, spot}
 use Rattle.laws_shared.specs.Moves.{MadeHere, Moved, plain_label}
 use Rattle.laws_shared.specs.Stands.{StandsHere}
-use Rattle.laws_shared.specs.States.{At, Same, flags_of}
+use Rattle.laws_shared.specs.States.{At, Same}
 use Rattle.laws_shared.specs.Told.{unrelated_at}
 use Rattle.laws_shared.proofs.Classes.{gives_up_by}
 use Rattle.laws_shared.proofs.Edges.{last_edge}
