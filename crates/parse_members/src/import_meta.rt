@@ -48,10 +48,7 @@ fn refuse_property<C: ParserConfig>(p: &mut ParserImpl<'_, C>, start: u32) -> St
 }
 
 /// Tells of an `import.meta` in no module, which stands at a span.
-fn check_import_meta<C: ParserConfig>(
-    p: &mut ParserImpl<'_, C>,
-    span: Span,
-) -> Result<(), NoMemory>
+fn check_import_meta<C: ParserConfig>(p: &mut ParserImpl<'_, C>, span: Span) -> Result<(), NoMemory>
     requires at { IsAt p.old }
     requires mark { Mark (goal p.old) p.old.text (outside_module_at span) }
     ensures { IfOk result (λ _. ChecksMeta span p.old p.new) }
