@@ -12,6 +12,7 @@ use parse_shared::diagnostics::diagnostic_at;
 use parse_shared::lexemes::{advance, stands};
 use parse_shared::nested::Nested;
 use parse_shared::nodes::{make_one, no_flags};
+use parse_shared::refusals::refuse_annotation;
 use parse_shared::{NodeId, NodeKind, Op, ParserConfig, ParserImpl, Stop};
 
 /// A TryStatement (ECMA-262, section 14.15).
@@ -118,7 +119,8 @@ fn make_catch<C: ParserConfig>(
         .node_of_two(kind, span, Op::None, no_flags(), parameter, Some(block))
 }
 
-/// A CatchParameter in its parentheses (ECMA-262, section 14.15), where they stand here.
+/// A CatchParameter in its parentheses (ECMA-262, section 14.15), where they stand here. A colon begins a type annotation of
+/// TypeScript.
 fn parse_catch_parameter<C: ParserConfig, N: Nested<C>>(
     p: &mut ParserImpl<'_, C>,
     nested: &N,
@@ -133,6 +135,9 @@ fn parse_catch_parameter<C: ParserConfig, N: Nested<C>>(
     advance(p)?;
     let start = p.cur_start();
     let binding = nested.binding(p)?;
+    if p.at(Kind::Colon) {
+        return Err(refuse_annotation(p));
+    }
     let span = p.end_span(start);
     let node = make_one(p, NodeKind::CatchParameter, Op::None, span, binding)?;
     p.expect(Kind::RParen)?;
