@@ -33,10 +33,10 @@ pub fn parse_behind_word<C: ParserConfig, N: Nested<C>>(
     if p.at(Kind::LParen) {
         return parse_word_method(p, nested, head, word);
     }
+    let key = make_name(p, NodeKind::IdentifierName, word)?;
     if modifies(word, p.cur_token()) {
         return Err(refuse_at(p, DiagnosticKind::ModifierInTs, word.span()));
     }
-    let key = make_name(p, NodeKind::IdentifierName, word)?;
     let name = PropertyName {
         key,
         computed: false,
