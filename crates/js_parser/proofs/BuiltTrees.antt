@@ -1,8 +1,8 @@
--- The trees that the productions that are built derive: which early errors they can't have, that they add nothing to the record of a module, and that none of their nodes is marked as pure.
-use Rattle.std.proofs.Common.{ℕ, ◌≡◌, ◌+◌, ◌/◌, ◌%◌, ◌-◌, Bool, true, false, not, cond, ◌&&◌, ◌||◌, List, [], refl, sym, subst, ap, ◌∙◌, rules, IsTrue, arith, eqb-true}
+-- The trees that the productions that are built derive: which early errors they can't have, that they export nothing, and that none of their nodes is marked as pure.
+use Rattle.std.proofs.Common.{ℕ, ◌≡◌, ◌+◌, ◌/◌, ◌%◌, ◌-◌, Bool, true, false, not, cond, ◌&&◌, ◌||◌, List, [], ◌++◌, refl, sym, subst, ap, ◌∙◌, rules, IsTrue, arith, eqb-true}
 use Rattle.std.specs.Prelude.{codes, nat_eq}
 use Rattle.std.proofs.lemmas.Bool.{false≢true, not-true, and_parts, and_from}
-use Rattle.js_grammar.specs.Trees.{NodeKind, switch_statement, switch_case, try_statement, template_literal, with_clause, import_declaration, export_all_declaration, export_from_declaration, export_named_declaration, export_declaration, export_default_declaration, import_expression, import_meta, function_expression, arrow_function_expression, Op, no_op, Label, Span, Slots, end, hole, tree, Tree, append, identifier_name, private_identifier, string_literal, method_op, constructor_op}
+use Rattle.js_grammar.specs.Trees.{NodeKind, switch_statement, switch_case, try_statement, template_literal, with_clause, import_declaration, export_all_declaration, export_from_declaration, export_named_declaration, export_declaration, export_default_declaration, function_expression, arrow_function_expression, Op, no_op, Label, Span, Slots, end, hole, tree, Tree, append, identifier_name, private_identifier, string_literal, method_op, constructor_op}
 use Rattle.js_grammar.specs.Grammar.{Make, Lexemes, ◌▸◌, ◌◇◌, empty_slot, ahead, seq, alt, when, many, commas, such, marked, node, ended, keep, label_of, Takes, Derives, is_nothing, is_lexeme, is_look, is_text, is_ahead, is_empty_slot, is_seq, is_left, is_right, is_when, is_many, is_commas, is_such, is_marked, is_node, is_ended, is_keep, is_kept}
 use Rattle.js_grammar.specs.Productions.{Flags, Name, Symbol, G, at, tok, opt, mk, parens, braces, slot, Program, Case, Switch, Try, Expression, Block, Catch, ListItem, ImportDecl, Spec, ExportName, Attrs, Attr, ExportDecl, pure_flag, has_flag, with_pife, async_flag, computed_flag, generator_flag, static_flag, without_flag}
 use Rattle.js_grammar.specs.Productions.{sym as symbol}
@@ -10,11 +10,11 @@ use Rattle.js_base.specs.declared.kind.Kind.TheVariants.{Colon}
 use Rattle.js_grammar.specs.Words.{'default', 'finally', 'switch', 'try'}
 use Rattle.js_grammar.specs.Table.{rule, rule_of}
 use Rattle.js_grammar.specs.EarlyRules.{Rule, everywhere, one_default, catch_or_finally, not_u_and_v, Place, anywhere, tag, tagged, cooked_at, templates_cooked, attribute_keys_differ, no_private_constructor, no_field_constructor, no_static_prototype, plain_constructor, EarlyOk, MeetsEarlyRules, is_named, has_name, is_member, is_field, is_private_constructor, has_private_constructor, is_special, is_method}
-use Rattle.js_grammar.specs.Modules.{adds, record_errors}
+use Rattle.js_grammar.specs.ExportedNames.{exported_by, exported_in, exports_differ, no_two}
 use Rattle.js_grammar.proofs.CoverInitialisers.{line_marked}
 use Rattle.js_grammar.proofs.Renamed.{remarked, first_of, second_of, mark_of}
 use Rattle.js_grammar.proofs.CoreTrees.{pife_apart}
-use Rattle.js_grammar.proofs.EachNode.{append_each, tree_each, root_each, each_so, no_record_errors, without_marks}
+use Rattle.js_grammar.proofs.EachNode.{append_each, tree_each, root_each, each_so, without_marks}
 use Rattle.js_grammar.specs.TreeForms.{with_labels, not_pure, without_pure}
 
 -- nonterminals that no production that is built leads to
@@ -36,8 +36,6 @@ absent export_from_declaration = true
 absent export_named_declaration = true
 absent export_declaration = true
 absent export_default_declaration = true
-absent import_expression = true
-absent import_meta = true
 absent _ = false
 
 -- kinds of which a rule looks at the slots
@@ -384,12 +382,25 @@ early_fine text t h m = let us = tree t.label t.slots end in record {
   plain_constructor = m.plain_constructor;
 }
 
--- nothing is added to a record
-adds_nothing : (k : NodeKind) → absent k ≡ false → adds k ≡ false
-adds_nothing k h = search (rules, h)
+-- nothing is exported
+none_exported : (text : List ℕ) (k : NodeKind) (cs : Slots) → absent k ≡ false → exported_by text k cs ≡ []
+none_exported text export_named_declaration cs h = absurd (false≢true (sym h))
+none_exported text export_from_declaration cs h = absurd (false≢true (sym h))
+none_exported text export_all_declaration cs h = absurd (false≢true (sym h))
+none_exported text export_declaration cs h = absurd (false≢true (sym h))
+none_exported text export_default_declaration cs h = absurd (false≢true (sym h))
+none_exported text k cs h = refl
 
-pub record_fine : (text : List ℕ) (t : Tree) → everywhere fine_label (tree t.label t.slots end) ≡ true → record_errors text t ≡ []
-record_fine text t h = no_record_errors fine_label (λ l cs x. adds_nothing l.kind (here_not_absent l cs x)) text t h
+none_exported_in : (text : List ℕ) (us : Slots) → everywhere fine_label us ≡ true → exported_in text us ≡ []
+none_exported_in text end h = refl
+none_exported_in text (hole us) h = none_exported_in text us h
+none_exported_in text (tree l cs us) h =
+    let x = and_parts (fine_label l cs) _ h in
+    let y = and_parts (everywhere fine_label cs) _ x.1 in
+    λ i. none_exported text l.kind cs (here_not_absent l cs x.0) i ++ (none_exported_in text cs y.0 i ++ none_exported_in text us y.1 i)
+
+pub exports_fine : (text : List ℕ) (t : Tree) → everywhere fine_label (tree t.label t.slots end) ≡ true → IsTrue (exports_differ text t)
+exports_fine text t h = ap no_two (none_exported_in text (tree t.label t.slots end) h)
 
 -- no node is marked as pure
 mark_fine : (l : Label) (cs : Slots) → fine_label l cs ≡ true → not_pure l ≡ l

@@ -12,6 +12,8 @@ pub mod EarlyErrors
 pub mod EarlyMarks
 pub mod Leftovers
 pub mod BuiltTrees
+pub mod ReadTexts
+pub mod ScriptLines
 pub mod Validity
 pub mod SameSource
 pub mod Starting

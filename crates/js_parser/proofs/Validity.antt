@@ -1,5 +1,5 @@
--- Readings are valid trees, and valid trees over lexemes that are built are readings.
-use Rattle.std.proofs.Common.{ℕ, ◌≡◌, ◌≤◌, true, not, List, [], ◌∷◌, ◌++◌, length, refl, sym, subst, ap, eqb-true, arith}
+-- Readings are valid trees, and valid trees that need no other productions are readings.
+use Rattle.std.proofs.Common.{ℕ, ◌≡◌, ◌≤◌, true, List, [], ◌∷◌, ◌++◌, length, inl, inr, refl, sym, subst, ap, eqb-true, arith}
 use Rattle.std.proofs.lemmas.Bool.{false≢true, and_parts}
 use Rattle.js_base.specs.declared.kind.Kind.{Kind}
 use Rattle.js_base.specs.declared.kind.Kind.TheVariants.{Eof, HashbangComment}
@@ -16,21 +16,20 @@ use Rattle.js_grammar.specs.Options.{Options}
 use Rattle.js_grammar.specs.Productions.{Program, at}
 use Rattle.js_grammar.specs.Readings.{IsWhole}
 use Rattle.js_grammar.specs.Settings.{Goal}
-use Rattle.js_grammar.specs.Table.{whole}
-use Rattle.js_grammar.specs.TableLaws.{begins_unbuilt, BeginNoUnbuilt}
+use Rattle.js_grammar.specs.Table.{rule, whole}
 use Rattle.js_grammar.specs.TreeForms.{without_pure}
 use Rattle.js_grammar.specs.Trivia.{are_trivia}
 use Rattle.js_grammar.proofs.BuiltLines.{in_whole, by_built}
-use Rattle.js_grammar.proofs.ExportedNames.{differ_by_record}
 use Rattle.js_grammar.proofs.NoEnd.{ends_once_by, ends_behind}
 use Rattle.js_cursor.specs.js_lex.Reading.{LexemeBehind}
 use Rattle.js_cursor.proofs.js_lex.TriviaLemmas.{some_width}
 use Rattle.js_core.specs.laws_shared.Lexemes.{Faultless, is_read}
-use Rattle.js_parser.specs.Language.{AllBuilt, AreBuilt, ReadingsAreValid}
-use Rattle.js_grammar.specs.BuiltTexts as built
+use Rattle.js_parser.specs.Language.{IsBuilt, ReadingsAreValid}
 use Rattle.js_core.specs.Readings.{parameters, AreRead, Reading, from_text_start, behind_a_hashbang}
-use Rattle.js_parser.proofs.BuiltTrees.{derived_fine, early_fine, record_fine, pure_fine, rules_without}
+use Rattle.js_parser.proofs.BuiltTrees.{derived_fine, early_fine, exports_fine, pure_fine, rules_without}
 use Rattle.js_parser.proofs.CoreTexts.{plainly}
+use Rattle.js_parser.proofs.ReadTexts.{lexemes_read}
+use Rattle.js_parser.proofs.ScriptLines.{by_built_in_script}
 use Rattle.js_core.proofs.Fronts.{kind_of_hashbang}
 
 -- ---- a hashbang comment is a lexeme of its text at each goal
@@ -80,23 +79,6 @@ module _ (text : List ℕ) (goal : Goal) where
   all_plain ls (from_text_start l) = plainly text goal 0 ls l
   all_plain ls (behind_a_hashbang b) = subst (λ (ms : Lexemes). Lexes (NextLexeme (passing_of goal) text) 0 ms) (sym b.is) (at_goal (passing_of goal) b.stands, plainly text goal b.comment.to b.others b.lexed)
 
-  faultless : (s : ℕ) (ls : Lexemes) → Lexes (NextLexeme (passing_of goal) text) s ls → AllBuilt ls → Lexes (Faultless goal text) s ls
-  faultless s (last x) l c = (l, (and_parts (is_read x) _ c).0)
-  faultless s (next x ls) l c = ((l.0, (and_parts (is_read x) _ c.0).0), faultless x.to ls l.1 c.1)
-
-  are_read : (ls : Lexemes) → Lexes (NextLexeme (passing_of goal) text) 0 ls → AreBuilt text ls → AreRead text goal ls
-  are_read ls l (Rattle.js_grammar.specs.BuiltTexts.from_text_start c) = from_text_start (faultless 0 ls l c)
-  are_read ls l (Rattle.js_grammar.specs.BuiltTexts.behind_a_hashbang y ms b e c) = behind_a_hashbang (record { comment = y; stands = b; others = ms; is = e; lexed = faultless y.to ms (subst (λ (v : Lexemes). Lexes (NextLexeme (passing_of goal) text) 0 v) e l).1 c })
-
-all_begin_none : (ls : Lexemes) → AllBuilt ls → BeginNoUnbuilt ls
-all_begin_none (last x) c = (and_parts (is_read x) _ c).1
-all_begin_none (next x ls) c = ((and_parts (is_read x) _ c.0).1, all_begin_none ls c.1)
-
-begin_none : {text : List ℕ} (ls : Lexemes) → AreBuilt text ls → BeginNoUnbuilt ls
-begin_none ls (Rattle.js_grammar.specs.BuiltTexts.from_text_start c) = all_begin_none ls c
-begin_none ls (Rattle.js_grammar.specs.BuiltTexts.behind_a_hashbang y ms b e c) =
-    subst BeginNoUnbuilt (sym e) (subst (λ (k : Kind). not (begins_unbuilt k) ≡ true) (sym (kind_of_hashbang b)) refl, all_begin_none ms c)
-
 -- ---- trees
 
 module _ {text : List ℕ} (goal : Goal) (o : Options) where
@@ -120,17 +102,21 @@ module _ {text : List ℕ} (goal : Goal) (o : Options) where
           derived = subst (λ (v : Tree). Derives whole (at Program (parameters goal o)) v 0 d.lexemes d.place (last d.final)) (sym (pure_fine t h)) (in_whole (at Program (parameters goal o)) t d.derived);
         };
         early = early_fine text t h r.early;
-        exports = differ_by_record text t (record_fine text t h);
+        exports = exports_fine text t h;
       }
 
-  reading : (t : Tree) (w : IsWhole Program text goal o t) → AreBuilt text w.derived.lexemes → Reading text goal o (without_pure t)
+  by_lines : (t : Tree) {k : ℕ} {ls rest : Lexemes} → IsBuilt goal ls → Derives whole (at Program (parameters goal o)) t 0 ls k rest → Derives rule (at Program (parameters goal o)) t 0 ls k rest
+  by_lines t (inl e) d = by_built_in_script (at Program (parameters goal o)) t e d
+  by_lines t (inr c) d = by_built (at Program (parameters goal o)) t c d
+
+  reading : (t : Tree) (w : IsWhole Program text goal o t) → IsBuilt goal w.derived.lexemes → Reading text goal o (without_pure t)
   reading t w c =
       let d = w.derived in
-      let b = by_built (at Program (parameters goal o)) (without_pure t) (begin_none d.lexemes c) d.derived in
+      let b = by_lines (without_pure t) c d.derived in
       record {
         strict = record {
           lexemes = d.lexemes;
-          lexed = are_read text goal d.lexemes d.lexed.lexes c;
+          lexed = lexemes_read text goal d.lexemes d.lexed;
           place = d.end;
           final = d.final;
           is_end = sym (kind_of_same Eof d.final.kind (ends_behind (at Program (parameters goal o)) (without_pure t) b d.lexed.ends));

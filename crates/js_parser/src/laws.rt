@@ -4,8 +4,8 @@ ghost use Rattle.js_parser.specs.Language.{ReadingsAreValid};
 ghost use Rattle.js_parser.specs.SameSource.{ReadingsHaveSources};
 
 /// A reading, which is by the productions that are built, is valid for the text by all productions of the language and
-/// all early rules. Where no lexeme of the text begins a production that isn't built, which `import` and `export` do,
-/// each valid tree is a reading, but for the mark `pure` on its nodes.
+/// all early rules. At the goals script and CommonJS each valid tree is a reading, but for the mark `pure` on its nodes;
+/// in a module, where no lexeme of the text begins a production that isn't built, which `import` and `export` do.
 pub fn law_of_readings()
     ensures { ReadingsAreValid }
 {}

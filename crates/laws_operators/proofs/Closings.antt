@@ -1,5 +1,5 @@
 -- Where parentheses close, and that no operand goes on over `=>` behind them (ECMA-262, 15.3).
-use Rattle.std.proofs.Common.{ℕ, ◌≡◌, Bool, true, false, not, ◌||◌, List, [], ◌∷◌, cond, nat_eq, None, Some, refl, sym, ap, subst, ◌∙◌}
+use Rattle.std.proofs.Common.{ℕ, ◌≡◌, Bool, true, false, not, ◌||◌, List, [], ◌∷◌, cond, nat_eq, None, Some, inl, inr, refl, sym, ap, subst, ◌∙◌}
 use Rattle.std.specs.Prelude.{IsCharBoundary, IsUtf8}
 use Rattle.std.proofs.lemmas.Bool.{false≢true}
 use Rattle.js_base.specs.declared.kind.Kind.{Kind}
@@ -7,6 +7,7 @@ use Rattle.js_base.specs.declared.kind.Kind.TheVariants.{Arrow, LParen, LBrack, 
 use Rattle.js_base.specs.declared.diagnostic.Diagnostic.{Diagnostic}
 use Rattle.js_base.specs.declared.token.Token.{Token}
 use Rattle.js_base.specs.Kinds.{same_kind, one_of_kinds}
+use Rattle.js_base.proofs.KindLemmas.{kind_of_same}
 use Rattle.js_grammar.specs.Brackets.{Bracket, plain, opens, closes, bracket, move, pop}
 use Rattle.js_grammar.specs.Grammar.{Lexeme, Lexemes}
 use Rattle.js_grammar.specs.Lexed.{Lexes}
@@ -16,8 +17,9 @@ use Rattle.js_grammar.proofs.Heads.{One, the_last, and_more}
 use Rattle.laws_shared.specs.js_lex.Reading.{cut, is_right_angle, Tells, GivesLexeme, GivesNone, GivesBehind, LexemeBehind, Outcome}
 use Rattle.laws_shared.proofs.js_lex.Again.{cut_same, passed}
 use Rattle.laws_shared.proofs.part_scan.StringPlaces.{front_word}
+use Rattle.laws_shared.proofs.part_words.KindsOfLexemes.{determined}
 use Rattle.laws_shared.specs.Lexemes.{Lex, slashes}
-use Rattle.laws_operators.specs.Closings.{ArrowTold, Closing, closed, inside, tells_whole, Settled}
+use Rattle.laws_operators.specs.Closings.{ArrowTold, Closing, closed, inside, tells_settled, Settled, WholeBehind}
 use Rattle.laws_operators.proofs.OnePlace.{one_plain_move}
 use Rattle.laws_operators.proofs.BinaryOperators.{different}
 
@@ -94,8 +96,36 @@ pub no_bracket : (k : Kind) (st : List ℕ) → (k ≡ LParen → ⊥) → (k �
 unfolding bracket
 no_bracket k st a b c d e f g h i = plain_move k st (rw (different LParen k a, different LBrack k b, different LCurly k c, different TemplateHead k d, different RParen k e, different RBrack k f, different RCurly k g, different TemplateTail k h, different TemplateMiddle k i) refl)
 
-pub is_whole : (k : Kind) → (k ≡ RAngle → ⊥) → (k ≡ Undetermined → ⊥) → (k ≡ Slash → ⊥) → (k ≡ SlashEq → ⊥) → tells_whole k ≡ true
-is_whole k a b c d = rw (different RAngle k a, different Undetermined k b, different Slash k c, different SlashEq k d) refl
+pub is_settled : (k : Kind) → (k ≡ Undetermined → ⊥) → (k ≡ Slash → ⊥) → (k ≡ SlashEq → ⊥) → tells_settled k ≡ true
+is_settled k a b c = rw (different Undetermined k a, different Slash k b, different SlashEq k c) refl
+
+-- ---- the whole lexeme behind a place
+
+module _ {text : List ℕ} {e : ℕ} {t : Token} (w : WholeBehind text e t) where
+  pub settled_behind : tells_settled t.kind ≡ true → (y : Lexeme) × Settled text e y × Tells y t
+  settled_behind s = go w
+    where
+      parts : (a b : Bool) → not (a || b) ≡ true → (a ≡ false) × (b ≡ false)
+      parts true b h = absurd (false≢true h)
+      parts false true h = absurd (false≢true h)
+      parts false false h = (refl, refl)
+
+      both : (same_kind Undetermined t.kind ≡ false) × (one_of_kinds slashes t.kind ≡ false)
+      both = parts (same_kind Undetermined t.kind) (one_of_kinds slashes t.kind) s
+
+      go : WholeBehind text e t → (y : Lexeme) × Settled text e y × Tells y t
+      go (inl x) = (x.lexeme, (x.stands, subst (λ (k : Kind). one_of_kinds slashes k ≡ false) x.tells.kind both.1), x.tells)
+      go (inr x) = absurd (false≢true (sym both.0 ∙ ap (same_kind Undetermined) x.0))
+
+  -- none stands there
+  pub none_behind : t.kind ≡ Undetermined → (y : Lexeme) → LexemeBehind division text e y → ⊥
+  none_behind k = go w
+    where
+      go : WholeBehind text e t → (y : Lexeme) → LexemeBehind division text e y → ⊥
+      go (inl x) =
+          let l = x.stands.lex in
+          absurd (false≢true (sym (determined l.goal l.word l.rest x.lexeme.kind l.lexeme.kind) ∙ ap (same_kind Undetermined) (sym x.tells.kind ∙ k)))
+      go (inr x) = x.1
 
 -- ---- the token behind a place
 
@@ -103,50 +133,21 @@ module _ {text : List ℕ} {e : ℕ} {t : Token} (g : GivesBehind text e t) wher
   behind_it : Outcome division cut (g.before).goal text e t [] (g.next).faults
   behind_it = subst (λ (v : List ℕ). Outcome division cut (g.before).goal v e t [] (g.next).faults) g.text_is (subst (λ (v : ℕ). Outcome division cut (g.before).goal (g.before).text v t [] (g.next).faults) g.place_is (g.next).outcome)
 
-  -- it tells a lexeme, but for a cut one
-  pub whole_behind : tells_whole t.kind ≡ true → (y : Lexeme) × LexemeBehind division text e y × Tells y t
-  whole_behind w = go (same_kind Undetermined t.kind) refl behind_it
+  -- it tells a whole lexeme, but for a cut one
+  pub whole_told : (t.kind ≡ RAngle → ⊥) → WholeBehind text e t
+  whole_told n = go (same_kind Undetermined t.kind) refl behind_it
     where
-      both : (a b c : Bool) → not (a || (b || c)) ≡ true → (a ≡ false) × (b ≡ false)
-      both true b c h = absurd (false≢true h)
-      both false true c h = absurd (false≢true h)
-      both false false c h = (refl, refl)
+      by : (x : GivesLexeme division cut text e t) → (b : Bool) → is_right_angle x.lexeme.kind ≡ b → GivesLexeme division (λ y. y) text e t
+      by x true q = absurd (n (x.tells.kind ∙ rw (q, cut) refl))
+      by x false q = record { lexeme = x.lexeme; stands = x.stands; tells = subst (λ (z : Lexeme). Tells z t) (cut_same x.lexeme q) x.tells; separated = x.separated }
 
-      parts : (same_kind RAngle t.kind ≡ false) × (same_kind Undetermined t.kind ≡ false)
-      parts = both (same_kind RAngle t.kind) (same_kind Undetermined t.kind) (one_of_kinds slashes t.kind) w
-
-      by : (x : GivesLexeme division cut text e t) → (b : Bool) → is_right_angle x.lexeme.kind ≡ b → (y : Lexeme) × LexemeBehind division text e y × Tells y t
-      by x true q = absurd (false≢true (sym parts.0 ∙ (let c : (cut x.lexeme).kind ≡ RAngle = rw (q, cut) refl in ap (same_kind RAngle) (x.tells.kind ∙ c))))
-      by x false q = (x.lexeme, x.stands, subst (λ (z : Lexeme). Tells z t) (cut_same x.lexeme q) x.tells)
-
-      go : (r : Bool) → same_kind Undetermined t.kind ≡ r → elim r as (λ _. Type 0) [ true ↦ (d : Diagnostic) × ((g.next).faults ≡ d ∷ []) × GivesNone division (g.before).goal text e t d | false ↦ ((g.next).faults ≡ []) × GivesLexeme division cut text e t ] → (y : Lexeme) × LexemeBehind division text e y × Tells y t
-      go true q x = absurd (false≢true (sym parts.1 ∙ q))
-      go false q x = by x.1 (is_right_angle x.1.lexeme.kind) refl
-
-  -- it begins with no slash
-  no_slash_behind : tells_whole t.kind ≡ true → one_of_kinds slashes t.kind ≡ false
-  no_slash_behind w = third (same_kind RAngle t.kind) (same_kind Undetermined t.kind) (one_of_kinds slashes t.kind) w
-    where
-      third : (a b c : Bool) → not (a || (b || c)) ≡ true → c ≡ false
-      third true b c h = absurd (false≢true h)
-      third false true c h = absurd (false≢true h)
-      third false false true h = absurd (false≢true h)
-      third false false false h = refl
-
-  pub settled_behind : (w : tells_whole t.kind ≡ true) → (y : Lexeme) × Settled text e y × Tells y t
-  settled_behind w = let x = whole_behind w in (x.0, (x.1, subst (λ (k : Kind). one_of_kinds slashes k ≡ false) x.2.kind (no_slash_behind w)), x.2)
-
-  -- none stands there
-  pub none_behind : t.kind ≡ Undetermined → (y : Lexeme) → LexemeBehind division text e y → ⊥
-  none_behind k = go (same_kind Undetermined t.kind) (ap (same_kind Undetermined) k) behind_it
-    where
-      go : (r : Bool) → r ≡ true → elim r as (λ _. Type 0) [ true ↦ (d : Diagnostic) × ((g.next).faults ≡ d ∷ []) × GivesNone division (g.before).goal text e t d | false ↦ ((g.next).faults ≡ []) × GivesLexeme division cut text e t ] → (y : Lexeme) → LexemeBehind division text e y → ⊥
-      go true q x = x.2.none
-      go false q x = absurd (false≢true q)
+      go : (r : Bool) → same_kind Undetermined t.kind ≡ r → elim r as (λ _. Type 0) [ true ↦ (d : Diagnostic) × ((g.next).faults ≡ d ∷ []) × GivesNone division (g.before).goal text e t d | false ↦ ((g.next).faults ≡ []) × GivesLexeme division cut text e t ] → WholeBehind text e t
+      go true q x = inr (sym (kind_of_same Undetermined t.kind q), x.2.none)
+      go false q x = inl (by x.1 (is_right_angle x.1.lexeme.kind) refl)
 
   -- whether it is `=>`
   pub arrow_behind : t.kind ≡ Arrow → ArrowTold text e true
-  arrow_behind k = let x = whole_behind (ap tells_whole k) in (x.0, x.1, sym x.2.kind ∙ k)
+  arrow_behind k = let x = settled_behind (whole_told (λ r. let z : RAngle ≡ Arrow = sym r ∙ k in absurd (cc))) (ap tells_settled k) in (x.0, x.1.0, sym x.2.kind ∙ k)
 
   pub no_arrow_behind : (t.kind ≡ Arrow → ⊥) → ArrowTold text e false
   no_arrow_behind n y l k = go (same_kind Undetermined t.kind) behind_it

@@ -21,13 +21,13 @@ use Rattle.laws_shared.specs.Lexemes.{Lex, other_goals}
 use Rattle.laws_shared.specs.States.{At, Standing}
 use Rattle.laws_shared.specs.js_cursor.Notes.{AddsPlace, Notes, NotesClosing, is_place}
 use Rattle.laws_shared.specs.js_cursor.Parsers.{Parser}
-use Rattle.laws_shared.specs.js_lex.Reading.{GivesBehind, LexemeBehind}
+use Rattle.laws_shared.specs.js_lex.Reading.{LexemeBehind}
 use Rattle.laws_shared.proofs.Here.{plainly}
 use Rattle.laws_shared.proofs.js_cursor.Changing.{notes_on}
 use Rattle.laws_operators.specs.Arrows.{Unmoved}
 use Rattle.laws_operators.specs.declared.forms.OpenBracket.{OpenBracket}
 use Rattle.laws_operators.specs.declared.forms.OpenedBracket.{OpenedBracket}
-use Rattle.laws_operators.specs.Closings.{ArrowTold, ByClosing, Closing, ClosesLast, FindsClosing, NotesOne, LexemePassed, NoneCloses, NotesMore, StandOpen, Unclosed, none_stands, number_of, tells_whole}
+use Rattle.laws_operators.specs.Closings.{ArrowTold, ByClosing, Closing, ClosesLast, FindsClosing, NotesOne, LexemePassed, NoneCloses, NotesMore, StandOpen, Unclosed, none_stands, number_of, tells_settled, WholeBehind}
 use Rattle.laws_operators.proofs.Arrows.{closed_arrow, unmoved}
 use Rattle.laws_operators.proofs.Closings.{closes_alike, none_behind, plain_between, settled_behind}
 use Rattle.laws_operators.proofs.NotedHeads.{state_noted}
@@ -134,13 +134,13 @@ noted_false g {p} {place} a i = subst (λ (t : List ℕ). NoHead t g place) a.te
 
 -- ---- lexeme by lexeme
 
-module _ {p : Parser} {behind : ℕ} {t : Token} (a : Standing p) (b : IsCharBoundary p.text behind) (g : GivesBehind p.text behind t) where
+module _ {p : Parser} {behind : ℕ} {t : Token} (a : Standing p) (b : IsCharBoundary p.text behind) (g : WholeBehind p.text behind t) where
   -- it ends between characters
-  ends_between : tells_whole t.kind ≡ true → IsCharBoundary p.text t.span.end
+  ends_between : tells_settled t.kind ≡ true → IsCharBoundary p.text t.span.end
   ends_between w = let x = settled_behind g w in subst (λ (v : ℕ). IsCharBoundary p.text v) (sym x.2.end) (plain_between a.at.utf8 b x.1.0)
 
   -- it opens a bracket
-  pub lexeme_opens : {E : Type 0} (q : Parser) (r : Result Bool E) (o : OpenedBracket) (old new : List OpenedBracket) → tells_whole t.kind ≡ true → ((st : List ℕ) → move (bracket t.kind) st ≡ Some (number_of o.bracket ∷ st)) → o.behind ≡ behind → StandOpen p.text behind old → q ≡ p → IfOk r (λ on. (on ≡ true) × (new ≡ old ++ o ∷ [])) → IfOk r (λ on. LexemePassed p t q new on)
+  pub lexeme_opens : {E : Type 0} (q : Parser) (r : Result Bool E) (o : OpenedBracket) (old new : List OpenedBracket) → tells_settled t.kind ≡ true → ((st : List ℕ) → move (bracket t.kind) st ≡ Some (number_of o.bracket ∷ st)) → o.behind ≡ behind → StandOpen p.text behind old → q ≡ p → IfOk r (λ on. (on ≡ true) × (new ≡ old ++ o ∷ [])) → IfOk r (λ on. LexemePassed p t q new on)
   lexeme_opens q (Ok true) o old new w m i z e x =
       let y = settled_behind g w in
       let n = opens_one y.1 o i (λ st. ap (λ (k : Kind). move (bracket k) st) (sym y.2.kind) ∙ m st) old z in
@@ -149,7 +149,7 @@ module _ {p : Parser} {behind : ℕ} {t : Token} (a : Standing p) (b : IsCharBou
   lexeme_opens q (Err v) o old new w m i z e x = x
 
   -- it closes one
-  pub lexeme_closes : {E : Type 0} (q : Parser) (r : Result Bool E) (c : OpenBracket) (old new : List OpenedBracket) {end_ : ℕ} → end_ ≡ t.span.end → tells_whole t.kind ≡ true → ((st : List ℕ) → move (bracket t.kind) (number_of c ∷ st) ≡ Some st) → StandOpen p.text behind old → IfOk r (λ on. ClosesLast c end_ p old q new on) → IfOk r (λ on. LexemePassed p t q new on)
+  pub lexeme_closes : {E : Type 0} (q : Parser) (r : Result Bool E) (c : OpenBracket) (old new : List OpenedBracket) {end_ : ℕ} → end_ ≡ t.span.end → tells_settled t.kind ≡ true → ((st : List ℕ) → move (bracket t.kind) (number_of c ∷ st) ≡ Some st) → StandOpen p.text behind old → IfOk r (λ on. ClosesLast c end_ p old q new on) → IfOk r (λ on. LexemePassed p t q new on)
   lexeme_closes q (Ok true) c old new d w m z (o, i, k, v, n, (h, e)) =
       let y = settled_behind g w in
       let f = closes_one y.1 o (λ st. ap (λ (j : Kind). move (bracket j) (number_of o.bracket ∷ st)) (sym y.2.kind) ∙ (ap (λ (b : OpenBracket). move (bracket t.kind) (number_of b ∷ st)) k ∙ m st)) new (subst (λ (os : List OpenedBracket). StandOpen p.text behind os) i z) in
@@ -158,7 +158,7 @@ module _ {p : Parser} {behind : ℕ} {t : Token} (a : Standing p) (b : IsCharBou
   lexeme_closes q (Err v) c old new d w m z e = e
 
   -- it is no bracket
-  pub lexeme_plain : {q : Parser} (os : List OpenedBracket) → tells_whole t.kind ≡ true → ((st : List ℕ) → move (bracket t.kind) st ≡ Some st) → StandOpen p.text behind os → q ≡ p → LexemePassed p t q os true
+  pub lexeme_plain : {q : Parser} (os : List OpenedBracket) → tells_settled t.kind ≡ true → ((st : List ℕ) → move (bracket t.kind) st ≡ Some st) → StandOpen p.text behind os → q ≡ p → LexemePassed p t q os true
   lexeme_plain os w m z e =
       let y = settled_behind g w in
       (more_none e, subst (λ (v : ℕ). StandOpen p.text v os) (sym y.2.end) (stays_open y.1 (λ st. ap (λ (k : Kind). move (bracket k) st) (sym y.2.kind) ∙ m st) os z), ends_between w)
@@ -168,7 +168,7 @@ module _ {p : Parser} {behind : ℕ} {t : Token} (a : Standing p) (b : IsCharBou
   no_lexeme_closes os k z = none_closes (λ c u. none_stands (none_behind g k)) os z
 
   pub end_closes_none : (os : List OpenedBracket) → t.kind ≡ Eof → StandOpen p.text behind os → NoneCloses p.text os
-  end_closes_none os k z = let y = settled_behind g (ap tells_whole k) in none_closes (text_over a.at.utf8 b y.1 (sym y.2.kind ∙ k)) os z
+  end_closes_none os k z = let y = settled_behind g (ap tells_settled k) in none_closes (text_over a.at.utf8 b y.1 (sym y.2.kind ∙ k)) os z
 
 pub none_left_open : {E : Type 0} (p q : Parser) (t : Token) (r : Result Bool E) (os : List OpenedBracket) → IfOk r (λ on. (on ≡ false) × NotesMore p q) → IfOk r (λ on. LexemePassed p t q os on)
 none_left_open p q t (Ok true) os x = absurd (false≢true (sym x.0))

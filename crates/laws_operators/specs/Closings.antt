@@ -1,7 +1,7 @@
 -- Where the parentheses close that begin at a place, by lexemes of the plain lexical goal of which none begins with a slash.
-use Rattle.std.specs.Prelude.{ℕ, ◌≡◌, Bool, true, false, not, List, [], ◌∷◌, ◌++◌, Some, length, IsCharBoundary}
+use Rattle.std.specs.Prelude.{ℕ, ◌≡◌, Bool, true, false, not, List, [], ◌∷◌, ◌++◌, ◌⊎◌, Some, length, IsCharBoundary}
 use Rattle.js_base.specs.declared.kind.Kind.{Kind}
-use Rattle.js_base.specs.declared.kind.Kind.TheVariants.{Arrow, RAngle, Undetermined}
+use Rattle.js_base.specs.declared.kind.Kind.TheVariants.{Arrow, Undetermined}
 use Rattle.js_base.specs.Kinds.{one_of_kinds}
 use Rattle.js_grammar.specs.Brackets.{bracket, move}
 use Rattle.js_grammar.specs.Grammar.{Lexeme}
@@ -9,7 +9,7 @@ use Rattle.js_grammar.specs.Lexemes.{division}
 use Rattle.js_base.specs.declared.token.Token.{Token}
 use Rattle.laws_shared.specs.js_cursor.Notes.{NotesClosing, is_place}
 use Rattle.laws_shared.specs.js_cursor.Parsers.{Parser}
-use Rattle.laws_shared.specs.js_lex.Reading.{LexemeBehind}
+use Rattle.laws_shared.specs.js_lex.Reading.{GivesLexeme, LexemeBehind}
 use Rattle.laws_shared.specs.Heads.{NoHead, NotedClosings, OnlyArrow}
 use Rattle.js_grammar.specs.Productions.{Flags}
 use Rattle.laws_shared.specs.Lexemes.{slashes}
@@ -46,9 +46,13 @@ number_of Round = 1
 number_of Square = 2
 number_of Curly = 3
 
--- a token that tells a whole lexeme, with which no regular expression may begin
-abbrev pub tells_whole : Kind → Bool
-tells_whole k = not (one_of_kinds (RAngle ∷ Undetermined ∷ slashes) k)
+-- the token tells the whole lexeme of the plain lexical goal behind a place, or that none stands there
+abbrev pub WholeBehind : List ℕ → ℕ → Token → Type 0
+WholeBehind text s t = GivesLexeme division (λ y. y) text s t ⊎ ((t.kind ≡ Undetermined) × ((y : Lexeme) → LexemeBehind division text s y → ⊥))
+
+-- a token that tells a lexeme, with which no regular expression may begin
+abbrev pub tells_settled : Kind → Bool
+tells_settled k = not (one_of_kinds (Undetermined ∷ slashes) k)
 
 -- ---- what is noted of closings
 

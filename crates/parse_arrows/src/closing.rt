@@ -1,7 +1,7 @@
 //! Where the parentheses close that begin at a place.
 
 ghost use Rattle.std.specs.Prelude.{◌≡◌, true, false, [], ◌∷◌, ◌++◌, IfOk, IsCharBoundary};
-ghost use Rattle.parse_arrows.specs.Prelude.{ArrowTold, ClosesLast, FindsClosing, GivesBehind, LexemePassed, NoneCloses, NotesMore, Standing, StandOpen};
+ghost use Rattle.parse_arrows.specs.Prelude.{ArrowTold, ClosesLast, FindsClosing, LexemePassed, NoneCloses, NotesMore, Standing, StandOpen, WholeBehind};
 
 use crate::notes::{is_arrow_noted, note_closing, set_looked};
 use js_base::{Kind, NoMemory, Token};
@@ -22,8 +22,8 @@ pub(crate) fn is_arrow_behind_one<C: ParserConfig>(
 }
 
 /// Notes of the brackets that begin behind a place, and of all inside, whether `=>` stands behind them. It goes on to where
-/// those close, or to a sign that begins with `>`, a slash, a part of a template or a bracket that closes no open one: of
-/// what is open there nothing is noted. Where the text ends, or no lexeme stands, before they close, no `=>` stands behind them.
+/// those close, or to a slash, a part of a template or a bracket that closes no open one: of what is open there nothing is
+/// noted. Where the text ends, or no lexeme stands, before they close, no `=>` stands behind them.
 pub(crate) fn look_for_closings<C: ParserConfig>(
     p: &mut ParserImpl<'_, C>,
     start: u32,
@@ -35,7 +35,7 @@ pub(crate) fn look_for_closings<C: ParserConfig>(
     let mut brackets = Vec::new(p.alloc);
     let mut place = start;
     'lexemes: for _ in start..u32::MAX {
-        let next = p.lexer.token_behind(place)?;
+        let next = whole_behind(p, place)?;
         let goes_on = pass_lexeme(p, &mut brackets, place, next)?;
         place = next.span().end;
         set_looked(p, place);
@@ -57,7 +57,7 @@ fn pass_lexeme<C: ParserConfig>(
 ) -> Result<bool, NoMemory>
     requires at { Standing p.old }
     requires between { IsCharBoundary p.old.text behind }
-    requires gives { GivesBehind p.old.text behind next }
+    requires gives { WholeBehind p.old.text behind next }
     requires stand { StandOpen p.old.text behind brackets.old.items }
     ensures { IfOk result (λ on. LexemePassed p.old next p.new brackets.new.items on) }
 {
@@ -70,10 +70,22 @@ fn pass_lexeme<C: ParserConfig>(
         Kind::RCurly => close_bracket(p, brackets, OpenBracket::Curly, next.span().end),
         Kind::Undetermined => note_unclosed(p, brackets),
         Kind::Eof => note_unclosed(p, brackets),
-        Kind::RAngle => Ok(false),
         Kind::Slash | Kind::SlashEq => Ok(false),
         Kind::TemplateHead | Kind::TemplateMiddle | Kind::TemplateTail => Ok(false),
         _ => Ok(true),
+    }
+}
+
+/// The whole lexeme of the plain lexical goal that stands behind a place.
+fn whole_behind<C: ParserConfig>(p: &ParserImpl<'_, C>, place: u32) -> Result<Token, NoMemory>
+    requires at { Standing p.now }
+    requires between { IsCharBoundary p.now.text place }
+    ensures { IfOk result (λ t. WholeBehind p.now.text place t) }
+{
+    let next = p.lexer.token_behind(place)?;
+    match next.kind() {
+        Kind::RAngle => Ok(p.lexer.whole_right_angle(place, next)),
+        _ => Ok(next),
     }
 }
 
