@@ -135,11 +135,11 @@ fn parse_catch_parameter<C: ParserConfig, N: Nested<C>>(
     advance(p)?;
     let start = p.cur_start();
     let binding = nested.binding(p)?;
+    let span = p.end_span(start);
+    let node = make_one(p, NodeKind::CatchParameter, Op::None, span, binding)?;
     if p.at(Kind::Colon) {
         return Err(refuse_annotation(p));
     }
-    let span = p.end_span(start);
-    let node = make_one(p, NodeKind::CatchParameter, Op::None, span, binding)?;
     p.expect(Kind::RParen)?;
     Ok(Some(node))
 }
