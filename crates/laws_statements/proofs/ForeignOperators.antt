@@ -1,5 +1,5 @@
 -- Operators of TypeScript behind an expression: they are told, and no statement ends before one.
-use Rattle.std.proofs.Common.{ℕ, ◌≡◌, inl, inr, Bool, true, false, not, ◌&&◌, ◌||◌, IsTrue, List, [], ◌∷◌, length, None, Some, refl, sym, ap, subst, ◌∙◌}
+use Rattle.std.proofs.Common.{ℕ, ◌≡◌, inl, inr, Bool, true, false, not, ◌&&◌, ◌||◌, IsTrue, List, [], ◌∷◌, length, Option, None, Some, refl, sym, ap, subst, ◌∙◌}
 use Rattle.std.proofs.lemmas.Bool.{and_from, false≢true, or_left}
 use Rattle.js_base.specs.declared.diagnostic.DiagnosticKind.{DiagnosticKind}
 use Rattle.js_base.specs.declared.diagnostic.DiagnosticKind.TheVariants.{AsInTs, SatisfiesInTs}
@@ -89,6 +89,10 @@ marked p k a h = record {
 unended : (q : Parser) (w : Kind) → q.token.kind ≡ w → q.token.is_on_new_line ≡ false → ends_statement w ≡ false → MayEnd q → ⊥
 unended q w k o e (inl h) = false≢true (sym e ∙ (sym (ap ends_statement k) ∙ h))
 unended q w k o e (inr h) = false≢true (sym o ∙ h)
+
+-- what was found
+pub found_foreign : {q : Parser} {n m : ℕ} {o : Option DiagnosticKind} {k : DiagnosticKind} → o ≡ Some k → n ≡ m → FindsForeign n q o → FindsForeign m q (Some k)
+found_foreign {q} {n} {m} {o} {k} e i h = subst (λ (v : ℕ). FindsForeign v q (Some k)) i (subst (λ (v : Option DiagnosticKind). FindsForeign n q v) e h)
 
 -- it has its mark
 pub foreign_marked : {text : List ℕ} {f : Flags} {p q : Parser} {id : NodeId} (k : DiagnosticKind) → At text f p → Numbered text f (at Expression f) p q id → FindsForeign (length p.errors) q (Some k) → Mark (goal q) q.text (unrelated_at k q.token.span)
