@@ -92,14 +92,17 @@ module _ {text : List ℕ} {f : Flags} {p : Parser} (t : Token) (a : At text f p
     within = l.lies.ends_whole.0;
     begins_between = l.lies.starts_whole;
     ends_between = l.lies.ends_whole;
-    stands = (record {
-      place = l.place;
-      first = l.lexeme;
-      second = named.0;
-      part = record { reached = l.reached; lexed = (l.stood, subst (λ (v : ℕ). NextLexeme all_faults p.text v named.0) (sym l.ends) (subst (λ (v : List ℕ). NextLexeme all_faults v p.prev_token_end named.0) (sym a.text_is) named.1)) };
-      is = (sym l.tells.start, sym l.tells.end);
-      passes = and_from (of_kinds modifier_kinds l.lexeme) _ (and_from (one_of_kinds modifier_kinds l.lexeme.kind) (not l.lexeme.escaped) (subst (λ (v : Kind). one_of_kinds modifier_kinds v ≡ true) l.tells.kind (plain_modifier t parts.2).0) (ap not (sym l.tells.escaped ∙ (plain_modifier t parts.2).1))) named.2;
-    }, (refl, refl));
+    stands = (
+      record {
+        place = l.place;
+        first = l.lexeme;
+        second = named.0;
+        part = record { reached = l.reached; lexed = (l.stood, subst (λ (v : ℕ). NextLexeme all_faults p.text v named.0) (sym l.ends) (subst (λ (v : List ℕ). NextLexeme all_faults v p.prev_token_end named.0) (sym a.text_is) named.1)) };
+        is = (sym l.tells.start, sym l.tells.end);
+        passes = and_from (of_kinds modifier_kinds l.lexeme) _ (and_from (one_of_kinds modifier_kinds l.lexeme.kind) (not l.lexeme.escaped) (subst (λ (v : Kind). one_of_kinds modifier_kinds v ≡ true) l.tells.kind (plain_modifier t parts.2).0) (ap not (sym l.tells.escaped ∙ (plain_modifier t parts.2).1))) named.2;
+      },
+      (refl, refl),
+    );
   })
 
   unended : MayEnd p → ⊥
