@@ -3,15 +3,13 @@ use Rattle.std.proofs.Common.{ℕ, ◌≡◌, inl, inr, max, Bool, true, false, 
 use Rattle.std.specs.Prelude.{Result, Ok, Err}
 use Rattle.std.proofs.lemmas.Bool.{false≢true, and_from, and_parts, or_left, or_right}
 use Rattle.js_base.specs.declared.kind.Kind.{Kind}
-use Rattle.js_base.specs.declared.kind.Kind.TheVariants.{Colon, Comma, Eof, Eq, LParen, Semicolon}
+use Rattle.js_base.specs.declared.kind.Kind.TheVariants.{Comma, Eof, Eq, LParen, Semicolon}
 use Rattle.js_base.specs.Kinds.{same_kind, one_of_kinds}
-use Rattle.js_base.specs.Texts.{words}
 use Rattle.js_base.specs.declared.diagnostic.Diagnostic.{Diagnostic}
 use Rattle.js_grammar.specs.Trees.{Label, NodeKind, Slots, end, hole, tree, no_op}
 use Rattle.js_grammar.specs.Grammar.{Lexeme, Lexemes, Look, begins_with_brace, ended, empty_slot, here, is, kept, may_omit, nothing, seen, semicolon, Takes, is_empty_slot, is_left, is_lexeme, is_look, is_kept, is_node, is_right, is_seq, is_such, ◌▸◌}
 use Rattle.js_grammar.specs.Insertion.{Row, after_name, by_edge, by_field, goes_on}
 use Rattle.js_grammar.specs.Lexed.{Lexes}
-use Rattle.js_grammar.specs.Marks.{Mark}
 use Rattle.js_grammar.specs.Parsing.{Test, plain, full, behind, Admits, Goes, Fails}
 use Rattle.js_grammar.specs.Productions.{G, Flags, at, field_of, make, slot, Assignment, Init}
 use Rattle.js_grammar.specs.Productions.{sym as symbol}
@@ -26,17 +24,15 @@ use Rattle.laws_primary.specs.js_tree.declared.id.NodeId.{NodeId}
 use Rattle.laws_primary.specs.js_tree.Nodes.{Node}
 use Rattle.laws_primary.specs.js_tree.Holding.{Holds, HoldsAll, Keeps}
 use Rattle.laws_primary.proofs.laws_shared.js_tree.HoldingLemmas.{HoldsAll-hole, HoldsAll-one, Keeps-trans, Keeps-made}
-use Rattle.laws_primary.specs.js_cursor.Moves.{EndsOr, GivesUp, MayEnd, ends_statement}
+use Rattle.laws_primary.specs.js_cursor.Moves.{EndsOr, GivesUp, IsUnexpected, MayEnd, ends_statement}
 use Rattle.laws_primary.specs.js_cursor.declared.stop.Stop.TheVariants.{Fatal, NoMemory}
-use Rattle.js_base.specs.declared.diagnostic.DiagnosticKind.TheVariants.{ExpectToken, TypeAnnotationInTs}
-use Rattle.laws_primary.proofs.laws_shared.Classes.{gives_up_by, here_ends}
-use Rattle.laws_primary.proofs.laws_shared.Giving.{gives_up}
+use Rattle.js_base.specs.declared.diagnostic.DiagnosticKind.TheVariants.{ExpectToken}
+use Rattle.laws_primary.proofs.laws_shared.Classes.{here_ends}
+use Rattle.laws_primary.proofs.laws_shared.Giving.{gives_up, gives_up_here}
 use Rattle.laws_classes.specs.declared.forms.FieldKind.{FieldKind}
 use Rattle.laws_classes.specs.declared.forms.FieldKind.TheVariants.{Accessor, Property}
 use Rattle.laws_primary.specs.js_cursor.Parsers.{Parser}
-use Rattle.laws_primary.specs.js_cursor.Places.{goal}
 use Rattle.laws_primary.specs.laws_shared.Classes.{EndsParse}
-use Rattle.laws_primary.specs.laws_shared.Told.{unrelated_at}
 use Rattle.laws_primary.specs.js_cursor.declared.stop.Stop.{Stop}
 use Rattle.laws_primary.specs.laws_shared.Answers.{Answer, Numbered, Stops, Underived, beside}
 use Rattle.laws_primary.specs.laws_shared.Lexemes.{Lex, Plain}
@@ -54,7 +50,6 @@ use Rattle.laws_primary.proofs.laws_shared.Signs.{other_kind, plain_sign}
 use Rattle.laws_primary.proofs.laws_shared.Tight.{narrows, plain_lex}
 use Rattle.laws_primary.proofs.laws_shared.Verdicts.{behind_none, grown_then, verdict_of}
 use Rattle.laws_primary.proofs.laws_shared.Verdicts.{after as grown_behind}
-use Rattle.laws_primary.proofs.Members.{kind_marked}
 use Rattle.laws_primary.proofs.Properties.{kinds_apart}
 use Rattle.laws_statements.proofs.Statements.{◌⟝◌, Ended, closer_here, closers, ended_so, no_semicolon, omits_stopped, semicolon_path, unended, whole_semicolon}
 use Rattle.parse_declarations.specs.Declarations.{stops_row}
@@ -374,10 +369,5 @@ end_told p q (Err NoMemory) a i e = tt
 pub no_end_told : {text : List ℕ} {f : Flags} (p q : Parser) (e : Stop) → At text f p → one_of_kinds behind_kinds p.token.kind ≡ false → GivesUp EndsParse p q e → Stops p q e (NoFieldEnd p)
 no_end_told p q e a i g = gives_up EndsParse p q e a g (λ d u. u) (inl i)
 
--- what is told of a colon behind a field
-pub colon_marked : {text : List ℕ} {f : Flags} {p : Parser} {d : Diagnostic} → At text f p → p.token.kind ≡ Colon → d ≡ unrelated_at TypeAnnotationInTs p.token.span → Mark (goal p) p.text d
-unfolding words
-colon_marked {p = p} a k e = subst (λ (v : Diagnostic). Mark (goal p) p.text v) (sym e) (kind_marked Colon refl refl TypeAnnotationInTs p.token.span (λ s x. (x, (refl, refl))) a (k, plain_sign Colon a k refl refl refl) refl)
-
-pub colon_ends : (p q : Parser) (d : Diagnostic) (e : Stop) → d ≡ unrelated_at TypeAnnotationInTs p.token.span → GivesUp (λ v. v ≡ d) p q e → GivesUp EndsParse p q e
-colon_ends p q d e i g = gives_up_by p q e g (λ v u. subst EndsParse (sym (u ∙ i)) refl)
+pub no_end_unexpected : {text : List ℕ} {f : Flags} (p q : Parser) (e : Stop) → At text f p → one_of_kinds behind_kinds p.token.kind ≡ false → GivesUp (IsUnexpected p) p q e → Stops p q e (NoFieldEnd p)
+no_end_unexpected p q e a i g = gives_up_here p q e a g (inl i)

@@ -18,5 +18,6 @@ pub mod NameTests
 pub mod Members
 pub mod Methods
 pub mod ClassElements
+pub mod Modifiers
 pub mod StaticBlocks
 pub use Rattle.laws_primary.proofs as laws_primary

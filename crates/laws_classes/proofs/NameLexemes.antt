@@ -18,11 +18,11 @@ use Rattle.laws_primary.proofs.Properties.{kinds_apart}
 use Rattle.laws_classes.specs.Elements.{name_kinds}
 
 module _ {text : List ℕ} {f : Flags} {p : Parser} (a : At text f p) (i : one_of_kinds name_kinds p.token.kind ≡ true) where
-  name_plain : (same_kind RAngle p.token.kind ≡ false) × (one_of_kinds signs p.token.kind ≡ false)
+  pub name_plain : (same_kind RAngle p.token.kind ≡ false) × (one_of_kinds signs p.token.kind ≡ false)
   unfolding apart
   name_plain = settled_kind p.token.kind (kinds_apart name_kinds unsettled refl p.token.kind i)
 
-  name_passable : is_last p.token.kind ≡ false
+  pub name_passable : is_last p.token.kind ≡ false
   unfolding apart
   name_passable = by (is_last p.token.kind) refl
     where

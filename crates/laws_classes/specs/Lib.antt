@@ -5,5 +5,6 @@ pub mod Names
 pub mod SpecialMethods
 pub mod Members
 pub mod Methods
+pub mod Modifiers
 pub mod StaticBlocks
 pub use Rattle.laws_primary.specs as laws_primary

@@ -3,7 +3,7 @@ use Rattle.std.proofs.Common.{ℕ, ◌≡◌, max, List, [], ◌∷◌, length, 
 use Rattle.std.specs.Prelude.{Result, Ok, Err, MatchResult, IsCharBoundary}
 use Rattle.std.proofs.lemmas.Bool.{false≢true}
 use Rattle.js_base.specs.declared.kind.Kind.{Kind}
-use Rattle.js_base.specs.declared.kind.Kind.TheVariants.{RAngle, LBrack, LCurly, RBrack, RCurly, RParen, Comma, Dot3, Eq}
+use Rattle.js_base.specs.declared.kind.Kind.TheVariants.{RAngle, LBrack, LCurly, RBrack, RCurly, RParen, Colon, Comma, Dot3, Eq}
 use Rattle.js_base.specs.declared.span.Span.{Span}
 use Rattle.js_base.specs.Kinds.{same_kind, one_of_kinds}
 use Rattle.js_base.specs.KindSets.{binding_identifier_kinds}
@@ -186,6 +186,10 @@ module _ {text : List ℕ} {f : Flags} {p q : Parser} (x : Answer text f (at Bin
 -- `=` ends no item
 pub no_end_here : {text : List ℕ} {f : Flags} {q : Parser} → At text f q → q.token.kind ≡ Eq → Fails rule (Lex text) behind_item end nothing q.prev_token_end
 no_end_here a k = fails_nothing (λ ts y l e. false≢true (subst (λ (v : Kind). one_of_kinds (Comma ∷ RParen ∷ RBrack ∷ RCurly ∷ []) v ≡ true) (kind_here a k refl y l) e.0))
+
+-- nor does a colon
+pub no_colon_ends : {text : List ℕ} {f : Flags} {q : Parser} → At text f q → q.token.kind ≡ Colon → Fails rule (Lex text) behind_item end nothing q.prev_token_end
+no_colon_ends a k = fails_nothing (λ ts y l e. false≢true (subst (λ (v : Kind). one_of_kinds (Comma ∷ RParen ∷ RBrack ∷ RCurly ∷ []) v ≡ true) (kind_here a k refl y l) e.0))
 
 -- an initialiser ends before what ends an item
 pub on_initialiser : (f : Flags) {s : ℕ} → On rule behind_item (after (at Assignment (plus_in f))) end (symbol Assignment (plus_in f)) s

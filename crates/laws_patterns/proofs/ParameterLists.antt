@@ -1,7 +1,7 @@
 -- Formal parameters (ECMA-262, 15.1): one of them, and their list in parentheses.
 use Rattle.std.proofs.Common.{ℕ, ◌≡◌, List, [], ◌∷◌, ◌++◌, length, Option, Some, None, false, refl, ap, subst, arith}
 use Rattle.js_base.specs.declared.kind.Kind.{Kind}
-use Rattle.js_base.specs.declared.kind.Kind.TheVariants.{LParen, RParen, LBrack, LCurly, RBrack, RCurly, Comma, Dot3, Eq}
+use Rattle.js_base.specs.declared.kind.Kind.TheVariants.{LParen, RParen, LBrack, LCurly, RBrack, RCurly, Colon, Comma, Dot3, Eq}
 use Rattle.js_base.specs.declared.span.Span.{Span}
 use Rattle.js_base.specs.Kinds.{one_of_kinds}
 use Rattle.js_base.specs.KindSets.{binding_identifier_kinds}
@@ -13,7 +13,7 @@ use Rattle.js_grammar.specs.Productions.{sym as symbol}
 use Rattle.js_grammar.specs.Table.{rest_of, rule, rule_of}
 use Rattle.js_grammar.specs.Follow.{after}
 use Rattle.js_grammar.proofs.Looks.{covers, apart}
-use Rattle.js_grammar.proofs.Calculus.{◌▹◌, ◌▹✗◌, left, right, part_fails, weaken_fails_on, fails_node, fails_rule, inside_full, inside_plain, reads_empty_slot}
+use Rattle.js_grammar.proofs.Calculus.{◌▹◌, ◌▹✗◌, left, right, fails_alt, part_fails, weaken_fails_on, fails_node, fails_rule, inside_full, inside_plain, reads_empty_slot}
 use Rattle.js_grammar.proofs.FollowLaws.{fails_by}
 use Rattle.laws_shared.specs.js_tree.declared.id.NodeId.{NodeId}
 use Rattle.laws_shared.specs.js_tree.declared.kind.NodeKind.TheVariants as node_kind
@@ -21,10 +21,12 @@ use Rattle.laws_shared.specs.js_tree.declared.op.Op.TheVariants as op_made
 use Rattle.laws_shared.specs.js_tree.Nodes.{Node}
 use Rattle.laws_shared.specs.js_tree.Holding.{Holds, HoldsAll, Keeps}
 use Rattle.laws_shared.proofs.js_tree.HoldingLemmas.{HoldsAll-one, HoldsAll-hole, HoldsAll-none, Keeps-trans, Keeps-made}
+use Rattle.laws_shared.specs.js_cursor.Moves.{GivesUp}
 use Rattle.laws_shared.specs.js_cursor.Parsers.{Parser}
 use Rattle.laws_shared.specs.js_cursor.declared.stop.Stop.{Stop}
 use Rattle.laws_shared.specs.Answers.{Underived, Answer, Numbered, Stops}
 use Rattle.laws_shared.specs.Arguments.{Partway, behind_item, ItemTaken, NoItem}
+use Rattle.laws_shared.specs.Classes.{EndsParse}
 use Rattle.laws_shared.specs.Lexemes.{Lex}
 use Rattle.laws_shared.specs.Lists.{NoneLeft, OneMore}
 use Rattle.laws_shared.specs.Moves.{Moved, MadeHere, plain_label}
@@ -33,7 +35,8 @@ use Rattle.laws_patterns.specs.Parameters.{parameters_left}
 use Rattle.laws_shared.specs.States.{At}
 use Rattle.laws_primary.proofs.ArgumentLists.{none_there}
 use Rattle.laws_primary.proofs.Arrays.{behind_one}
-use Rattle.laws_patterns.proofs.Bindings.{binding_read, ended_by, item_answers, no_end_here, on_initialiser, ends_itself}
+use Rattle.laws_patterns.proofs.Bindings.{binding_read, ended_by, item_answers, no_colon_ends, no_end_here, on_initialiser, ends_itself}
+use Rattle.laws_shared.proofs.Giving.{gives_up}
 use Rattle.laws_shared.proofs.Signs.{other_kind, plain_sign}
 use Rattle.laws_patterns.proofs.Lists.{end_due, item_comma, item_due, item_fails, item_last, item_more, last_due, more_from, none_yet, rest_fails, rest_more}
 use Rattle.laws_patterns.proofs.ObjectLists.{no_gap}
@@ -56,6 +59,11 @@ module _ {text : List ℕ} {f : Flags} {p q : Parser} (a : At text f p) (x : Ans
   parameter_alone : (q.token.kind ≡ Eq → ⊥) → Path text f behind_item (symbol Param f) p nothing q (tree (label_here formal_parameter no_op p q) (tree x.label x.slots (hole end)))
   unfolding rule rule_of covers apart
   parameter_alone n = by_symbol_as {X' = plain full} (λ l cs vs y d. (refl, refl)) (noded a (ended_by (binding_read x) (right (fails_at x.at (symbol Init (plus_in f)) (Eq ∷ []) refl (other_kind Eq q.token.kind n)) ▹ reads_empty_slot)))
+
+  -- nor may a colon stand behind it
+  annotated_fails : q.token.kind ≡ Colon → NoItem text (at Param f) p.prev_token_end
+  unfolding rule rule_of covers apart
+  annotated_fails k = fails_rule {X' = behind_item} (λ l cs vs y d. (d.0, refl)) (fails_node (inside_plain {F' = next_kinds} ends_itself) (binding_read x ⟶✗ fails_alt (fails_at x.at (symbol Init (plus_in f)) (Eq ∷ []) refl (ap (one_of_kinds (Eq ∷ [])) k)) (reads_empty_slot ▹✗ no_colon_ends x.at k)))
 
   module _ {r : Parser} (k : q.token.kind ≡ Eq) (m : Moved text f q r) where
     no_slot : Fails rule (Lex text) behind_item end empty_slot q.prev_token_end
@@ -86,6 +94,10 @@ module _ {text : List ℕ} {f : Flags} {p q : Parser} {bound : NodeId} (a : At t
       let l : plain_label node_kind.FormalParameter op_made.None s ≡ label_here formal_parameter no_op p q = rw (b, d) refl in
       let y : MadeHere (label_here formal_parameter no_op p q) (Some bound ∷ None ∷ []) q w id = subst (λ (v : Label). MadeHere v (Some bound ∷ None ∷ []) q w id) l m in
       item_answers w (parameter_alone a x.answer n) x.answer.same y.stays (node_held y (HoldsAll-hole (HoldsAll-one bound x.holds))) (Keeps-trans x.keeps (Keeps-made y.made)) (made_lies x.answer.same x.answer.at.at (let a = x.answer.further in omega arith) y refl)
+
+  -- a colon stands behind what is bound
+  pub annotated : q.token.kind ≡ Colon → (w : Parser) (e : Stop) → GivesUp EndsParse q w e → Stops p w e (NoItem text (at Param f) p.prev_token_end)
+  annotated k w e g = stops_behind w e x.answer.same (λ h. grown_behind x.answer.verdict h) (λ n. n) (gives_up EndsParse q w e x.answer.at g (λ d u. u) (annotated_fails a x.answer k))
 
   module _ {r : Parser} (k : q.token.kind ≡ Eq) (m : Moved text f q r) where
     pub with_initialiser : {w z : Parser} {value id : NodeId} (s : Span) → (y : Numbered text f (at Assignment (plus_in f)) r w value) → s.start ≡ p.token.span.start → s.end ≡ w.prev_token_end → MadeHere (plain_label node_kind.FormalParameter op_made.None s) (Some bound ∷ Some value ∷ []) w z id → ItemTaken text f (at Param f) p z id

@@ -1,8 +1,7 @@
 -- Classes (ECMA-262, 15.7), part by part: their names, their heritage and their bodies.
 use Rattle.std.proofs.Common.{ℕ, ◌≡◌, true, false, List, [], ◌∷◌, ◌++◌, length, Option, Some, None, refl, sym, ap, subst, arith, ◌∙◌}
 use Rattle.std.specs.Prelude.{Ok, Err}
-use Rattle.js_base.specs.declared.diagnostic.Diagnostic.{Diagnostic}
-use Rattle.js_base.specs.declared.diagnostic.DiagnosticKind.TheVariants.{ExpectClassName, ImplementsClauseInTs}
+use Rattle.js_base.specs.declared.diagnostic.DiagnosticKind.TheVariants.{ImplementsClauseInTs}
 use Rattle.js_base.specs.declared.kind.Kind.TheVariants.{At as at_sign, Class as a_class, Extends, Implements, LCurly, Undetermined}
 use Rattle.js_base.specs.Kinds.{one_of_kinds}
 use Rattle.js_grammar.specs.Marks.{Mark, the_end, the_start}
@@ -21,7 +20,7 @@ use Rattle.js_grammar.proofs.FollowLaws.{fails_by, surely}
 use Rattle.laws_shared.specs.js_tree.declared.id.NodeId.{NodeId}
 use Rattle.laws_shared.specs.js_tree.Holding.{HoldsAll}
 use Rattle.laws_shared.proofs.js_tree.HoldingLemmas.{HoldsAll-none, Keeps-made, Keeps-trans}
-use Rattle.laws_shared.specs.js_cursor.Moves.{GivesUp, IsUnexpected, at_lexeme}
+use Rattle.laws_shared.specs.js_cursor.Moves.{GivesUp, at_lexeme}
 use Rattle.laws_shared.specs.js_cursor.Parsers.{Parser}
 use Rattle.laws_shared.specs.js_cursor.Places.{IsAt, goal}
 use Rattle.laws_shared.specs.js_cursor.declared.stop.Stop.{Stop}
@@ -34,7 +33,6 @@ use Rattle.laws_shared.specs.Moves.{MadeHere, Moved}
 use Rattle.laws_shared.specs.Stands.{NameHere, StandsHere}
 use Rattle.laws_shared.specs.States.{At}
 use Rattle.laws_shared.specs.Told.{unrelated_at}
-use Rattle.laws_shared.proofs.Classes.{gives_up_by, unexpected_ends}
 use Rattle.laws_shared.proofs.Expected.{not_due}
 use Rattle.laws_shared.proofs.Giving.{gives_up}
 use Rattle.laws_shared.proofs.MadeNodes.{node_held, one_lies}
@@ -51,7 +49,7 @@ use Rattle.laws_primary.proofs.Decorators.{kept_none, no_decorator, none_kept}
 use Rattle.laws_primary.proofs.Functions.{name_numbered, no_name_part, part_hole}
 use Rattle.laws_primary.specs.declared.forms.ClassForm.{ClassForm}
 use Rattle.laws_primary.specs.declared.forms.ClassForm.TheVariants.{Declaration, Expression}
-use Rattle.laws_primary.specs.Classes.{NamesClass, NoClass, NoHeritage, NoNamed, TakesHeritage, behind_heritage, behind_name, class_label, class_name, class_slots, name_part, nameless_class}
+use Rattle.laws_primary.specs.Classes.{NamesClass, NoClass, NoHeritage, NoNamed, TakesHeritage, behind_heritage, behind_name, class_label, class_name, class_slots, name_part}
 
 -- ---- the name
 
@@ -155,18 +153,9 @@ class_answers {text} {f} {p} {t} {w} {ids} {id} form a x e n = go form x made
     go Declaration y n = by_path (class_path Declaration a y) y.same n.stays (λ z l. refl) refl (node_held n (held Declaration y)) (Keeps-trans y.keeps (Keeps-made n.made)) refl (one_lies n)
     go Expression y n = by_path (class_path Expression a y) y.same n.stays (λ z l. refl) refl (node_held n (held Expression y)) (Keeps-trans y.keeps (Keeps-made n.made)) refl (one_lies n)
 
--- ---- what is told where a name is missing
+-- ---- where a name is missing
 
-pub nameless_marked : (p : Parser) {d : Diagnostic} → IsAt p → (p.token.kind ≡ Undetermined → ⊥) → d ≡ nameless_class p.token.span → Mark (goal p) p.text d
-nameless_marked p a n e = subst (λ (v : Diagnostic). Mark (goal p) p.text v) (sym e) (mark_here ExpectClassName p.token.span None a (at_lexeme n refl) (λ s l i. ((the_start l.of_text l.is.0, the_end l.of_text l.is.1), (refl, refl))))
-
-pub nameless_ends : (p q : Parser) (d : Diagnostic) (e : Stop) → d ≡ nameless_class p.token.span → GivesUp (λ v. v ≡ d) p q e → GivesUp EndsParse p q e
-nameless_ends p q d e i g = gives_up_by p q e g (λ v u. subst EndsParse (sym (u ∙ i)) refl)
-
-pub lexeme_ends : (p q : Parser) (e : Stop) → IsAt p → GivesUp (IsUnexpected p) p q e → GivesUp EndsParse p q e
-lexeme_ends p q e a g = gives_up_by p q e g (λ d u. unexpected_ends a d u)
-
--- so a declaration is refused
+-- a declaration is refused
 pub name_refused : (form : ClassForm) (p q : Parser) (e : Stop) → (form ≡ Expression → ⊥) → NameHere p false → GivesUp EndsParse p q e → NamesClass form p q (Err e)
 name_refused Declaration p q e i h g = λ text f a. gives_up EndsParse p q e a g (λ d u. u) (unnamed a h)
 name_refused Expression p q e i h g = absurd (i refl)
@@ -178,8 +167,5 @@ pub unembodied : {text : List ℕ} {f : Flags} {p : Parser} → At text f p → 
 unfolding covers apart
 unembodied {f = f} a k = fails_at a (symbol ClassBody f) (LCurly ∷ []) refl (ap (one_of_kinds (LCurly ∷ [])) k)
 
-pub implements_marked : (p : Parser) {d : Diagnostic} → IsAt p → p.token.kind ≡ Implements → d ≡ unrelated_at ImplementsClauseInTs p.token.span → Mark (goal p) p.text d
-implements_marked p a k e = subst (λ (v : Diagnostic). Mark (goal p) p.text v) (sym e) (mark_here ImplementsClauseInTs p.token.span None a (at_lexeme (λ i. let z : Implements ≡ Undetermined = sym k ∙ i in cc) refl) (λ s l i. ((the_start l.of_text l.is.0, the_end l.of_text l.is.1), (refl, refl))))
-
-pub implements_ends : (p q : Parser) (d : Diagnostic) (e : Stop) → d ≡ unrelated_at ImplementsClauseInTs p.token.span → GivesUp (λ v. v ≡ d) p q e → GivesUp EndsParse p q e
-implements_ends p q d e i g = gives_up_by p q e g (λ v u. subst EndsParse (sym (u ∙ i)) refl)
+pub implements_marked : (p : Parser) → IsAt p → p.token.kind ≡ Implements → Mark (goal p) p.text (unrelated_at ImplementsClauseInTs p.token.span)
+implements_marked p a k = mark_here ImplementsClauseInTs p.token.span None a (at_lexeme (λ i. let z : Implements ≡ Undetermined = sym k ∙ i in cc) refl) (λ s l i. ((the_start l.of_text l.is.0, the_end l.of_text l.is.1), (refl, refl)))

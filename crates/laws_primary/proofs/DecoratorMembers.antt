@@ -4,8 +4,7 @@ use Rattle.std.specs.Prelude.{Result, Ok, Err}
 use Rattle.std.proofs.lemmas.Bool.{false≢true, and_from, or_left}
 use Rattle.js_base.specs.declared.kind.Kind.{Kind}
 use Rattle.js_base.specs.declared.diagnostic.Diagnostic.{Diagnostic}
-use Rattle.js_base.specs.declared.diagnostic.DiagnosticKind.TheVariants.{DecoratorForm}
-use Rattle.js_base.specs.declared.kind.Kind.TheVariants.{At as at_sign, Dot, LBrack, LParen, QuestionDot, Undetermined}
+use Rattle.js_base.specs.declared.kind.Kind.TheVariants.{At as at_sign, Dot, LBrack, LParen, QuestionDot}
 use Rattle.js_base.specs.declared.span.Span.{Span}
 use Rattle.js_base.specs.Texts.{words}
 use Rattle.js_base.specs.Contexts.{has_flag, yield_flag, await_flag}
@@ -27,7 +26,6 @@ use Rattle.js_grammar.proofs.FirstClaims.{firsts}
 use Rattle.js_grammar.proofs.FirstRules.{by_first, fails_here}
 use Rattle.js_grammar.proofs.FollowLaws.{admits, fails_by, surely}
 use Rattle.js_grammar.proofs.Lexemes.{first_or}
-use Rattle.js_grammar.specs.Marks.{Mark, the_end, the_start}
 use Rattle.js_grammar.proofs.Loops.{chain_start, chain_start_fails, chain_step_by, chain_step_fails_by, chain_end, linked_starts, beginning, unfollowed}
 use Rattle.js_grammar.proofs.Towers.{OneOf, head, later}
 use Rattle.js_grammar.proofs.Chains.{climbs, decorator_links}
@@ -39,9 +37,7 @@ use Rattle.laws_shared.specs.js_tree.Holding.{Holds, Keeps}
 use Rattle.laws_shared.proofs.js_tree.HoldingLemmas.{Keeps-refl, Keeps-trans, Keeps-made}
 use Rattle.laws_shared.specs.js_cursor.Parsers.{Parser}
 use Rattle.laws_shared.specs.js_cursor.declared.stop.Stop.{Stop}
-use Rattle.laws_shared.specs.js_cursor.Moves.{GivesUp, at_lexeme}
-use Rattle.laws_shared.specs.js_cursor.Places.{IsAt, goal}
-use Rattle.laws_shared.proofs.js_cursor.Standing.{mark_here}
+use Rattle.laws_shared.specs.js_cursor.Moves.{GivesUp}
 use Rattle.laws_shared.specs.Classes.{EndsParse}
 use Rattle.laws_shared.specs.Lexemes.{Lex}
 use Rattle.laws_shared.specs.States.{At}
@@ -51,7 +47,6 @@ use Rattle.laws_shared.specs.Stands.{NameHere, NameUnder, StandsHere}
 use Rattle.laws_shared.proofs.Dead.{live, lives}
 use Rattle.laws_shared.proofs.Here.{begins_here}
 use Rattle.laws_shared.proofs.MadeNodes.{leaf_held, one_held, one_lies}
-use Rattle.laws_shared.proofs.Classes.{gives_up_by}
 use Rattle.laws_shared.proofs.Giving.{gives_up}
 use Rattle.laws_shared.proofs.Tight.{plain_lex}
 use Rattle.laws_shared.proofs.Moving.{same_both, stops_behind, stops_so}
@@ -61,7 +56,7 @@ use Rattle.laws_shared.proofs.Paths.{Path, ◌⟶◌, ◌⟶✗◌, label_here, 
 use Rattle.laws_shared.proofs.Signs.{AllAre, NoneIs, none_seen, plain_sign, stands_not, stands_there}
 use Rattle.laws_shared.proofs.Verdicts.{after as grown_behind, either_way, grown_then}
 use Rattle.laws_primary.specs.Members.{LinkForm, Linked, MakesWithArguments, NoLink, OnlyLink, Taken, by_call, by_index, by_name, by_private, chained, link_label, sign_of}
-use Rattle.laws_primary.specs.DecoratorMembers.{DecoratedOutcome, DecoratedTaken, NamedSoFar, NamesOutcome, NotDecorated, ParenthesesOutcome, ill_formed, behind_decorator, decorated}
+use Rattle.laws_primary.specs.DecoratorMembers.{DecoratedOutcome, DecoratedTaken, NamedSoFar, NamesOutcome, NotDecorated, ParenthesesOutcome, behind_decorator, decorated}
 use Rattle.laws_primary.proofs.Links.{other_link}
 use Rattle.laws_primary.proofs.Members.{call_here, call_link, link_taken, no_arguments_here, none_of_links, retake, taken}
 use Rattle.laws_primary.proofs.Operands.{by_path, name_leaf}
@@ -335,12 +330,6 @@ module _ {text : List ℕ} {f : Flags} {p q : Parser} (a : At text f p) (k : p.t
           by_path decorator_path (same_both m.same x.same) made.stays (λ y i. or_left _ _ (ap not (none_goes_on y (plain_lex i)))) refl (one_held p.nodes made (subst (λ (ns : List Node). Holds r.nodes (length ns) (length r.nodes) inside.0 x.label x.slots) m.nodes x.holds)) (Keeps-trans ks (Keeps-made made.made)) refl (one_lies made)
 
 -- ---- what is told of another form
-
-pub form_marked : (p : Parser) {d : Diagnostic} → IsAt p → (p.token.kind ≡ Undetermined → ⊥) → d ≡ ill_formed p.token.span → Mark (goal p) p.text d
-form_marked p a n e = subst (λ (v : Diagnostic). Mark (goal p) p.text v) (sym e) (mark_here DecoratorForm p.token.span None a (at_lexeme n refl) (λ s l i. ((the_start l.of_text l.is.0, the_end l.of_text l.is.1), (refl, refl))))
-
-pub form_ends : (p q : Parser) (d : Diagnostic) (e : Stop) → d ≡ ill_formed p.token.span → GivesUp (λ v. v ≡ d) p q e → GivesUp EndsParse p q e
-form_ends p q d e i g = gives_up_by p q e g (λ v u. subst EndsParse (sym (u ∙ i)) refl)
 
 -- no name stands here
 pub no_name_stops : {text : List ℕ} {f : Flags} {p : Parser} (q : Parser) (e : Stop) → At text f p → NameHere p false → GivesUp EndsParse p q e → NamesOutcome text f p q (Err e)

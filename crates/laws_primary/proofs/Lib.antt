@@ -34,6 +34,7 @@ pub mod SuperWords
 pub mod Supers
 pub mod Tame
 pub mod PartInsides
+pub mod PrivateKeys
 pub mod Templates
 pub mod Wholes
 pub mod WordProperties

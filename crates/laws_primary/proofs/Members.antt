@@ -6,9 +6,7 @@ use Rattle.std.specs.Prelude.{Result, Ok, Err, MatchResult}
 use Rattle.std.proofs.lemmas.Bool.{false≢true, and_parts, and_from}
 use Rattle.js_base.specs.declared.diagnostic.Diagnostic.{Diagnostic}
 use Rattle.js_base.specs.Texts.{words}
-use Rattle.laws_shared.specs.Classes.{EndsParse}
 use Rattle.laws_shared.specs.Told.{unrelated_at}
-use Rattle.laws_shared.proofs.Classes.{gives_up_by}
 use Rattle.js_base.specs.declared.kind.Kind.{Kind}
 use Rattle.js_base.specs.declared.kind.Kind.TheVariants.{RAngle, Import, New, Dot, QuestionDot, LParen, LBrack, NoSubstitutionTemplate, RBrack, PrivateIdentifier, Super as super_kind, TemplateHead, LAngle}
 use Rattle.js_base.specs.declared.span.Span.{Span}
@@ -1343,12 +1341,9 @@ pub sign_marked : {text : List ℕ} {f : Flags} {p : Parser} (k : DiagnosticKind
 sign_marked k s t a h e = kind_marked QuestionDot refl refl k s t a h e
 
 -- and of a `<` where an operand is due
-pub angle_marked : {text : List ℕ} {f : Flags} {p : Parser} {d : Diagnostic} → At text f p → p.token.kind ≡ LAngle → d ≡ unrelated_at fault.JsxInNonJsx p.token.span → Mark (goal p) p.text d
+pub angle_marked : {text : List ℕ} {f : Flags} {p : Parser} → At text f p → p.token.kind ≡ LAngle → Mark (goal p) p.text (unrelated_at fault.JsxInNonJsx p.token.span)
 unfolding words
-angle_marked {p = p} a k e = subst (λ (v : Diagnostic). Mark (goal p) p.text v) (sym e) (kind_marked LAngle refl refl fault.JsxInNonJsx p.token.span (λ s x. (x, (refl, refl))) a (k, plain_sign LAngle a k refl refl refl) refl)
-
-pub angle_ends : (p q : Parser) (d : Diagnostic) (e : Stop) → d ≡ unrelated_at fault.JsxInNonJsx p.token.span → GivesUp (λ v. v ≡ d) p q e → GivesUp EndsParse p q e
-angle_ends p q d e i g = gives_up_by p q e g (λ v u. subst EndsParse (sym (u ∙ i)) refl)
+angle_marked {p = p} a k = kind_marked LAngle refl refl fault.JsxInNonJsx p.token.span (λ s x. (x, (refl, refl))) a (k, plain_sign LAngle a k refl refl refl) refl
 
 -- and so it is behind it
 pub link_marked : {text : List ℕ} {f : Flags} {p q : Parser} (s : Span) → At text f p → StandsHere p QuestionDot true → s ≡ p.token.span → Moved text f p q → Mark (goal q) q.text (no_link_behind s)

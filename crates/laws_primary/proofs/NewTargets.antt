@@ -4,7 +4,6 @@ use Rattle.std.specs.Prelude.{Ok}
 use Rattle.std.proofs.lemmas.Bool.{false≢true, and_from, and_parts, or_left, or_right, not-true}
 use Rattle.js_base.specs.Kinds.{same_kind, one_of_kinds}
 use Rattle.js_base.specs.KindSets.{identifier_name_kinds}
-use Rattle.js_base.specs.Diagnostics.{class_of}
 use Rattle.js_base.specs.declared.diagnostic.Diagnostic.{Diagnostic}
 use Rattle.js_base.specs.declared.kind.Kind.{Kind}
 use Rattle.js_base.specs.declared.kind.Kind.TheVariants.{Dot, New, RAngle, Target}
@@ -44,7 +43,7 @@ use Rattle.laws_primary.specs.NewTargets.{BehindDot, BehindNew, ChecksTarget, no
 use Rattle.laws_primary.proofs.Links.{member_target, new_target, no_member_new, with_arguments}
 use Rattle.laws_primary.proofs.Members.{called_member, new_other, new_skips, no_import_at_new, no_primary, no_super_at_new}
 use Rattle.laws_shared.specs.Answers.{Grown, Stops, Stretch, Verdict, unclean}
-use Rattle.laws_shared.specs.Classes.{EndsParse, ends_parse}
+use Rattle.laws_shared.specs.Classes.{EndsParse}
 use Rattle.laws_shared.specs.Lexemes.{Lex, spot}
 use Rattle.laws_shared.specs.Moves.{MadeHere, Moved, plain_label}
 use Rattle.laws_shared.specs.Stands.{StandsHere}
@@ -182,10 +181,6 @@ module _ {text : List ℕ} {f : Flags} {q : Parser} {start : ℕ} (b : BehindDot
       (refl, refl),
     );
   }
-
--- and it ends the parse
-pub other_ends : (s : Span) (d : Diagnostic) → d ≡ no_target_at s → EndsParse d
-other_ends s d e = ap (λ (v : Diagnostic). ends_parse (class_of v.kind)) e
 
 pub ends_so : (P : Diagnostic → Type 0) (p q : Parser) (e : Stop) → ((d : Diagnostic) → P d → EndsParse d) → GivesUp P p q e → GivesUp EndsParse p q e
 ends_so P p q Fatal h (d, i, k) = (d, h d i, k)

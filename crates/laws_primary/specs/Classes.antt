@@ -1,7 +1,6 @@
 -- Classes (ECMA-262, 15.7): what stands before their bodies, and the whole.
 use Rattle.std.specs.Prelude.{ℕ, ◌≡◌, true, false, List, [], ◌∷◌, ◌++◌, Option, Some, None, Result, Ok, Err}
 use Rattle.js_base.specs.declared.diagnostic.Diagnostic.{Diagnostic}
-use Rattle.js_base.specs.declared.diagnostic.DiagnosticKind.TheVariants.{ExpectClassName}
 use Rattle.js_base.specs.declared.kind.Kind.TheVariants.{Extends}
 use Rattle.js_base.specs.declared.span.Span.{Span}
 use Rattle.js_grammar.specs.Trees.{Label, NodeKind, end, class_declaration, class_expression, no_op}
@@ -21,7 +20,6 @@ use Rattle.laws_shared.specs.Lexemes.{Lex}
 use Rattle.laws_shared.specs.Moves.{TakesLeaf}
 use Rattle.laws_shared.specs.Stands.{NameHere, StandsHere}
 use Rattle.laws_shared.specs.States.{At}
-use Rattle.laws_shared.specs.Told.{unrelated_at}
 use Rattle.laws_primary.specs.declared.forms.ClassForm.{ClassForm}
 use Rattle.laws_primary.specs.declared.forms.ClassForm.TheVariants.{Declaration, Expression}
 
@@ -64,10 +62,6 @@ NoNamed text form f s = Fails rule (Lex text) (plain full) end (name_part form f
 
 abbrev pub NoHeritage : List ℕ → Flags → ℕ → Type 0
 NoHeritage text f s = Fails rule (Lex text) (plain full) end (behind_name f) s
-
--- what is told of a declaration without a name
-abbrev pub nameless_class : Span → Diagnostic
-nameless_class s = unrelated_at ExpectClassName s
 
 -- The name of a class was read; or none stands here, which is so of an expression alone.
 abbrev pub NamesClass : ClassForm → Parser → Parser → Result (Option NodeId) Stop → Type 0

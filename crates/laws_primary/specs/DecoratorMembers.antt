@@ -1,7 +1,6 @@
 -- What the parse functions of decorators answer (of their proposal; no section of ECMA-262): how much was taken, and what that is.
 use Rattle.std.specs.Prelude.{ℕ, ◌∷◌, [], List, Result, Ok, Err, not}
 use Rattle.js_base.specs.declared.diagnostic.Diagnostic.{Diagnostic}
-use Rattle.js_base.specs.declared.diagnostic.DiagnosticKind.TheVariants.{DecoratorForm}
 use Rattle.js_base.specs.declared.kind.Kind.TheVariants.{Dot, LParen}
 use Rattle.js_base.specs.declared.span.Span.{Span}
 use Rattle.js_base.specs.Kinds.{one_of_kinds}
@@ -18,7 +17,6 @@ use Rattle.laws_shared.specs.js_cursor.Parsers.{Parser}
 use Rattle.laws_shared.specs.js_cursor.declared.stop.Stop.{Stop}
 use Rattle.laws_shared.specs.Lexemes.{Lex}
 use Rattle.laws_shared.specs.States.{At}
-use Rattle.laws_shared.specs.Told.{unrelated_at}
 use Rattle.laws_shared.specs.Answers.{Stretch, Underived, Stops}
 use Rattle.laws_primary.specs.Members.{Looped, Taken}
 
@@ -62,7 +60,3 @@ DecoratedOutcome text f p q (Err e) = Stops p q e (NotDecorated text f p.prev_to
 
 abbrev pub ReadsDecorated : Parser → Parser → Result NodeId Stop → Type 0
 ReadsDecorated p q r = (text : List ℕ) (f : Flags) → At text f p → DecoratedOutcome text f p q r
-
--- what is told where a decorator has another form
-abbrev pub ill_formed : Span → Diagnostic
-ill_formed s = unrelated_at DecoratorForm s

@@ -1,5 +1,5 @@
 -- Lists of statements in braces (ECMA-262, 14.2, 15.2).
-use Rattle.std.proofs.Common.{ℕ, ◌≡◌, ◌≤◌, max, List, ◌∷◌, length, Option, Bool, true, false, ◌||◌, refl, sym, ap, subst, arith, ◌∙◌}
+use Rattle.std.proofs.Common.{ℕ, ◌≡◌, ◌≤◌, max, List, [], ◌∷◌, length, Option, Bool, true, false, ◌||◌, refl, sym, ap, subst, arith, ◌∙◌}
 use Rattle.std.specs.Prelude.{Some, Err}
 use Rattle.std.proofs.lemmas.Bool.{false≢true}
 use Rattle.js_base.specs.declared.diagnostic.Diagnostic.{Diagnostic}
@@ -47,8 +47,8 @@ use Rattle.laws_shared.proofs.Giving.{fails_none, gives_up}
 use Rattle.laws_shared.proofs.Here.{kind_here, uncut}
 use Rattle.laws_shared.proofs.MadeNodes.{node_held, one_lies}
 use Rattle.laws_shared.proofs.Moving.{moves, same_both, stops_behind}
-use Rattle.laws_shared.proofs.Paths.{Path, ◌⟶◌, ◌⟶✗◌, at_kind, at_kinds, label_here, last_token, noded, token, walked_both}
-use Rattle.laws_shared.proofs.Signs.{plain_sign}
+use Rattle.laws_shared.proofs.Paths.{Path, ◌⟶◌, ◌⟶✗◌, at_kind, at_kinds, fails_at, label_here, last_token, noded, token, walked_both}
+use Rattle.laws_shared.proofs.Signs.{other_kind, plain_sign}
 use Rattle.laws_shared.proofs.Verdicts.{and_then, grown_then, verdict_of}
 use Rattle.laws_shared.proofs.Verdicts.{after as grown_behind}
 use Rattle.parse_declarations.proofs.laws_primary.Operands.{by_path}
@@ -208,6 +208,11 @@ module _ {text : List ℕ} {f : Flags} {p : Parser} (a : At text f p) (k : p.tok
         by_statement (block_path b) (never_open (label_here block_statement no_op p q) (x.slots end) refl) x.same made.stays (node_held made x.holds) (Keeps-trans x.keeps (Keeps-made made.made)) refl (one_lies made)
 
 -- ---- a function's body
+
+-- no brace opens one
+pub bodiless : {text : List ℕ} {f : Flags} {p : Parser} → At text f p → (p.token.kind ≡ kind.LCurly → ⊥) → Underived text (at Body f) p.prev_token_end
+unfolding covers apart
+bodiless {f = f} {p = p} a n = fails_at a (symbol Body f) (kind.LCurly ∷ []) refl (other_kind kind.LCurly p.token.kind n)
 
 pub body_none : {text : List ℕ} {f : Flags} {s : ℕ} → NoBraces text list.Body f s → Underived text (at Body f) s
 unfolding rule rule_of

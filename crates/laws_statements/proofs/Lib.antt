@@ -8,6 +8,7 @@ pub mod ForDeclarations
 pub mod ForHeads
 pub mod ForParts
 pub mod ForStatements
+pub mod ForeignOperators
 pub mod FunctionStatements
 pub mod Labels
 pub mod LetStatements

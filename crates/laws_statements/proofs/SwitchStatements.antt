@@ -3,7 +3,7 @@ use Rattle.std.proofs.Common.{ℕ, ◌≡◌, ◌≤◌, ◌<◌, ◌⊎◌, inl
 use Rattle.std.specs.Prelude.{◌↔◌, Ok, Err}
 use Rattle.std.proofs.lemmas.Bool.{false≢true, and_parts, and_from}
 use Rattle.js_base.specs.declared.diagnostic.Diagnostic.{Diagnostic}
-use Rattle.js_base.specs.declared.diagnostic.DiagnosticKind.TheVariants.{ExpectSwitchClause, ExpectToken}
+use Rattle.js_base.specs.declared.diagnostic.DiagnosticKind.TheVariants.{ExpectToken}
 use Rattle.js_base.specs.declared.kind.Kind.{Kind}
 use Rattle.js_base.specs.declared.kind.Kind.TheVariants as kind
 use Rattle.js_base.specs.declared.source_type.SourceType.{SourceType}
@@ -16,7 +16,7 @@ use Rattle.js_grammar.specs.FirstSets.{first}
 use Rattle.js_grammar.proofs.First.{starts}
 use Rattle.js_grammar.specs.Trees.{Label, Slots, end, hole, tree, no_op, switch_statement}
 use Rattle.js_grammar.specs.Grammar.{nothing, never, ◌▸◌}
-use Rattle.js_grammar.specs.Marks.{BeginsWith, Mark, of_kinds, the_start, the_end}
+use Rattle.js_grammar.specs.Marks.{BeginsWith, Mark, of_kinds}
 use Rattle.js_grammar.specs.Parsing.{Test, plain, full, still, Goes, Fails}
 use Rattle.js_grammar.specs.Productions.{G, Flags, at, tok, Expression, Switch}
 use Rattle.js_grammar.specs.Productions.{Case as ACase}
@@ -36,25 +36,21 @@ use Rattle.laws_shared.specs.js_tree.declared.op.Op.TheVariants as op
 use Rattle.laws_shared.specs.js_tree.Nodes.{Node}
 use Rattle.laws_shared.specs.js_tree.Holding.{Holds, HoldsAll, Keeps}
 use Rattle.laws_shared.proofs.js_tree.HoldingLemmas.{Holds-kept, HoldsAll-append, HoldsAll-kept, HoldsAll-one, HoldsAll-one_hole, Keeps-made, Keeps-refl, Keeps-trans}
-use Rattle.laws_shared.specs.js_cursor.Moves.{Expects, GivesUp, IsKind, KeepsDiagnostic, OnlyMemory, is_last}
-use Rattle.laws_shared.specs.js_cursor.Moves.{at_lexeme}
+use Rattle.laws_shared.specs.js_cursor.Moves.{Expects, IsKind, KeepsDiagnostic, OnlyMemory, is_last}
 use Rattle.laws_shared.specs.js_cursor.Parsers.{Parser}
-use Rattle.laws_shared.specs.js_cursor.Places.{IsAt, goal}
+use Rattle.laws_shared.specs.js_cursor.Places.{goal}
 use Rattle.laws_shared.specs.js_cursor.declared.stop.Stop.{Stop}
 use Rattle.laws_shared.specs.js_cursor.declared.stop.Stop.TheVariants.{Fatal, NoMemory}
-use Rattle.laws_shared.proofs.js_cursor.Standing.{mark_here}
 use Rattle.laws_shared.proofs.Here.{escaped_here}
 use Rattle.laws_shared.specs.Answers.{Answers, Grown, Numbered, Stops, Underived, unclean}
-use Rattle.laws_shared.specs.Classes.{EndsParse}
 use Rattle.laws_shared.specs.Lexemes.{Lex, spot}
 use Rattle.laws_shared.specs.Moves.{IsWholeHere, Moved, Moves, MadeHere, plain_label}
 use Rattle.laws_shared.specs.Stands.{StandsHere}
 use Rattle.laws_shared.specs.States.{At, NodesLie, Same, flags_of}
 use Rattle.laws_shared.specs.Statements.{placed, after_statement, NoStatement, Statement}
-use Rattle.laws_shared.specs.Told.{unrelated_at}
 use Rattle.parse_declarations.proofs.laws_patterns.BehindRests.{mark_later}
 use Rattle.laws_shared.proofs.Escapes.{kind_escaped}
-use Rattle.laws_shared.proofs.Giving.{fails_none, gives_up, kept_one, fails_unescaped}
+use Rattle.laws_shared.proofs.Giving.{fails_none, kept_one, fails_unescaped}
 use Rattle.laws_shared.proofs.MadeNodes.{made_lies, node_held, one_lies}
 use Rattle.laws_shared.proofs.Moving.{beside_nodes, same_both, same_itself, same_with, stops_behind, stops_so}
 use Rattle.laws_shared.proofs.Paths.{Path, ◌⟶◌, ◌⟶✗◌, ◌⟼◌, at_kind, by_symbol_as, called, fails_at, label_here, last_token, noded, noded_by, token, walked_to}
@@ -545,12 +541,6 @@ pub undue_stops : {text : List ℕ} {f : Flags} (p w : Parser) (e : Stop) → At
 undue_stops p w e a z = stops_so p w e (λ n. no_clauses_here a n) z
 
 -- ---- what is told where none is
-
-pub due_marked : (p : Parser) {d : Diagnostic} → IsAt p → (p.token.kind ≡ kind.Undetermined → ⊥) → d ≡ unrelated_at ExpectSwitchClause p.token.span → Mark (goal p) p.text d
-due_marked p a n e = subst (λ (v : Diagnostic). Mark (goal p) p.text v) (sym e) (mark_here ExpectSwitchClause p.token.span None a (at_lexeme n refl) (λ s l i. ((the_start l.of_text l.is.0, the_end l.of_text l.is.1), (refl, refl))))
-
-pub due_stops : {text : List ℕ} {f : Flags} (p q : Parser) (d : Diagnostic) (e : Stop) {F : Type 0} → At text f p → d ≡ unrelated_at ExpectSwitchClause p.token.span → GivesUp (λ v. v ≡ d) p q e → F → Stops p q e F
-due_stops p q d e a i g x = gives_up (λ v. v ≡ d) p q e a g (λ v u. subst EndsParse (sym (u ∙ i)) refl) x
 
 -- ---- a CaseBlock
 

@@ -4,6 +4,7 @@ pub mod DeclarationStatements
 pub mod ForHeads
 pub mod ForParts
 pub mod ForWords
+pub mod ForeignOperators
 pub mod FunctionStatements
 pub mod LetStatements
 pub mod StatementLists

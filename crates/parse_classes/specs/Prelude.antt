@@ -6,13 +6,12 @@ pub use Rattle.js_grammar.specs.Productions.{Assignment, ClassBody, at, field_of
 pub use Rattle.laws_classes.specs.ClassBodies.{AllElements, NoElements}
 pub use Rattle.laws_classes.specs.Elements.{ReadsElement, behind_kinds, element_flags}
 pub use Rattle.laws_classes.specs.Fields.{EndsFieldOr, ReadsField, field_label, node_of_field}
+pub use Rattle.laws_classes.specs.Modifiers.{PassedLast, is_modifier}
 pub use Rattle.laws_classes.specs.Methods.{ReadsMethod, form_of_method, method_label}
 pub use Rattle.laws_classes.specs.Names.{NamesElement}
 pub use Rattle.laws_classes.specs.StaticBlocks.{InStaticBlock, ReadsStaticBlock}
 pub use Rattle.laws_classes.specs.laws_primary.js_tree.Labels.{kind_of, number_of}
-pub use Rattle.laws_classes.specs.laws_primary.js_cursor.Moves.{GivesUp}
 pub use Rattle.laws_classes.specs.laws_primary.laws_shared.Answers.{Answers}
-pub use Rattle.laws_classes.specs.laws_primary.laws_shared.Classes.{EndsParse}
 pub use Rattle.laws_classes.specs.laws_primary.laws_shared.Contexts.{EntersMethod}
 pub use Rattle.laws_classes.specs.laws_primary.laws_shared.Moves.{MadeHere}
 pub use Rattle.laws_classes.specs.laws_primary.laws_shared.Nesting.{CanNest, room}

@@ -1,17 +1,17 @@
 //! Fields of classes (ECMA-262, section 15.7).
 
 ghost use Rattle.std.specs.Prelude.{◌≡◌, ◌+◌, ◌≤◌, ◌∷◌, [], IfOk, Some, true, false};
-ghost use Rattle.parse_classes.specs.Prelude.{Answers, Assignment, at, behind_kinds, CanNest, EndsFieldOr, EndsParse, EntersMethod, Eq, field_label, field_of, GivesUp, is_textual, kind_of, MadeHere, node_of_field, number_of, one_of_kinds, ReadsField, room, Standing};
+ghost use Rattle.parse_classes.specs.Prelude.{Answers, Assignment, at, behind_kinds, CanNest, EndsFieldOr, EntersMethod, Eq, field_label, field_of, is_textual, kind_of, MadeHere, node_of_field, number_of, one_of_kinds, ReadsField, room, Standing};
 
 use crate::member::begins_name;
 use crate::method::element_flags;
-use js_base::{Context, DiagnosticKind, Kind, NoMemory};
+use js_base::{Context, Kind, NoMemory};
 use laws_classes::forms::{ElementHead, FieldKind};
 use parse_primary::forms::PropertyName;
 use parse_shared::context::{context, set_context};
-use parse_shared::diagnostics::diagnostic_at;
 use parse_shared::lexemes::advance;
 use parse_shared::nested::Nested;
+use parse_shared::refusals::refuse_annotation;
 use parse_shared::{NodeFlags, NodeId, NodeKind, Op, ParserConfig, ParserImpl, Stop};
 
 /// A field behind its name: an initialiser or none, and a semicolon, which may be left out where the grammar permits that
@@ -84,28 +84,19 @@ fn in_field(outer: Context) -> Context
     inner.and_await_expression(false).and_new_target(true)
 }
 
-/// The semicolon of a field, or none where the grammar permits that (ECMA-262, section 12.10).
+/// The semicolon of a field, or none where the grammar permits that (ECMA-262, section 12.10). A colon begins a type
+/// annotation of TypeScript.
 fn end_field<C: ParserConfig>(p: &mut ParserImpl<'_, C>) -> Result<(), Stop>
     requires { Standing p.old }
     ensures { EndsFieldOr p.old p.new result }
 {
+    if p.at(Kind::Colon) {
+        return Err(refuse_annotation(p));
+    }
     if !follows_element(p.cur_kind()) {
-        return Err(refuse_behind_field(p));
+        return Err(p.set_unexpected());
     }
     p.asi()
-}
-
-/// Gives up where nothing stands that may stand behind a field. A colon begins a type annotation of TypeScript.
-#[inline(never)]
-fn refuse_behind_field<C: ParserConfig>(p: &mut ParserImpl<'_, C>) -> Stop
-    requires { Standing p.old }
-    ensures { GivesUp EndsParse p.old p.new result }
-{
-    if !p.at(Kind::Colon) {
-        return p.set_unexpected();
-    }
-    let span = p.cur_token().span();
-    p.set_fatal_error(diagnostic_at(DiagnosticKind::TypeAnnotationInTs, span))
 }
 
 /// Whether such a lexeme may stand behind an element of a class.

@@ -4,7 +4,7 @@ use Rattle.std.specs.Prelude.{IfOk, IsCharBoundary, MatchResult, Result, Ok, Err
 use Rattle.std.proofs.lemmas.Bool.{false≢true, and_from, and_parts, or_left, or_right}
 use Rattle.js_base.specs.declared.diagnostic.Diagnostic.{Diagnostic}
 use Rattle.js_base.specs.declared.kind.Kind.{Kind}
-use Rattle.js_base.specs.declared.kind.Kind.TheVariants.{Comma, Eq, LBrack, LCurly, Undetermined}
+use Rattle.js_base.specs.declared.kind.Kind.TheVariants.{Colon, Comma, Eq, LBrack, LCurly, Undetermined}
 use Rattle.js_base.specs.declared.span.Span.{Span}
 use Rattle.js_base.specs.Kinds.{same_kind, one_of_kinds}
 use Rattle.js_base.specs.KindSets.{binding_identifier_kinds}
@@ -35,9 +35,10 @@ use Rattle.parse_shared.specs.js_cursor.declared.stop.Stop.{Stop}
 use Rattle.js_base.specs.declared.diagnostic.DiagnosticKind.{DiagnosticKind}
 use Rattle.js_base.specs.declared.diagnostic.DiagnosticClass.TheVariants.{Early}
 use Rattle.js_base.specs.Diagnostics.{class_of}
-use Rattle.parse_shared.specs.js_cursor.Moves.{KeepsDiagnostic}
+use Rattle.parse_shared.specs.js_cursor.Moves.{GivesUp, KeepsDiagnostic}
 use Rattle.parse_shared.proofs.laws_shared.Escapes.{escapable_kinds, plain_or_escapable}
 use Rattle.parse_shared.specs.laws_shared.Answers.{Grown, Verdict, Stretch, Underived, Answer, Numbered, Stops, beside, unclean}
+use Rattle.parse_shared.specs.laws_shared.Classes.{EndsParse}
 use Rattle.parse_shared.specs.laws_shared.Lexemes.{Lex, Walked, spot, Plain}
 use Rattle.parse_shared.specs.laws_shared.Moves.{Moved, MadeHere, plain_label}
 use Rattle.parse_shared.specs.laws_shared.Stands.{NameHere}
@@ -48,7 +49,7 @@ use Rattle.parse_declarations.specs.Declarations.{One, NoOne, Declarator, EndsDe
 use Rattle.laws_patterns.proofs.Bindings.{no_binding, no_pattern_name}
 use Rattle.parse_shared.proofs.laws_shared.NamedFirsts.{fails_unnamed}
 use Rattle.parse_shared.proofs.laws_shared.NameKinds.{listed_here, name_at, no_listed_name}
-use Rattle.parse_shared.proofs.laws_shared.Giving.{kept_one}
+use Rattle.parse_shared.proofs.laws_shared.Giving.{gives_up, kept_one}
 use Rattle.parse_shared.proofs.laws_shared.Here.{begins_here, kind_here}
 use Rattle.parse_shared.proofs.laws_shared.MadeNodes.{node_held, two_held, made_lies}
 use Rattle.parse_shared.proofs.laws_shared.Moving.{beside_nodes, same_both, same_with, stops_behind}
@@ -112,6 +113,17 @@ eq_apart = refl
 -- before `=` no name stands alone
 goes_on_with : {text : List ℕ} {f : Flags} {q : Parser} → At text f q → q.token.kind ≡ Eq → (y : Lexeme) → Lex text q.prev_token_end y → IsTrue (seen (behind_row after_declarator) y) → ⊥
 goes_on_with a k y l h = not_both an_eq (behind_row after_declarator) eq_apart y.kind y.newline y.escaped (subst (λ (v : Kind). same_kind Eq v ≡ true) (sym (kind_here a k refl y l)) refl) h
+
+-- nor does a declarator end before a colon
+abbrev is_colon : Look
+is_colon k w e = same_kind Colon k
+
+colon_apart : apart is_colon (behind_row after_declarator) ≡ true
+unfolding apart
+colon_apart = refl
+
+colon_behind : {text : List ℕ} {f : Flags} {q : Parser} → At text f q → q.token.kind ≡ Colon → (y : Lexeme) → Lex text q.prev_token_end y → IsTrue (seen (behind_row after_declarator) y) → ⊥
+colon_behind a k y l h = not_both is_colon (behind_row after_declarator) colon_apart y.kind y.newline y.escaped (subst (λ (v : Kind). same_kind Colon v ≡ true) (sym (kind_here a k refl y l)) refl) h
 
 pub no_eq_here : {text : List ℕ} {f : Flags} {q : Parser} → At text f q → (q.token.kind ≡ Eq → ⊥) → (y : Lexeme) → Lex text q.prev_token_end y → IsTrue (seen (is Eq) y) → ⊥
 unfolding apart
@@ -234,6 +246,17 @@ module _ {text : List ℕ} {f : Flags} {p q : Parser} (a : At text f p) (x : Ans
   unfolding rule rule_of
   not_initialised u cs k ls rest lx (is_seq {us = ws} {j = j} {mid = mid} b (is_such (is_seq (is_lexeme {x = z} e) i) t)) = let g = bound a x u cs ws j ls mid lx b in no_eq_here x.at n z g.2.0 e
 
+  -- where a colon stands behind what is bound
+  none_annotated : (c : Bool) → q.token.kind ≡ Colon → BindingRead a x → NoOne text (declarator c f) p.prev_token_end
+  none_annotated c k u = record { no = λ ts us j ls rest lx d h. go ts us j ls rest lx d h }
+    where
+      go : (ts us : Slots) (j : ℕ) (ls rest : Lexemes) → Lexes (Lex text) p.prev_token_end ls → Takes rule (declarator c f) end ts p.prev_token_end ls us j rest → IsTrue (seen (behind_row (first_edge ts).row) (here rest)) → ⊥
+      go ts us j ls rest lx (is_node {cs = cs} (is_left d)) h =
+          let z = name_alone c d in
+          let g = bound a x u (tree z.label z.slots (hole end)) (hole end) j ls rest lx (as_binding z.taken) in
+          colon_behind x.at k (here rest) (here_at (Lex text) rest g.2) (subst (λ (v : Slots). IsTrue (seen (behind_row (edge after_expression after_declarator v)) (here rest))) z.is h)
+      go ts us j ls rest lx (is_node {cs = cs} (is_right d)) h = not_initialised u cs j ls rest lx d
+
   -- no name stands here
   pub no_name : {X : Test} → NameHere p false → Fails rule (Lex text) X end (symbol BindingIdentifier f) p.prev_token_end
   unfolding covers apart
@@ -330,6 +353,12 @@ name_ends {q = q} a n m y l = or_right (one_of_kinds link_kinds y.kind) _ (ap no
     neither false e = e
 
 module _ {text : List ℕ} {f : Flags} {p q : Parser} {binding : NodeId} (a : At text f p) (x : Numbered text f (at Binding f) p q binding) where
+  pub annotated_none : (c : Bool) → q.token.kind ≡ Colon → NoOne text (declarator c f) p.prev_token_end
+  annotated_none c k = either_way x.answer.verdict (λ u. none_annotated a x.answer (λ e. let z : Colon ≡ Eq = sym k ∙ e in cc) c k u) (λ b. unbound c b)
+
+  pub annotated_stops : (c : Bool) → q.token.kind ≡ Colon → (v : Parser) (e : Stop) → GivesUp EndsParse q v e → Stops p v e (NoOne text (declarator c f) p.prev_token_end)
+  annotated_stops c k v e g = stops_behind v e x.answer.same (λ h. grown_behind x.answer.verdict h) (λ n. n) (gives_up EndsParse q v e x.answer.at g (λ d u. u) (annotated_none c k))
+
   module _ {r : Parser} (k : q.token.kind ≡ Eq) (m : Moved text f q r) where
     pub initialiser_none : (c : Bool) → Underived text (at Assignment f) r.prev_token_end → NoOne text (declarator c f) p.prev_token_end
     initialiser_none c n = either_way x.answer.verdict (λ u. no_value a x.answer k m c u n) (λ b. unbound c b)

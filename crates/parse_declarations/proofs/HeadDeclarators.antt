@@ -3,7 +3,7 @@ use Rattle.std.proofs.Common.{ℕ, ◌≡◌, ◌<◌, ◌⊎◌, inl, inr, max,
 use Rattle.std.specs.Prelude.{IsCharBoundary, Result, Ok, Err}
 use Rattle.std.proofs.lemmas.Bool.{false≢true, and_from, and_parts}
 use Rattle.js_base.specs.declared.kind.Kind.{Kind}
-use Rattle.js_base.specs.declared.kind.Kind.TheVariants.{Comma, Eq, Ident, In, LBrack, LCurly, Of, Semicolon, Undetermined}
+use Rattle.js_base.specs.declared.kind.Kind.TheVariants.{Colon, Comma, Eq, Ident, In, LBrack, LCurly, Of, Semicolon, Undetermined}
 use Rattle.js_base.specs.declared.span.Span.{Span}
 use Rattle.js_base.specs.Kinds.{same_kind, one_of_kinds}
 use Rattle.js_base.specs.KindSets.{binding_identifier_kinds}
@@ -28,7 +28,9 @@ use Rattle.parse_shared.specs.js_tree.Nodes.{Node}
 use Rattle.parse_shared.specs.js_tree.Holding.{Holds, HoldsAll, Keeps}
 use Rattle.parse_shared.proofs.js_tree.HoldingLemmas.{HoldsAll-append, HoldsAll-kept, HoldsAll-one, HoldsAll-hole, Keeps-trans, Keeps-made}
 use Rattle.parse_shared.specs.js_cursor.Parsers.{Parser}
+use Rattle.parse_shared.specs.js_cursor.Moves.{GivesUp}
 use Rattle.parse_shared.specs.js_cursor.declared.stop.Stop.{Stop}
+use Rattle.parse_shared.specs.laws_shared.Classes.{EndsParse}
 use Rattle.parse_shared.specs.laws_shared.Answers.{Answer, Numbered, Stops, Stretch, Underived, Verdict}
 use Rattle.parse_shared.specs.laws_shared.Lexemes.{Lex, spot}
 use Rattle.parse_shared.specs.laws_shared.Moves.{Moved, Moves, MadeHere, plain_label}
@@ -40,8 +42,9 @@ use Rattle.parse_declarations.specs.declared.head.HeadDeclarator.{HeadDeclarator
 use Rattle.parse_declarations.specs.declared.head.HeadForm.{HeadForm}
 use Rattle.parse_declarations.specs.declared.head.HeadForm.TheVariants as form
 use Rattle.parse_declarations.proofs.DeclaratorLists.{Underway, underway_end, underway_init, underway_step}
-use Rattle.parse_declarations.proofs.Declarators.{BindingRead, as_binding, bound, declared_bare, declared_with, initialiser_none, name_alone, no_eq_here, unbound}
+use Rattle.parse_declarations.proofs.Declarators.{BindingRead, annotated_none, as_binding, bound, declared_bare, declared_with, initialiser_none, name_alone, no_eq_here, unbound}
 use Rattle.laws_patterns.proofs.Bindings.{no_binding, no_pattern_name}
+use Rattle.parse_shared.proofs.laws_shared.Giving.{gives_up}
 use Rattle.parse_shared.proofs.laws_shared.Here.{unsettled}
 use Rattle.parse_shared.proofs.laws_shared.NameKinds.{listed_here, listed_name, name_at, no_listed_name}
 use Rattle.parse_shared.proofs.laws_shared.NamedFirsts.{fails_unnamed}
@@ -231,6 +234,14 @@ module _ {text : List ℕ} {f : Flags} {p q : Parser} (i : f.in_ ≡ false) (a :
     value_path y = noded_by {X' = plain (is In)} a (record { ends = λ s cs vs j ls mid d e. e }) (then_value ⟶ by_symbol_as {X' = plain (is In)} (λ l cs vs y e. e) (sign_read ⟶ last_called y on_value))
 
 -- ---- what the call answers
+
+-- a colon stands behind what is bound
+pub annotated_head : {text : List ℕ} {f : Flags} {p q : Parser} {binding : NodeId} (c : Bool) → At text f p → Numbered text f (at Binding f) p q binding → q.token.kind ≡ Colon → (v : Parser) (e : Stop) → GivesUp EndsParse q v e → Stops p v e (NoHeadDeclarator text f c p.prev_token_end)
+annotated_head {q = q} c a x k v e g = stops_behind v e x.answer.same (λ h. grown_behind x.answer.verdict h) (λ n. n) (gives_up EndsParse q v e x.answer.at g (λ d u. u) (record {
+  no_one = annotated_none a x c k;
+  not_alone = not_alone_read a x.answer (λ j i. let z : Colon ≡ In = sym k ∙ j in cc, λ j i. let z : Colon ≡ Of = sym k ∙ j in cc);
+  no_value = λ i. no_value_read a x.answer (λ j. let z : Colon ≡ Eq = sym k ∙ j in cc);
+}))
 
 not_equals : (q : Parser) → ThroughHere q true → q.token.kind ≡ Eq → ⊥
 not_equals q (inl s) e = let k : In ≡ Eq = sym s.0 ∙ e in cc

@@ -9,6 +9,7 @@ use laws_patterns::patterns::Patterns;
 use parse_shared::diagnostics::diagnostic_at;
 use parse_shared::lexemes::{advance, name_stands};
 use parse_shared::nodes::{make_two, make_with_optional};
+use parse_shared::refusals::refuse_annotation;
 use parse_shared::{DeclarationKind, NodeId, NodeKind, Op, ParserConfig, ParserImpl, Stop};
 
 /// The declarators behind the word of a declaration, with commas between them (ECMA-262, sections 14.3.1 and 14.3.2).
@@ -52,6 +53,7 @@ fn parse_declarator_and_comma<C: ParserConfig, N: Patterns<C>>(
 }
 
 /// A VariableDeclaration (ECMA-262, section 14.3.2) or a LexicalBinding (14.3.1): what is bound, and an initialiser or none.
+/// A colon begins a type annotation of TypeScript.
 /// Reads: Init.
 fn parse_variable_declarator<C: ParserConfig, N: Patterns<C>>(
     p: &mut ParserImpl<'_, C>,
@@ -68,6 +70,9 @@ fn parse_variable_declarator<C: ParserConfig, N: Patterns<C>>(
     let start = p.cur_start();
     let is_name = name_stands(p);
     let binding = nested.binding_pattern(p)?;
+    if p.at(Kind::Colon) {
+        return Err(refuse_annotation(p));
+    }
     if !p.at(Kind::Eq) {
         let span = p.end_span(start);
         let node = make_bare_declarator(p, kind, is_name, span, binding)?;

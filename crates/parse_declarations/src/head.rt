@@ -10,6 +10,7 @@ use js_base::Kind;
 use laws_patterns::patterns::Patterns;
 use parse_shared::lexemes::{advance, name_stands, stands};
 use parse_shared::nodes::{make_two, make_with_optional};
+use parse_shared::refusals::refuse_annotation;
 use parse_shared::{DeclarationKind, NodeId, NodeKind, Op, ParserConfig, ParserImpl, Stop};
 
 /// What the first declarator in the head of a `for` is made of.
@@ -34,7 +35,8 @@ pub struct HeadDeclarator {
     pub form: HeadForm,
 }
 
-/// The first declarator in the head of a `for`. Before `in` and `of` none needs an initialiser.
+/// The first declarator in the head of a `for`. Before `in` and `of` none needs an initialiser. A colon
+/// begins a type annotation of TypeScript.
 pub fn parse_head_declarator<C: ParserConfig, N: Patterns<C>>(
     p: &mut ParserImpl<'_, C>,
     nested: &N,
@@ -50,6 +52,9 @@ pub fn parse_head_declarator<C: ParserConfig, N: Patterns<C>>(
     let start = p.cur_start();
     let is_name = name_stands(p);
     let binding = nested.binding_pattern(p)?;
+    if p.at(Kind::Colon) {
+        return Err(refuse_annotation(p));
+    }
     if goes_through(p) {
         let span = p.end_span(start);
         let node = make_with_optional(p, NodeKind::VariableDeclarator, span, binding, None)?;

@@ -7,10 +7,10 @@ use crate::left_hand_side::{parse_named_link, parse_with_arguments};
 use crate::primary::parse_parenthesized_expression;
 use js_base::{DiagnosticKind, Kind};
 use parse_primary::leaf::parse_name;
-use parse_shared::diagnostics::diagnostic_at;
 use parse_shared::lexemes::{advance, name_stands, stands};
 use parse_shared::nested::Nested;
 use parse_shared::nodes::make_one;
+use parse_shared::refusals::refuse_due;
 use parse_shared::{NodeId, NodeKind, Op, ParserConfig, ParserImpl, Stop};
 
 /// A Decorator, from its `@` on (of the proposal Decorators; no section of ECMA-262).
@@ -85,9 +85,5 @@ pub(crate) fn refuse_form<C: ParserConfig>(p: &mut ParserImpl<'_, C>) -> Stop
     requires { Standing p.old }
     ensures { GivesUp EndsParse p.old p.new result }
 {
-    if p.at(Kind::Undetermined) {
-        return p.set_unexpected();
-    }
-    let span = p.cur_token().span();
-    p.set_fatal_error(diagnostic_at(DiagnosticKind::DecoratorForm, span))
+    refuse_due(p, DiagnosticKind::DecoratorForm)
 }

@@ -7,6 +7,7 @@ use js_base::{DiagnosticKind, Kind, NoMemory, Span};
 use parse_shared::diagnostics::diagnostic_at;
 use parse_shared::lexemes::{advance, stands};
 use parse_shared::nodes::make_leaf;
+use parse_shared::refusals::{refuse_any, refuse_at};
 use parse_shared::{NodeId, NodeKind, Op, ParserConfig, ParserImpl, Stop};
 
 /// `new.target` from its dot on, behind a `new` that began at a place (ECMA-262, section 13.3.12). Where it may not stand,
@@ -40,10 +41,10 @@ fn refuse_target<C: ParserConfig>(p: &mut ParserImpl<'_, C>, start: u32) -> Stop
     ensures { GivesUp EndsParse p.old p.new result }
 {
     if !p.cur_kind().is_identifier_name() {
-        return p.set_unexpected();
+        return refuse_any(p);
     }
     let span = Span::new(start, p.cur_token().span().end);
-    p.set_fatal_error(diagnostic_at(DiagnosticKind::NewTarget, span))
+    refuse_at(p, DiagnosticKind::NewTarget, span)
 }
 
 /// Tells of a `new.target` in no function, which stands at a span.

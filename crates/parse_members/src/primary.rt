@@ -18,10 +18,10 @@ use parse_primary::leaf::{
 use parse_primary::object::parse_object_expression;
 use parse_primary::template::parse_template;
 use parse_shared::context::expression_with_in;
-use parse_shared::diagnostics::diagnostic_at;
 use parse_shared::lexemes::{advance, escaped_word_stands, name_stands, stands};
 use parse_shared::nested::Nested;
 use parse_shared::nodes::{make_leaf, make_one};
+use parse_shared::refusals::{refuse_any, refuse_here};
 use parse_shared::{
     NodeFlags, NodeId, NodeKind, Op, ParserAstBuilder, ParserConfig, ParserImpl, Stop,
 };
@@ -69,11 +69,10 @@ fn refuse_operand<C: ParserConfig>(p: &mut ParserImpl<'_, C>) -> Stop
     requires { Standing p.old }
     ensures { GivesUp EndsParse p.old p.new result }
 {
-    if !p.at(Kind::LAngle) {
-        return p.set_unexpected();
+    if p.at(Kind::LAngle) {
+        return refuse_here(p, DiagnosticKind::JsxInNonJsx);
     }
-    let span = p.cur_token().span();
-    p.set_fatal_error(diagnostic_at(DiagnosticKind::JsxInNonJsx, span))
+    refuse_any(p)
 }
 
 /// A name; where it is `async` with `function` behind it on its line, an asynchronous function (ECMA-262, sections 15.6

@@ -12,6 +12,7 @@ use parse_shared::diagnostics::diagnostic_at;
 use parse_shared::lexemes::advance;
 use parse_shared::nested::Nested;
 use parse_shared::nodes::{make_list, make_one, make_with_optional};
+use parse_shared::refusals::refuse_annotation;
 use parse_shared::{NodeId, NodeKind, Op, ParserConfig, ParserImpl, Stop};
 
 /// FormalParameters in their parentheses (ECMA-262, section 15.1).
@@ -92,7 +93,7 @@ fn parse_parameter_and_comma<C: ParserConfig, N: Nested<C>>(
     Ok(true)
 }
 
-/// A FormalParameter: what it binds, and an initialiser or none.
+/// A FormalParameter: what it binds, and an initialiser or none. A colon begins a type annotation of TypeScript.
 /// Reads: Param.
 pub fn parse_formal_parameter<C: ParserConfig, N: Nested<C>>(
     p: &mut ParserImpl<'_, C>,
@@ -104,6 +105,9 @@ pub fn parse_formal_parameter<C: ParserConfig, N: Nested<C>>(
 {
     let start = p.cur_start();
     let binding = parse_binding_pattern(p, nested)?;
+    if p.at(Kind::Colon) {
+        return Err(refuse_annotation(p));
+    }
     if !p.at(Kind::Eq) {
         let span = p.end_span(start);
         let node = make_with_optional(p, NodeKind::FormalParameter, span, binding, None)?;

@@ -1,15 +1,15 @@
 //! Classes (ECMA-262, section 15.7).
 
 ghost use Rattle.std.specs.Prelude.{◌≡◌, ◌≤◌, ◌∷◌, [], IfOk, Some, true, false};
-ghost use Rattle.parse_primary.specs.Prelude.{Answers, at, CanNest, Class, class_label, class_name, EndsParse, GivesUp, Implements, is_textual, kind_of, MadeHere, NamesClass, node_at, node_of_class, room, Standing, StandsHere, TakesHeritage};
+ghost use Rattle.parse_primary.specs.Prelude.{Answers, at, CanNest, Class, class_label, class_name, is_textual, kind_of, MadeHere, NamesClass, node_at, node_of_class, room, Standing, StandsHere, TakesHeritage};
 
 use crate::leaf::parse_name;
 use js_base::{DiagnosticKind, Kind, NoMemory};
 use laws_primary::forms::ClassForm;
-use parse_shared::diagnostics::diagnostic_at;
 use parse_shared::lexemes::{advance, name_stands, stands};
 use parse_shared::nested::Nested;
 use parse_shared::nodes::no_flags;
+use parse_shared::refusals::{refuse_due, refuse_here};
 use parse_shared::{NodeId, NodeKind, Op, ParserConfig, ParserImpl, Stop};
 
 /// A ClassDeclaration or a ClassExpression, before which no decorator stands (ECMA-262, section 15.7).
@@ -30,7 +30,7 @@ pub fn parse_undecorated_class<C: ParserConfig, N: Nested<C>>(
     let name = parse_class_name(p, form)?;
     let heritage = parse_heritage(p, nested)?;
     if p.at(Kind::Implements) {
-        return Err(refuse_implements(p));
+        return Err(refuse_here(p, DiagnosticKind::ImplementsClauseInTs));
     }
     let body = nested.class_body(p)?;
     let node = make_class(p, form, start, name, heritage, body)?;
@@ -52,19 +52,7 @@ fn parse_class_name<C: ParserConfig>(
     if let ClassForm::Expression = form {
         return Ok(None);
     }
-    Err(refuse_nameless(p))
-}
-
-/// Gives up where the name of a declaration is missing.
-fn refuse_nameless<C: ParserConfig>(p: &mut ParserImpl<'_, C>) -> Stop
-    requires { Standing p.old }
-    ensures { GivesUp EndsParse p.old p.new result }
-{
-    if p.at(Kind::Undetermined) {
-        return p.set_unexpected();
-    }
-    let span = p.cur_token().span();
-    p.set_fatal_error(diagnostic_at(DiagnosticKind::ExpectClassName, span))
+    Err(refuse_due(p, DiagnosticKind::ExpectClassName))
 }
 
 /// A ClassHeritage (ECMA-262, section 15.7), or none.
@@ -82,17 +70,6 @@ fn parse_heritage<C: ParserConfig, N: Nested<C>>(
     advance(p)?;
     let heritage = nested.left_hand_side(p)?;
     Ok(Some(heritage))
-}
-
-/// Gives up at the `implements` of a class of TypeScript.
-#[inline(never)]
-fn refuse_implements<C: ParserConfig>(p: &mut ParserImpl<'_, C>) -> Stop
-    requires at { Standing p.old }
-    requires word { p.old.token.kind ≡ Implements }
-    ensures { GivesUp EndsParse p.old p.new result }
-{
-    let span = p.cur_token().span();
-    p.set_fatal_error(diagnostic_at(DiagnosticKind::ImplementsClauseInTs, span))
 }
 
 /// The node of a class that began at a place: its name and its heritage, or none, and its body.

@@ -1,12 +1,15 @@
 //! Names of properties (ECMA-262, section 13.2.5).
 
-ghost use Rattle.std.specs.Prelude.{true, false};
-ghost use Rattle.parse_primary.specs.Prelude.{CanNest, LBrack, NamesComputed, NamesPlainly, NamesProperty, room, Standing, StandsHere};
+ghost use Rattle.std.specs.Prelude.{◌≡◌, true, false};
+ghost use Rattle.parse_primary.specs.Prelude.{CanNest, LBrack, NamesComputed, NamesPlainly, NamesProperty, PrivateIdentifier, room, Standing, StandsHere};
 
-use crate::leaf::{number_node, number_op, parse_identifier_name, parse_leaf, parse_string};
-use js_base::Kind;
+use crate::leaf::{
+    number_node, number_op, parse_identifier_name, parse_leaf, parse_private_name, parse_string,
+};
+use js_base::{DiagnosticKind, Kind};
 use laws_primary::forms::PropertyName;
 use parse_shared::context::assignment_with_in;
+use parse_shared::diagnostics::diagnostic_at;
 use parse_shared::lexemes::{advance, stands};
 use parse_shared::nested::Nested;
 use parse_shared::{NodeId, ParserConfig, ParserImpl, Stop};
@@ -34,7 +37,7 @@ pub fn parse_property_name<C: ParserConfig, N: Nested<C>>(
     })
 }
 
-/// A LiteralPropertyName (ECMA-262, section 13.2.5): a word, a string or a number.
+/// A LiteralPropertyName (ECMA-262, section 13.2.5): a word, a string or a number. A private name is told, and read.
 fn parse_plain_name<C: ParserConfig>(p: &mut ParserImpl<'_, C>) -> Result<NodeId, Stop>
     requires at { Standing p.old }
     requires no_bracket { StandsHere p.old LBrack false }
@@ -46,8 +49,23 @@ fn parse_plain_name<C: ParserConfig>(p: &mut ParserImpl<'_, C>) -> Result<NodeId
     }
     match kind {
         Kind::Str => parse_string(p),
+        Kind::PrivateIdentifier => parse_private_key(p),
         _ => parse_identifier_name(p),
     }
+}
+
+/// A private name, which is no name of a property (ECMA-262, section 13.2.5): that is told, and reading goes on.
+#[inline(never)]
+fn parse_private_key<C: ParserConfig>(p: &mut ParserImpl<'_, C>) -> Result<NodeId, Stop>
+    requires at { Standing p.old }
+    requires private { p.old.token.kind ≡ PrivateIdentifier }
+    ensures { NamesPlainly p.old p.new result }
+{
+    let span = p.cur_token().span();
+    let kind = DiagnosticKind::PrivateIdentifierInPropertyName;
+    p.error(diagnostic_at(kind, span))?;
+    let key = parse_private_name(p)?;
+    Ok(key)
 }
 
 /// A ComputedPropertyName (ECMA-262, section 13.2.5): the brackets make no node.

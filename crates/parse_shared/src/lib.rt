@@ -6,6 +6,7 @@ pub mod context;
 pub mod diagnostics;
 pub mod lexemes;
 pub mod nodes;
+pub mod refusals;
 pub mod semicolon;
 
 pub use laws_shared::{

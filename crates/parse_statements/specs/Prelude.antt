@@ -5,6 +5,7 @@ pub use Rattle.js_base.specs.declared.kind.Kind.TheVariants.{Break, Catch, Colon
 pub use Rattle.js_grammar.specs.Marks.{EdgeOf, Mark}
 pub use Rattle.js_grammar.specs.Productions.{Catch as ACatch, Block, Body, ListItem, Sub, at, sym}
 pub use Rattle.parse_control.specs.laws_statements.Blocks.{NoBracesHere, TakesBraces}
+pub use Rattle.parse_control.specs.laws_statements.ForeignOperators.{FindsForeign}
 pub use Rattle.parse_control.specs.laws_statements.FunctionStatements.{ChecksPlain, fault_of_body, told_of_body}
 pub use Rattle.parse_control.specs.laws_statements.LetStatements.{TakesUndeclared}
 pub use Rattle.parse_control.specs.laws_statements.StatementLists.{AllRefused, AllTaken, DirectivesTaken, OpeningRefused, OpeningTaken, ends_at, ends_in_brace, ends_list, has_directives}
@@ -14,10 +15,12 @@ pub use Rattle.parse_control.specs.laws_statements.WordStatements.{ChecksOperand
 pub use Rattle.parse_control.specs.laws_statements.declared.forms.StatementList.TheVariants.{Clause}
 pub use Rattle.parse_primary.specs.laws_primary.Decorators.{ClassHere}
 pub use Rattle.parse_primary.specs.laws_primary.Functions.{BeginsFunction, NoFunctionHere}
+pub use Rattle.parse_shared.specs.js_cursor.Moves.{GivesUp}
 pub use Rattle.parse_shared.specs.js_cursor.Places.{IsAt, goal}
 pub use Rattle.parse_shared.specs.js_tree.Nodes.{node_at}
 pub use Rattle.parse_shared.specs.js_tree.declared.kind.NodeKind.TheVariants.{Directive, ExpressionStatement, StringLiteral}
 pub use Rattle.parse_shared.specs.laws_shared.Answers.{Answers}
+pub use Rattle.parse_shared.specs.laws_shared.Classes.{EndsParse}
 pub use Rattle.parse_shared.specs.laws_shared.Lexemes.{keyword_kind}
 pub use Rattle.parse_shared.specs.laws_shared.Moves.{MadeHere, plain_label}
 pub use Rattle.parse_shared.specs.laws_shared.Nesting.{CanNest, room}

@@ -1,7 +1,7 @@
 //! Statements (ECMA-262, chapter 14).
 
 ghost use Rattle.std.specs.Prelude.{◌≡◌, ◌≤◌, ◌&&◌, ◌↔◌, IsTrue, true, false};
-ghost use Rattle.parse_statements.specs.Prelude.{at, CanNest, ClassHere, Colon, Const, has_flag, in_flag, IsLabel, keyword_kind, LabelsStatement, ListItem, NoFunctionHere, one_of_kinds, room, Semicolon, SpellsName, Standing, StandsHere, statement_kinds, Sub, TakesAnywhere, TakesStatement, TakesUndeclared};
+ghost use Rattle.parse_statements.specs.Prelude.{at, CanNest, ClassHere, Colon, Const, FindsForeign, has_flag, in_flag, IsLabel, keyword_kind, LabelsStatement, ListItem, NoFunctionHere, one_of_kinds, room, Semicolon, SpellsName, Standing, StandsHere, statement_kinds, Sub, TakesAnywhere, TakesStatement, TakesUndeclared};
 
 use crate::block::parse_block_statement;
 use crate::class_statement::{parse_class_as_body, parse_class_declaration};
@@ -12,7 +12,7 @@ use crate::word_statement::{
     parse_break_statement, parse_continue_statement, parse_debugger_statement,
     parse_return_statement, parse_throw_statement,
 };
-use js_base::{Kind, Token};
+use js_base::{DiagnosticKind, Kind, Token};
 use parse_control::compound_statement::{
     parse_do_while_statement, parse_if_statement, parse_while_statement, parse_with_statement,
 };
@@ -24,9 +24,11 @@ use parse_control::sequences::Sequences;
 use parse_members::decorated::class_stands;
 use parse_primary::function::function_stands;
 use parse_primary::leaf::parse_leaf;
-use parse_shared::lexemes::{advance, escaped_word_stands, is_name_here, stands};
+use parse_shared::diagnostics::kept_so_far;
+use parse_shared::lexemes::{advance, escaped_word_stands, is_name_here, keyword_of, stands};
 use parse_shared::nested::Nested;
 use parse_shared::nodes::{make_name, make_one, make_two};
+use parse_shared::refusals::refuse_here;
 use parse_shared::semicolon::end_statement;
 use parse_shared::{NodeId, NodeKind, Op, ParserConfig, ParserImpl, Stop};
 
@@ -127,6 +129,7 @@ fn parse_empty_statement<C: ParserConfig>(p: &mut ParserImpl<'_, C>) -> Result<N
 
 /// An ExpressionStatement (ECMA-262, section 14.5): an expression and its semicolon, which may be left out where the
 /// grammar permits that (12.10). Where the expression is a name and a colon stands behind it, it is a label (14.13).
+/// An operator of TypeScript behind it is told.
 /// Reads: ExprStmt.
 fn parse_expression_or_labeled_statement<C: ParserConfig, N: Sequences<C>>(
     p: &mut ParserImpl<'_, C>,
@@ -139,11 +142,15 @@ fn parse_expression_or_labeled_statement<C: ParserConfig, N: Sequences<C>>(
     requires no_function { NoFunctionHere p.old }
     ensures { TakesUndeclared p.old p.new result }
 {
+    let kept = kept_so_far(p);
     let start = p.cur_start();
     let first = p.cur_token();
     let expression = nested.sequence(p)?;
     if is_label(p, first) {
         return parse_labeled_statement_rest(p, nested, first);
+    }
+    if let Some(kind) = foreign_operator(p, kept) {
+        return Err(refuse_here(p, kind));
     }
     end_statement(p)?;
     let span = p.end_span(start);
@@ -173,6 +180,22 @@ fn parse_labeled_statement_rest<C: ParserConfig, N: Nested<C>>(
     let span = p.end_span(start);
     let node = make_two(p, NodeKind::LabeledStatement, Op::None, span, label, body)?;
     Ok(node)
+}
+
+/// What is told of an operator of TypeScript that stands here, on the line of an expression in which nothing was found since
+/// so many diagnostics were kept.
+fn foreign_operator<C: ParserConfig>(p: &ParserImpl<'_, C>, kept: usize) -> Option<DiagnosticKind>
+    ensures { FindsForeign kept p.now result }
+{
+    let token = p.cur_token();
+    if token.is_on_new_line() || kept_so_far(p) != kept {
+        return None;
+    }
+    match keyword_of(token) {
+        Kind::As => Some(DiagnosticKind::AsInTs),
+        Kind::Satisfies => Some(DiagnosticKind::SatisfiesInTs),
+        _ => None,
+    }
 }
 
 /// Whether the token that was passed last is this one, a name, and a colon stands behind it.

@@ -8,10 +8,10 @@ use js_base::{Diagnostic, DiagnosticKind, Kind, NoMemory, Span};
 use parse_control::compound_statement::parse_paren_expression;
 use parse_control::forms::{Defaults, StatementList};
 use parse_control::sequences::Sequences;
-use parse_shared::diagnostics::diagnostic_at;
 use parse_shared::lexemes::advance;
 use parse_shared::nested::Nested;
 use parse_shared::nodes::make_list;
+use parse_shared::refusals::refuse_due;
 use parse_shared::{NodeId, NodeKind, Op, ParserConfig, ParserImpl, Stop};
 
 /// A SwitchStatement (ECMA-262, section 14.12).
@@ -143,12 +143,7 @@ fn expect_clause<C: ParserConfig>(p: &mut ParserImpl<'_, C>) -> Result<(), Stop>
     if is_clause_due(p) {
         return Ok(());
     }
-    if p.at(Kind::Undetermined) {
-        return Err(p.set_unexpected());
-    }
-    let span = p.cur_token().span();
-    let due = diagnostic_at(DiagnosticKind::ExpectSwitchClause, span);
-    Err(p.set_fatal_error(due))
+    Err(refuse_due(p, DiagnosticKind::ExpectSwitchClause))
 }
 
 /// Whether a clause begins here, or the CaseBlock ends.

@@ -12,6 +12,7 @@ use parse_shared::diagnostics::diagnostic_at;
 use parse_shared::lexemes::{advance, stands};
 use parse_shared::nested::Nested;
 use parse_shared::nodes::{make_one, no_flags};
+use parse_shared::refusals::refuse_annotation;
 use parse_shared::{NodeId, NodeKind, Op, ParserConfig, ParserImpl, Stop};
 
 /// A TryStatement (ECMA-262, section 14.15).
@@ -118,7 +119,8 @@ fn make_catch<C: ParserConfig>(
         .node_of_two(kind, span, Op::None, no_flags(), parameter, Some(block))
 }
 
-/// A CatchParameter in its parentheses (ECMA-262, section 14.15), where they stand here.
+/// A CatchParameter in its parentheses (ECMA-262, section 14.15), where they stand here. A colon begins a type annotation of
+/// TypeScript.
 fn parse_catch_parameter<C: ParserConfig, N: Nested<C>>(
     p: &mut ParserImpl<'_, C>,
     nested: &N,
@@ -135,6 +137,9 @@ fn parse_catch_parameter<C: ParserConfig, N: Nested<C>>(
     let binding = nested.binding(p)?;
     let span = p.end_span(start);
     let node = make_one(p, NodeKind::CatchParameter, Op::None, span, binding)?;
+    if p.at(Kind::Colon) {
+        return Err(refuse_annotation(p));
+    }
     p.expect(Kind::RParen)?;
     Ok(Some(node))
 }

@@ -9,6 +9,7 @@ use Rattle.laws_classes.proofs.laws_primary.laws_shared.Moving.{standing}
 use Rattle.laws_classes.proofs.laws_primary.laws_shared.Nesting.{nested_room, nests_later}
 use Rattle.laws_classes.proofs.laws_primary.laws_shared.NodeTexts.{spells_later}
 use Rattle.laws_classes.proofs.laws_primary.laws_shared.Signs.{other_kind}
+use Rattle.laws_classes.proofs.Modifiers.{passed_last}
 use Rattle.laws_classes.proofs.ClassElements.{block_element, element_read, member_there, named_element, plain_element, static_element, static_named}
 use Rattle.parse_classes.proofs.element.parse_class_element.Goals as goal
 
@@ -72,6 +73,9 @@ parse_behind_word-requires-clause-nests g c = nests_later c.requires.nests (let 
 
 pub parse_behind_word-requires-clause-before : goal.parse_behind_word-requires-clause-before
 parse_behind_word-requires-clause-before g c = let i = (c.in_ok-advance.ensures _ _ c.requires.at).further in let e = c.cur_start-start.ensures in omega arith
+
+pub parse_behind_word-requires-clause-passed : goal.parse_behind_word-requires-clause-passed
+parse_behind_word-requires-clause-passed g c = passed_last _ c.cur_token-word.ensures c.requires.at (c.in_ok-advance.ensures _ _ c.requires.at)
 
 pub parse_behind_word-requires-clause-spells : goal.parse_behind_word-requires-clause-spells
 parse_behind_word-requires-clause-spells g c = spells_later c.requires.at (ap (one_of_kinds identifier_name_kinds) (stands_so c.args.p.now Static c.if-not-stands.false c.stands.ensures).0) c.cur_token-word.ensures (c.in_ok-advance.ensures _ _ c.requires.at).same.follows.text

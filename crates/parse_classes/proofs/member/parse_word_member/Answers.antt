@@ -7,6 +7,7 @@ use Rattle.laws_classes.proofs.laws_primary.laws_shared.Moving.{standing}
 use Rattle.laws_classes.proofs.laws_primary.laws_shared.Nesting.{nested_room, nests_later}
 use Rattle.laws_classes.proofs.laws_primary.laws_shared.NodeTexts.{spells_later}
 use Rattle.laws_classes.proofs.Elements.{at_first}
+use Rattle.laws_classes.proofs.Modifiers.{passed_last}
 use Rattle.laws_classes.proofs.Prefixes.{accessor_is, accessor_plain, async_is, names_member, one_accessor, told_so}
 use Rattle.parse_classes.proofs.member.parse_word_member.Goals as goal
 
@@ -72,6 +73,9 @@ parse_behind_word-requires-clause-nests g c = nests_later c.requires.nests (let 
 
 pub parse_behind_word-requires-clause-before : goal.parse_behind_word-requires-clause-before
 parse_behind_word-requires-clause-before g c = let i = (c.in_ok-advance.ensures _ _ c.requires.at).further in let b = c.requires.before in omega arith
+
+pub parse_behind_word-requires-clause-passed : goal.parse_behind_word-requires-clause-passed
+parse_behind_word-requires-clause-passed g c = passed_last _ c.cur_token-word.ensures c.requires.at (c.in_ok-advance.ensures _ _ c.requires.at)
 
 pub parse_behind_word-requires-clause-spells : goal.parse_behind_word-requires-clause-spells
 parse_behind_word-requires-clause-spells g c = spells_later c.requires.at c.requires.word c.cur_token-word.ensures (c.in_ok-advance.ensures _ _ c.requires.at).same.follows.text

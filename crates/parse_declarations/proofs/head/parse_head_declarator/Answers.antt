@@ -6,7 +6,7 @@ use Rattle.parse_shared.proofs.laws_shared.Giving.{gives_up_here}
 use Rattle.parse_shared.proofs.laws_shared.Moving.{standing, stops_so}
 use Rattle.parse_shared.proofs.laws_shared.Nesting.{later_room, nested_room}
 use Rattle.parse_shared.proofs.laws_shared.Signs.{whole_sign}
-use Rattle.parse_declarations.proofs.HeadDeclarators.{bare_answers, bound_answers, no_head_declarator, none_at_head, through_so, value_answers, value_stops}
+use Rattle.parse_declarations.proofs.HeadDeclarators.{annotated_head, bare_answers, bound_answers, no_head_declarator, none_at_head, through_so, value_answers, value_stops}
 use Rattle.parse_declarations.proofs.SpansMarked.{missing_marked}
 use Rattle.parse_declarations.proofs.head.parse_head_declarator.Goals as goal
 
@@ -15,6 +15,15 @@ returns-then-at g c = λ text f a. gives_up_here _ _ c.set_unexpected.result a c
 
 pub returns-in_err-binding : goal.returns-in_err-binding
 returns-in_err-binding g c = let p = err_from_is_err_and c.from_residual.result c.from_residual.ensures.1 in rw (p.1, p.2) (λ text f a. stops_so _ _ _ (λ n. no_head_declarator _ n) (c.in_err-binding.ensures text f a))
+
+pub refuse_annotation-requires-clause-at : goal.refuse_annotation-requires-clause-at
+refuse_annotation-requires-clause-at g c = standing (c.in_ok-binding.ensures _ _ c.requires.at).answer.at
+
+pub refuse_annotation-requires-clause-colon : goal.refuse_annotation-requires-clause-colon
+refuse_annotation-requires-clause-colon g c = c.at-2.ensures.0 c.if-at-2.true
+
+pub returns-then-at-2 : goal.returns-then-at-2
+returns-then-at-2 g c = λ text f a. annotated_head _ a (c.in_ok-binding.ensures text f a) (c.at-2.ensures.0 c.if-at-2.true) _ c.refuse_annotation.result c.refuse_annotation.ensures
 
 pub end_span-span-requires : goal.end_span-span-requires
 end_span-span-requires g c = let x = (c.in_ok-binding.ensures _ _ c.requires.at).answer.further in let s = c.cur_start-start.ensures in omega arith
@@ -34,13 +43,13 @@ make_bare_declarator-requires-clause-mark g c =
     missing_marked c.requires.at (λ k. false≢true (sym c.if-at.false ∙ c.at.ensures.1 k)) x.at x.same x.walked x.further _ _ (c.end_span-span-then-not-at.ensures.start ∙ c.cur_start-start.ensures) c.end_span-span-then-not-at.ensures.end
 
 pub returns-then-not-at : goal.returns-then-not-at
-returns-then-not-at g c = λ text f a. bare_answers _ _ a (c.in_ok-binding.ensures text f a) (through_so c.binding_pattern.new.p c.if-goes_through.false c.goes_through.ensures) (λ k. false≢true (sym c.if-not-at.true ∙ c.at-2.ensures.1 k)) _ c.name_stands-is_name.ensures c.in_ok-node-2.ensures (c.end_span-span-then-not-at.ensures.start ∙ c.cur_start-start.ensures) c.end_span-span-then-not-at.ensures.end
+returns-then-not-at g c = λ text f a. bare_answers _ _ a (c.in_ok-binding.ensures text f a) (through_so c.binding_pattern.new.p c.if-goes_through.false c.goes_through.ensures) (λ k. false≢true (sym c.if-not-at.true ∙ c.at-3.ensures.1 k)) _ c.name_stands-is_name.ensures c.in_ok-node-2.ensures (c.end_span-span-then-not-at.ensures.start ∙ c.cur_start-start.ensures) c.end_span-span-then-not-at.ensures.end
 
 pub advance-requires-clause-at : goal.advance-requires-clause-at
 advance-requires-clause-at g c = standing (c.in_ok-binding.ensures _ _ c.requires.at).answer.at
 
 pub advance-requires-clause-whole : goal.advance-requires-clause-whole
-advance-requires-clause-whole g c = whole_sign Eq (c.in_ok-binding.ensures _ _ c.requires.at).answer.at (c.at-2.ensures.0 c.if-not-at.false) refl refl
+advance-requires-clause-whole g c = whole_sign Eq (c.in_ok-binding.ensures _ _ c.requires.at).answer.at (c.at-3.ensures.0 c.if-not-at.false) refl refl
 
 pub assignment-requires : goal.assignment-requires
 assignment-requires g c =
@@ -56,7 +65,7 @@ returns-in_err-initialiser g c =
     rw (p.1, p.2) (λ text f a.
     let x = c.in_ok-binding.ensures text f a in
     let m = c.in_ok-advance.ensures text f x.answer.at in
-    value_stops a x (through_so c.binding_pattern.new.p c.if-goes_through.false c.goes_through.ensures) (c.at-2.ensures.0 c.if-not-at.false) m _ _ _ _ c.name_stands-is_name.ensures (c.in_err-initialiser.ensures text f m.at))
+    value_stops a x (through_so c.binding_pattern.new.p c.if-goes_through.false c.goes_through.ensures) (c.at-3.ensures.0 c.if-not-at.false) m _ _ _ _ c.name_stands-is_name.ensures (c.in_err-initialiser.ensures text f m.at))
 
 pub end_span-span-requires-2 : goal.end_span-span-requires-2
 end_span-span-requires-2 g c =
@@ -69,4 +78,4 @@ pub returns : goal.returns
 returns g c = λ text f a.
     let x = c.in_ok-binding.ensures text f a in
     let m = c.in_ok-advance.ensures text f x.answer.at in
-    value_answers a x (through_so c.binding_pattern.new.p c.if-goes_through.false c.goes_through.ensures) (c.at-2.ensures.0 c.if-not-at.false) m _ (c.in_ok-initialiser.ensures text f m.at) (c.end_span-span-2.ensures.start ∙ c.cur_start-start.ensures) c.end_span-span-2.ensures.end c.in_ok-node-3.ensures _ _ _ c.initialised_form.ensures c.name_stands-is_name.ensures
+    value_answers a x (through_so c.binding_pattern.new.p c.if-goes_through.false c.goes_through.ensures) (c.at-3.ensures.0 c.if-not-at.false) m _ (c.in_ok-initialiser.ensures text f m.at) (c.end_span-span-2.ensures.start ∙ c.cur_start-start.ensures) c.end_span-span-2.ensures.end c.in_ok-node-3.ensures _ _ _ c.initialised_form.ensures c.name_stands-is_name.ensures

@@ -1,16 +1,9 @@
-use Rattle.std.proofs.Common.{◌≡◌, true, ap, arith, subst, sym, ◌∙◌}
+use Rattle.std.proofs.Common.{◌≡◌, true, ap, arith, refl, sym, ◌∙◌}
 use Rattle.js_base.specs.KindSets.{identifier_name_kinds}
 use Rattle.js_base.specs.Kinds.{one_of_kinds}
-use Rattle.js_base.specs.declared.diagnostic.Diagnostic.{Diagnostic}
 use Rattle.js_base.specs.declared.span.Span.{Span}
-use Rattle.js_grammar.specs.Marks.{Mark}
-use Rattle.parse_shared.specs.js_cursor.Places.{goal as goal_of}
-use Rattle.parse_shared.proofs.laws_shared.Classes.{unexpected_ends}
-use Rattle.parse_primary.proofs.laws_primary.NewTargets.{before_word, ends_so, other_ends, other_marked}
+use Rattle.parse_primary.proofs.laws_primary.NewTargets.{before_word, other_marked}
 use Rattle.parse_members.proofs.new_target.refuse_target.Goals as goal
-
-pub returns-then-not-is_identifier_name : goal.returns-then-not-is_identifier_name
-returns-then-not-is_identifier_name g c = ends_so _ _ _ c.set_unexpected.result (λ d i. unexpected_ends c.requires.at.at d i) c.set_unexpected.ensures
 
 pub new-span-requires : goal.new-span-requires
 new-span-requires g c =
@@ -19,12 +12,11 @@ new-span-requires g c =
     let i = before_word c.requires.behind c.requires.at c.requires.other w in
     let j = ap (λ (s : Span). s.end) e in omega arith
 
-pub set_fatal_error-requires-clause-mark : goal.set_fatal_error-requires-clause-mark
-set_fatal_error-requires-clause-mark g c =
+pub refuse_at-requires-clause-mark : goal.refuse_at-requires-clause-mark
+refuse_at-requires-clause-mark g c =
     let w : one_of_kinds identifier_name_kinds c.args.p.now.token.kind ≡ true = ap (one_of_kinds identifier_name_kinds) (sym c.cur_kind.ensures) ∙ (sym c.is_identifier_name.ensures ∙ c.if-not-is_identifier_name.false) in
     let e : c.span.result ≡ c.args.p.now.token.span = search in
-    subst (λ (d : Diagnostic). Mark (goal_of c.args.p.now) c.args.p.now.text d) (sym c.diagnostic_at.ensures)
-    (other_marked c.requires.behind c.requires.at c.requires.other w c.new-span.result c.new-span.ensures.start (c.new-span.ensures.end ∙ ap (λ (s : Span). s.end) e))
+    other_marked c.requires.behind c.requires.at c.requires.other w c.new-span.result c.new-span.ensures.start (c.new-span.ensures.end ∙ ap (λ (s : Span). s.end) e)
 
-pub returns : goal.returns
-returns g c = ends_so (λ d. d ≡ c.diagnostic_at.result) _ _ c.set_fatal_error.result (λ d i. other_ends c.new-span.result d (i ∙ c.diagnostic_at.ensures)) c.set_fatal_error.ensures
+pub refuse_at-requires-clause-ends : goal.refuse_at-requires-clause-ends
+refuse_at-requires-clause-ends g c = refl

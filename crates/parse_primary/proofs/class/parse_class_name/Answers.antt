@@ -1,4 +1,5 @@
 use Rattle.std.proofs.Common.{refl}
+use Rattle.js_grammar.specs.Marks.{the_end, the_start}
 use Rattle.laws_primary.proofs.Members.{word_whole}
 use Rattle.laws_primary.proofs.laws_shared.NameKinds.{listed_here, name_so}
 use Rattle.laws_primary.proofs.laws_shared.NodeTexts.{name_word}
@@ -15,7 +16,13 @@ pub returns-in-Expression : goal.returns-in-Expression
 returns-in-Expression g c = (c.in-Expression.is, name_so c.args.p.now c.if-name_stands.false c.name_stands.ensures, refl)
 
 pub returns : goal.returns
-returns g c = name_refused c.args.form _ _ c.refuse_nameless.result c.in_default.not-Expression (name_so c.args.p.now c.if-name_stands.false c.name_stands.ensures) c.refuse_nameless.ensures
+returns g c = name_refused c.args.form _ _ c.refuse_due.result c.in_default.not-Expression (name_so c.args.p.now c.if-name_stands.false c.name_stands.ensures) c.refuse_due.ensures
 
 pub returns-then-name_stands : goal.returns-then-name_stands
 returns-then-name_stands g c = (name_so c.args.p.now c.if-name_stands.true c.name_stands.ensures, c.in_ok-name.ensures)
+
+pub refuse_due-requires-clause-may : goal.refuse_due-requires-clause-may
+refuse_due-requires-clause-may g c = λ s l i. ((the_start l.of_text l.is.0, the_end l.of_text l.is.1), (refl, refl))
+
+pub refuse_due-requires-clause-ends : goal.refuse_due-requires-clause-ends
+refuse_due-requires-clause-ends g c = refl

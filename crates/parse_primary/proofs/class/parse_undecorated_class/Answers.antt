@@ -7,7 +7,7 @@ use Rattle.laws_primary.proofs.laws_shared.Signs.{whole_sign}
 use Rattle.laws_primary.proofs.Functions.{room_less}
 use Rattle.laws_primary.specs.laws_shared.Classes.{EndsParse}
 use Rattle.laws_primary.proofs.laws_shared.Giving.{gives_up}
-use Rattle.laws_primary.proofs.Classes.{body_stops, class_answers, embodied, inherited, inheriting_stops, name_stops, named, unembodied}
+use Rattle.laws_primary.proofs.Classes.{body_stops, class_answers, embodied, implements_marked, inherited, inheriting_stops, name_stops, named, unembodied}
 use Rattle.laws_primary.proofs.DecoratedNodes.{made_kind}
 use Rattle.parse_primary.proofs.class.parse_undecorated_class.Goals as goal
 
@@ -36,16 +36,24 @@ returns-in_err-heritage-clause-taken g c = λ text f a.
     let x = named c.args.form a c.requires.word (c.in_ok-advance.ensures text f a) _ c.in_ok-name.name c.in_ok-name.ensures in
     rw (p.1, p.2) (inheriting_stops c.args.form c.in_ok-name.name x _ _ c.in_err-heritage.ensures)
 
-pub refuse_implements-requires-clause-at : goal.refuse_implements-requires-clause-at
-refuse_implements-requires-clause-at g c =
+pub refuse_here-requires-clause-at : goal.refuse_here-requires-clause-at
+refuse_here-requires-clause-at g c =
     let x = named c.args.form c.requires.at c.requires.word (c.in_ok-advance.ensures _ _ c.requires.at) _ c.in_ok-name.name c.in_ok-name.ensures in
-    standing (inherited c.args.form c.in_ok-name.name x _ c.in_ok-heritage.heritage c.in_ok-heritage.ensures).at
+    (inherited c.args.form c.in_ok-name.name x _ c.in_ok-heritage.heritage c.in_ok-heritage.ensures).at.at
+
+pub refuse_here-requires-clause-mark : goal.refuse_here-requires-clause-mark
+refuse_here-requires-clause-mark g c =
+    let x = named c.args.form c.requires.at c.requires.word (c.in_ok-advance.ensures _ _ c.requires.at) _ c.in_ok-name.name c.in_ok-name.ensures in
+    implements_marked _ (inherited c.args.form c.in_ok-name.name x _ c.in_ok-heritage.heritage c.in_ok-heritage.ensures).at.at (c.at.ensures.0 c.if-at.true)
+
+pub refuse_here-requires-clause-ends : goal.refuse_here-requires-clause-ends
+refuse_here-requires-clause-ends g c = refl
 
 pub returns-then-at-clause-taken : goal.returns-then-at-clause-taken
 returns-then-at-clause-taken g c = λ text f a.
     let x = named c.args.form a c.requires.word (c.in_ok-advance.ensures text f a) _ c.in_ok-name.name c.in_ok-name.ensures in
     let y = inherited c.args.form c.in_ok-name.name x _ c.in_ok-heritage.heritage c.in_ok-heritage.ensures in
-    body_stops c.args.form (c.in_ok-name.name ∷ c.in_ok-heritage.heritage ∷ []) y _ _ (gives_up EndsParse _ _ c.refuse_implements.result y.at c.refuse_implements.ensures (λ d u. u) (unembodied y.at (c.at.ensures.0 c.if-at.true)))
+    body_stops c.args.form (c.in_ok-name.name ∷ c.in_ok-heritage.heritage ∷ []) y _ _ (gives_up EndsParse _ _ c.refuse_here.result y.at c.refuse_here.ensures (λ d u. u) (unembodied y.at (c.at.ensures.0 c.if-at.true)))
 
 pub class_body-requires : goal.class_body-requires
 class_body-requires g c =

@@ -15,3 +15,6 @@ returns-in-Str g c = λ text f a. string_outcome text f _ _ c.parse_string.resul
 
 pub returns-in_default : goal.returns-in_default
 returns-in_default g c = λ text f a. word_outcome a c.requires.no_bracket (none_literal (λ k. c.in_default.not-Str (c.cur_kind-kind.ensures ∙ k)) (sym (ap (one_of_kinds number_kinds) c.cur_kind-kind.ensures) ∙ (sym c.is_number.ensures ∙ c.if-is_number.false))) _ _ (c.parse_identifier_name.ensures text f a)
+
+pub parse_private_key-requires-clause-private : goal.parse_private_key-requires-clause-private
+parse_private_key-requires-clause-private g c = sym c.cur_kind-kind.ensures ∙ c.in-PrivateIdentifier.is

@@ -9,12 +9,30 @@ use Rattle.parse_shared.proofs.laws_shared.Nesting.{nests_later, later_room}
 use Rattle.parse_shared.proofs.laws_shared.NodeTexts.{name_word, spells_later}
 use Rattle.parse_shared.proofs.laws_shared.NameKinds.{listed_name}
 use Rattle.parse_shared.proofs.laws_shared.Verdicts.{after}
+use Rattle.parse_shared.specs.laws_shared.Classes.{EndsParse}
+use Rattle.parse_shared.proofs.laws_shared.Giving.{gives_up}
+use Rattle.parse_control.proofs.laws_statements.ForeignOperators.{foreign_ends, foreign_marked, foreign_unended, found_foreign}
 use Rattle.parse_control.proofs.laws_statements.Statements.{ended_so, in_of, no_colon, no_label, no_label_here, statement_answers, statement_fails, statement_unended}
 use Rattle.parse_control.proofs.laws_statements.WordLookaheads.{async_named}
 use Rattle.parse_statements.proofs.statement.parse_expression_or_labeled_statement.Goals as goal
 
 pub returns-in_err-expression : goal.returns-in_err-expression
 returns-in_err-expression t c = λ b u text f a. let p = err_from_is_err_and c.from_residual.result c.from_residual.ensures.1 in rw (p.1, p.2) (stops_so _ _ _ (λ z. statement_fails a c.requires.other (no_label_here z) (async_named a c.requires.no_function) b (u text f a) z) (c.in_err-expression.ensures.answers text f a))
+
+pub refuse_here-requires-clause-at : goal.refuse_here-requires-clause-at
+refuse_here-requires-clause-at t c = (c.in_ok-expression.ensures.answers _ _ c.requires.at).answer.at.at
+
+pub refuse_here-requires-clause-mark : goal.refuse_here-requires-clause-mark
+refuse_here-requires-clause-mark t c = foreign_marked c.in-Some.kind c.requires.at (c.in_ok-expression.ensures.answers _ _ c.requires.at) (found_foreign c.in-Some.is c.kept_so_far-kept.ensures c.foreign_operator.ensures)
+
+pub refuse_here-requires-clause-ends : goal.refuse_here-requires-clause-ends
+refuse_here-requires-clause-ends t c = foreign_ends _ _ c.in-Some.kind _ (found_foreign c.in-Some.is c.kept_so_far-kept.ensures c.foreign_operator.ensures)
+
+pub returns-in-Some : goal.returns-in-Some
+returns-in-Some t c = λ b u text f a.
+    let x = (c.in_ok-expression.ensures.answers text f a).answer in
+    let n = foreign_unended _ _ c.in-Some.kind (found_foreign c.in-Some.is c.kept_so_far-kept.ensures c.foreign_operator.ensures) in
+    stops_behind _ _ x.same (λ g. after x.verdict g) (λ m. statement_unended a c.requires.other (no_label a x (no_colon c.args.p.now c.sequence.new.p c.cur_token-first.ensures c.is_label.ensures c.if-is_label.false)) (async_named a c.requires.no_function) b (u text f a) x m) (gives_up EndsParse _ _ c.refuse_here.result x.at c.refuse_here.ensures (λ d v. v) n)
 
 pub end_statement-requires : goal.end_statement-requires
 end_statement-requires t c = standing (c.in_ok-expression.ensures.answers _ _ c.requires.at).answer.at

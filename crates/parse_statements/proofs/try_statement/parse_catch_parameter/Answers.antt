@@ -1,7 +1,9 @@
-use Rattle.std.proofs.Common.{◌∙◌, arith, refl}
+use Rattle.std.proofs.Common.{◌≡◌, ◌∙◌, arith, refl, sym}
 use Rattle.std.proofs.lemmas.Result.{err_from_is_err_and}
-use Rattle.js_base.specs.declared.kind.Kind.TheVariants.{LParen, RParen}
+use Rattle.js_base.specs.declared.kind.Kind.TheVariants.{Colon, LParen, RParen}
 use Rattle.parse_primary.proofs.laws_primary.Members.{stands_so}
+use Rattle.parse_shared.specs.laws_shared.Classes.{EndsParse}
+use Rattle.parse_shared.proofs.laws_shared.Giving.{gives_up}
 use Rattle.parse_shared.proofs.laws_shared.Expected.{expected, unexpected}
 use Rattle.parse_shared.proofs.laws_shared.Moving.{standing}
 use Rattle.parse_shared.proofs.laws_shared.Nesting.{nested_room}
@@ -39,6 +41,25 @@ end_span-span-requires t c =
 
 pub returns-in_err-node : goal.returns-in_err-node
 returns-in_err-node t c = let p = err_from_is_err_and c.from_residual-in_err-node.result c.from_residual-in_err-node.ensures.1 in rw (p.1, p.2) tt
+
+pub refuse_annotation-requires-clause-at : goal.refuse_annotation-requires-clause-at
+refuse_annotation-requires-clause-at t c =
+    let h = stands_so c.args.p.now LParen c.if-not-stands.false c.stands.ensures in
+    let m = c.in_ok-advance.ensures _ _ c.requires.at in
+    standing (parameter_made c.requires.at h m (c.in_ok-binding.ensures _ _ m.at) _ (c.end_span-span.ensures.start ∙ c.cur_start-start.ensures) c.end_span-span.ensures.end c.in_ok-node.ensures).at
+
+pub refuse_annotation-requires-clause-colon : goal.refuse_annotation-requires-clause-colon
+refuse_annotation-requires-clause-colon t c = c.at.ensures.0 c.if-at.true
+
+pub returns-then-at : goal.returns-then-at
+returns-then-at t c =
+    let h = stands_so c.args.p.now LParen c.if-not-stands.false c.stands.ensures in
+    part_stops parameter_of LParen c.args.p.now _ c.refuse_annotation.result h (λ text f a.
+    let m = c.in_ok-advance.ensures text f a in
+    let x = c.in_ok-binding.ensures text f m.at in
+    let b = c.end_span-span.ensures.start ∙ c.cur_start-start.ensures in
+    let z = parameter_made a h m x _ b c.end_span-span.ensures.end c.in_ok-node.ensures in
+    parameter_unclosed a h m x _ b c.end_span-span.ensures.end c.in_ok-node.ensures _ _ (gives_up EndsParse _ _ c.refuse_annotation.result z.at c.refuse_annotation.ensures (λ d u. u) (no_last z.at RParen refl (λ k e. let q : Colon ≡ RParen = sym (c.at.ensures.0 c.if-at.true) ∙ k in cc))))
 
 pub expect-requires : goal.expect-requires
 expect-requires t c =
