@@ -1,4 +1,4 @@
-pub mod Refusals
+pub mod GivingUp
 pub use Rattle.laws_shared.proofs.js_cursor as js_cursor
 pub use Rattle.laws_shared.proofs.js_lex as js_lex
 pub use Rattle.laws_shared.proofs.js_tree as js_tree

@@ -1,5 +1,5 @@
 use Rattle.std.proofs.Common.{refl}
-use Rattle.parse_shared.proofs.Refusals.{annotation_marked}
+use Rattle.parse_shared.proofs.GivingUp.{annotation_marked}
 use Rattle.parse_shared.proofs.refusals.refuse_annotation.Goals as goal
 
 pub refuse_here-requires-clause-mark : goal.refuse_here-requires-clause-mark

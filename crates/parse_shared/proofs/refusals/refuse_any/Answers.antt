@@ -1,4 +1,4 @@
-use Rattle.parse_shared.proofs.Refusals.{any_ends}
+use Rattle.parse_shared.proofs.GivingUp.{any_ends}
 use Rattle.parse_shared.proofs.refusals.refuse_any.Goals as goal
 
 pub returns : goal.returns

@@ -2,7 +2,7 @@ use Rattle.std.proofs.Common.{subst, sym}
 use Rattle.js_base.specs.declared.diagnostic.Diagnostic.{Diagnostic}
 use Rattle.js_grammar.specs.Marks.{Mark}
 use Rattle.laws_shared.specs.js_cursor.Places.{goal as goal_at}
-use Rattle.parse_shared.proofs.Refusals.{told_ends}
+use Rattle.parse_shared.proofs.GivingUp.{told_ends}
 use Rattle.parse_shared.proofs.refusals.refuse_at.Goals as goal
 
 pub set_fatal_error-requires-clause-mark : goal.set_fatal_error-requires-clause-mark

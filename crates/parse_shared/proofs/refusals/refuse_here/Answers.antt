@@ -1,6 +1,6 @@
 use Rattle.std.proofs.Common.{◌∙◌, ap}
 use Rattle.js_base.specs.declared.token.Token.{Token}
-use Rattle.parse_shared.proofs.Refusals.{ends_at, marked_at}
+use Rattle.parse_shared.proofs.GivingUp.{ends_at, marked_at}
 use Rattle.parse_shared.proofs.refusals.refuse_here.Goals as goal
 
 pub refuse_at-requires-clause-mark : goal.refuse_at-requires-clause-mark

@@ -1,13 +1,12 @@
 -- Where a parse function gives up: what is told, and that it has its mark.
-use Rattle.std.proofs.Common.{◌≡◌, List, ℕ, [], ◌∷◌, Option, None, refl, sym, subst, ◌∙◌}
+use Rattle.std.proofs.Common.{◌≡◌, List, ℕ, None, refl, sym, subst, ◌∙◌}
 use Rattle.js_base.specs.declared.diagnostic.Diagnostic.{Diagnostic}
 use Rattle.js_base.specs.declared.diagnostic.DiagnosticKind.{DiagnosticKind}
 use Rattle.js_base.specs.declared.diagnostic.DiagnosticKind.TheVariants.{TypeAnnotationInTs}
-use Rattle.js_base.specs.declared.kind.Kind.{Kind}
 use Rattle.js_base.specs.declared.kind.Kind.TheVariants.{Colon}
 use Rattle.js_base.specs.declared.span.Span.{Span}
 use Rattle.js_base.specs.Texts.{words}
-use Rattle.js_grammar.specs.Marks.{LexemeAt, Mark, StandsAt, any_lexeme, of_kinds, the_end, the_start}
+use Rattle.js_grammar.specs.Marks.{Mark, StandsAt}
 use Rattle.js_grammar.specs.Productions.{Flags}
 use Rattle.laws_shared.specs.js_cursor.Moves.{GivesUp, IsUnexpected}
 use Rattle.laws_shared.specs.js_cursor.Parsers.{Parser}
