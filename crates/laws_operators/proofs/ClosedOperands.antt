@@ -3,7 +3,7 @@ use Rattle.std.proofs.Common.{ℕ, ◌≡◌, inl, Bool, true, false, not, cond,
 use Rattle.std.specs.Prelude.{MatchResult, Option, Result, Ok, Err}
 use Rattle.std.proofs.lemmas.Bool.{false≢true, and_right}
 use Rattle.js_base.specs.declared.kind.Kind.{Kind}
-use Rattle.js_base.specs.declared.kind.Kind.TheVariants.{Arrow, Async, Await, Comma, Decimal, Dot, Function, Ident, LBrack, LParen, New, PrivateIdentifier, Question, Question2, QuestionDot, RAngle, RBrack, RParen, Semicolon, Star2, Str, Super, Yield}
+use Rattle.js_base.specs.declared.kind.Kind.TheVariants.{Arrow, Async, Await, Comma, Decimal, Dot, Function, Ident, Import, LBrack, LParen, New, PrivateIdentifier, Question, Question2, QuestionDot, RAngle, RBrack, RParen, Semicolon, Star2, Str, Super, Yield}
 use Rattle.js_base.specs.KindSets.{number_kinds, binding_identifier_kinds}
 use Rattle.js_base.specs.Contexts.{await_flag, has_flag, yield_flag}
 use Rattle.js_base.specs.Kinds.{same_kind, one_of_kinds}
@@ -33,7 +33,7 @@ use Rattle.laws_shared.proofs.Signs.{plain_sign}
 use Rattle.laws_patterns.specs.laws_primary.Members.{LinkForm, by_call, by_index, by_name, by_private, no_link, sign_of}
 use Rattle.laws_patterns.specs.laws_primary.Numbers.{node_of_number, op_of_number}
 use Rattle.laws_patterns.specs.laws_primary.Templates.{heads}
-use Rattle.laws_patterns.proofs.laws_primary.Members.{head_closed, lhs_callee, member_closed, member_init}
+use Rattle.laws_patterns.proofs.laws_primary.Members.{head_closed, lhs_callee, member_closed, member_init, no_import_here}
 use Rattle.laws_patterns.proofs.laws_primary.Operands.{leaf_outcome, name_outcome, number_outcome, string_path}
 use Rattle.laws_operators.specs.Arrows.{NoArrowHere, NoLineHere}
 use Rattle.laws_operators.specs.ClosedOperands.{ClosesAt, LexemeTaken, TakesClosed, TakesLexeme, a_name, a_number, a_string, closing_signs}
@@ -95,11 +95,14 @@ module _ {p q : Parser} {id : NodeId} (t : LexemeTaken p q id) (c : one_of_kinds
   no_link_sign by_index false = other_sign LBrack refl
 
   module _ {text : List ℕ} {f : Flags} (a : At text f p) where
+    other_word : StandsHere p Import false
+    other_word = taken_kind (λ k. k ≡ Import → p.token.escaped ≡ false → ⊥) (λ e w. absurd (cc)) (λ e w. absurd (cc)) (λ e w. absurd (cc)) t
+
     left_hand_taken : Numbered text f (at LeftHandSide f) p q id
     left_hand_taken =
         let x = primary_taken a t in
-        let m = member_closed (member_init a (taken_kind (λ k. k ≡ New → p.token.escaped ≡ false → ⊥) (λ e w. absurd (cc)) (λ e w. absurd (cc)) (λ e w. absurd (cc)) t) (taken_kind (λ k. k ≡ Super → p.token.escaped ≡ false → ⊥) (λ e w. absurd (cc)) (λ e w. absurd (cc)) (λ e w. absurd (cc)) t) x) (no_link (λ l o h. no_link_sign l o), closing_apart heads q.token.kind c refl refl refl refl) in
-        let h = head_closed m.0 m.1 (other_sign LParen refl) in
+        let m = member_closed (member_init a (taken_kind (λ k. k ≡ New → p.token.escaped ≡ false → ⊥) (λ e w. absurd (cc)) (λ e w. absurd (cc)) (λ e w. absurd (cc)) t) (taken_kind (λ k. k ≡ Super → p.token.escaped ≡ false → ⊥) (λ e w. absurd (cc)) (λ e w. absurd (cc)) (λ e w. absurd (cc)) t) other_word x) (no_link (λ l o h. no_link_sign l o), closing_apart heads q.token.kind c refl refl refl refl) in
+        let h = head_closed m.0 (no_import_here a other_word) m.1 (other_sign LParen refl) in
         lhs_callee h.0 h.1 h.2 (other_sign QuestionDot refl)
 
     update_taken : Numbered text f (at Update f) p q id

@@ -4,7 +4,7 @@ use Rattle.std.specs.Prelude.{Result, Ok, Err}
 use Rattle.std.proofs.lemmas.Bool.{false≢true}
 use Rattle.js_base.specs.declared.diagnostic.DiagnosticKind.TheVariants.{ExpectToken}
 use Rattle.js_base.specs.declared.kind.Kind.{Kind}
-use Rattle.js_base.specs.declared.kind.Kind.TheVariants.{Arrow, Dot3, LParen, New, PrivateIdentifier, RAngle, RCurly, RParen, Slash, SlashEq, Super, Await}
+use Rattle.js_base.specs.declared.kind.Kind.TheVariants.{Arrow, Dot3, Import, LParen, New, PrivateIdentifier, RAngle, RCurly, RParen, Slash, SlashEq, Super, Await}
 use Rattle.js_base.specs.declared.token.Token.{Token}
 use Rattle.js_base.specs.Kinds.{same_kind, one_of_kinds}
 use Rattle.js_grammar.specs.Trees.{Slots, end, parenthesized_expression}
@@ -27,11 +27,12 @@ use Rattle.laws_shared.specs.js_cursor.Notes.{Notes, closing_known, is_place}
 use Rattle.laws_shared.specs.js_cursor.Parsers.{Parser}
 use Rattle.laws_shared.specs.js_cursor.declared.stop.Stop.{Stop}
 use Rattle.laws_patterns.proofs.laws_primary.Links.{no_lhs_here}
-use Rattle.laws_patterns.proofs.laws_primary.Members.{no_head}
+use Rattle.laws_patterns.proofs.laws_primary.Members.{no_head, no_import_here}
 use Rattle.laws_shared.specs.Answers.{Answers, Stops, Underived}
 use Rattle.laws_shared.specs.Heads.{NoHead, OnlyArrow}
 use Rattle.laws_shared.specs.Lexemes.{Lex, signs}
 use Rattle.laws_shared.specs.Operators.{unary_kinds}
+use Rattle.laws_shared.specs.Stands.{StandsHere}
 use Rattle.laws_shared.specs.States.{At, Standing}
 use Rattle.laws_shared.proofs.Classes.{here_ends}
 use Rattle.laws_shared.proofs.Giving.{gives_up}
@@ -92,8 +93,11 @@ module _ {text : List ℕ} {f : Flags} {p : Parser} (a : At text f p) (k : p.tok
     no_primary : Underived text (at Primary f) p.prev_token_end
     no_primary = fails_by (paren_alone ▹✗ fails_node inside_full (behind_paren a k (λ y l h. not_both (starts first (inner f ▸ tok RParen) (plain full).base) is_dots (no_dots f) y.kind y.newline y.escaped h (ap (same_kind Dot3) (n y l)))))
 
+    other_word : StandsHere p Import false
+    other_word z w = let q : LParen ≡ Import = sym k ∙ z in absurd (cc)
+
     no_update : Underived text (at Update f) p.prev_token_end
-    no_update = nothing_read a (ap (one_of_kinds update_kinds) k) (no_lhs_here f (no_head a (λ z w. let q : LParen ≡ New = sym k ∙ z in absurd (cc)) (λ z w. let q : LParen ≡ Super = sym k ∙ z in absurd (cc)) no_primary))
+    no_update = nothing_read a (ap (one_of_kinds update_kinds) k) (no_lhs_here f (no_head a (λ z w. let q : LParen ≡ New = sym k ∙ z in absurd (cc)) (λ z w. let q : LParen ≡ Super = sym k ∙ z in absurd (cc)) other_word no_primary) (no_import_here a other_word))
 
     pub no_operand_begins : Underived text (at Short f) p.prev_token_end
     unfolding covers

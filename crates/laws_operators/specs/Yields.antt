@@ -1,7 +1,7 @@
 -- What the parse functions of YieldExpressions answer (ECMA-262, 15.5).
 use Rattle.std.specs.Prelude.{ℕ, ◌≡◌, ◌||◌, Bool, true, false, List, [], ◌∷◌, Result, is_some}
 use Rattle.js_base.specs.declared.kind.Kind.{Kind}
-use Rattle.js_base.specs.declared.kind.Kind.TheVariants.{At as at_sign, Yield, Star, Slash, SlashEq, This, LParen, LBrack, LCurly, Function, Class, NoSubstitutionTemplate, TemplateHead, Percent, New, Super, PrivateIdentifier}
+use Rattle.js_base.specs.declared.kind.Kind.TheVariants.{At as at_sign, Yield, Star, Slash, SlashEq, This, LParen, LBrack, LCurly, Function, Class, Import, NoSubstitutionTemplate, TemplateHead, Percent, New, Super, PrivateIdentifier}
 use Rattle.js_base.specs.Contexts.{has_flag, yield_flag}
 use Rattle.js_base.specs.Kinds.{one_of_kinds}
 use Rattle.js_base.specs.KindSets.{binding_identifier_kinds, literal_kinds}
@@ -22,7 +22,7 @@ pub record BeginsYield (p : Parser) : Type 0 where
 
 -- What begins an expression, and is no name, no literal and no operator before an operand, with the `*` of `yield`; a slash begins a regular expression.
 abbrev pub other_arguments : List Kind
-other_arguments = Star ∷ Slash ∷ SlashEq ∷ This ∷ LParen ∷ LBrack ∷ LCurly ∷ Function ∷ Class ∷ at_sign ∷ NoSubstitutionTemplate ∷ TemplateHead ∷ Percent ∷ New ∷ Super ∷ PrivateIdentifier ∷ []
+other_arguments = Star ∷ Slash ∷ SlashEq ∷ This ∷ LParen ∷ LBrack ∷ LCurly ∷ Function ∷ Class ∷ at_sign ∷ NoSubstitutionTemplate ∷ TemplateHead ∷ Percent ∷ New ∷ Super ∷ Import ∷ PrivateIdentifier ∷ []
 
 -- what may not stand behind a bare `yield` on its line
 abbrev pub yields_argument : Kind → Bool

@@ -12,6 +12,8 @@ pub mod Decorators
 pub mod DecoratorMembers
 pub mod FlagFaults
 pub mod Functions
+pub mod ImportCalls
+pub mod ImportWords
 pub mod Intrinsics
 pub mod KeptSlots
 pub mod Links

@@ -4,11 +4,11 @@ use Rattle.std.proofs.Common.{ℕ, ◌≡◌, ◌≤◌, ◌⊎◌, inl, inr, ma
 use Rattle.std.proofs.lemmas.Bool.{false≢true, and_parts, and_from}
 use Rattle.laws_primary.proofs.ArgumentLists.{is_one}
 use Rattle.js_base.specs.declared.kind.Kind.{Kind}
-use Rattle.js_base.specs.declared.kind.Kind.TheVariants.{Dot, QuestionDot, New, LParen, LBrack, NoSubstitutionTemplate, TemplateHead, Function, Super as super_kind, PrivateIdentifier}
+use Rattle.js_base.specs.declared.kind.Kind.TheVariants.{Dot, Import, QuestionDot, New, LParen, LBrack, NoSubstitutionTemplate, TemplateHead, Function, Super as super_kind, PrivateIdentifier}
 use Rattle.js_base.specs.Kinds.{same_kind, one_of_kinds}
 use Rattle.js_base.proofs.KindLemmas.{kind_of_same}
 use Rattle.js_grammar.specs.FirstSets.{any_word}
-use Rattle.js_grammar.specs.Trees.{Slots, end, tree, Label, no_op, call_expression, new_expression, new_target_expression, tagged_template_expression}
+use Rattle.js_grammar.specs.Trees.{Slots, end, tree, Label, no_op, call_expression, import_expression, import_meta, new_expression, new_target_expression, tagged_template_expression}
 use Rattle.js_grammar.specs.Grammar.{Lexeme, Lexemes, Look, here, is, such, alt, never, node, seq, nothing, when}
 use Rattle.js_grammar.specs.Parsing.{Test, plain, full, always, still, joined, Goes, Reads, Fails, Admits}
 use Rattle.js_grammar.specs.Productions.{G, Flags, Symbol, at, tok, optional_flag, Primary, Member, Call, Chain, Links, Super, LeftHandSide, Template}
@@ -32,10 +32,11 @@ use Rattle.laws_shared.specs.Lexemes.{Lex}
 use Rattle.laws_shared.specs.Answers.{Stretch, Underived}
 use Rattle.laws_primary.specs.Templates.{heads, tagged_label}
 use Rattle.laws_primary.specs.Supers.{is_private_member}
-use Rattle.laws_primary.specs.Members.{Looped, NoBareNew, NoMember, NoSuperCall, SuperWord, before_call, without_arguments, access_kinds, link_kinds, LinkForm, by_name, by_private, by_call, by_index, chained, admits as admits_link, NoLink, OnlyLink, sign_of, node_of, link_label}
+use Rattle.laws_primary.specs.Members.{Looped, NoBareNew, NoMember, NoSuperCall, SuperWord, NoImport, before_call, import_slots, without_arguments, access_kinds, link_kinds, LinkForm, by_name, by_private, by_call, by_index, chained, admits as admits_link, NoLink, OnlyLink, sign_of, node_of, link_label}
 use Rattle.laws_primary.specs.declared.forms.LinkBase.TheVariants.{Member as OfMember'}
 use Rattle.laws_shared.proofs.Dead.{live, lives}
 use Rattle.laws_shared.proofs.Paths.{reads}
+use Rattle.laws_primary.specs.Imports.{meta_slots}
 use Rattle.laws_primary.specs.NewTargets.{target_slots}
 
 abbrev no_function : Look
@@ -76,6 +77,10 @@ module _ (f : Flags) where
   abbrev pub new_target : G
   new_target = when f.new_target (node (make_of new_target_expression no_op 0) target_slots)
 
+  -- `import.meta`, where it may stand
+  abbrev pub meta_property : G
+  meta_property = when f.module_goal (node (make_of import_meta no_op 0) meta_slots)
+
   -- a name or an expression in brackets behind `super`
   abbrev pub behind_super : LinkForm → G
   behind_super c = seq (alt never (such (at Super f) always)) (chained f c false).part
@@ -88,7 +93,7 @@ module _ (f : Flags) where
 
   -- what a member begins with
   abbrev member_feet : G
-  member_feet = alt (such (at Primary f) always) (alt new_with (alt super_links new_target))
+  member_feet = alt (such (at Primary f) always) (alt new_with (alt super_links (alt new_target meta_property)))
 
   member_left : live (base_of is_member Member f) ≡ member_feet
   unfolding rule_of apart
@@ -114,7 +119,10 @@ module _ (f : Flags) where
   abbrev first_links : G
   first_links = alt (first_link by_call) (alt (first_link by_name) (alt (first_link by_private) (first_link by_index)))
 
-  call_left : live (base_of is_call Call f) ≡ first_call
+  abbrev import_call : G
+  import_call = node (make_of import_expression no_op 0) (import_slots f)
+
+  call_left : live (base_of is_call Call f) ≡ alt first_call import_call
   unfolding rule_of apart
   call_left = refl
 
@@ -186,6 +194,16 @@ module _ {text : List ℕ} (f : Flags) where
   no_target : {X : Test} {s : ℕ} → NoneIs text s New → Fails rule (Lex text) X end (new_target f) s
   no_target n = fails_under (fails_here firsts (λ y l h. none_seen n y l h))
 
+  no_meta : {X : Test} {s : ℕ} → NoneIs text s Import → Fails rule (Lex text) X end (meta_property f) s
+  no_meta n = fails_under (fails_here firsts (λ y l h. none_seen n y l h))
+
+  -- neither `new.target` nor `import.meta`
+  no_property : {X : Test} {s : ℕ} → NoneIs text s New → NoneIs text s Import → Fails rule (Lex text) X end (alt (new_target f) (meta_property f)) s
+  no_property n i = fails_alt (no_target n) (no_meta i)
+
+  pub no_import : {s : ℕ} → NoneIs text s Import → NoImport text f s
+  no_import n = fails_here firsts (none_seen n)
+
   -- where another word stands
   pub no_behind_super : (c : LinkForm) {s : ℕ} → NoneIs text s super_kind → Fails rule (Lex text) (plain full) end (behind_super f c) s
   unfolding covers
@@ -201,30 +219,40 @@ module _ {text : List ℕ} (f : Flags) where
   no_supers n = no_super_link (no_behind_super by_name n) (no_behind_super by_index n)
 
   -- a primary expression was read
-  pub member_start : {s s' from : ℕ} {l : Label} {cs : Slots} {pass : Lexemes → Lexemes} → NoneIs text s New → NoneIs text s super_kind → Stretch text (after (at Primary f)) (such (at Primary f) always) s nothing s' (tree l cs) pass → ((y : Lexeme) → Lex text s y → y.from ≡ from) → Looped text (members f) (after (at Member f)) s from l cs pass s'
+  pub member_start : {s s' from : ℕ} {l : Label} {cs : Slots} {pass : Lexemes → Lexemes} → NoneIs text s New → NoneIs text s super_kind → NoneIs text s Import → Stretch text (after (at Primary f)) (such (at Primary f) always) s nothing s' (tree l cs) pass → ((y : Lexeme) → Lex text s y → y.from ≡ from) → Looped text (members f) (after (at Member f)) s from l cs pass s'
   unfolding member_links rule_of covers
-  member_start n u x b = record { reach = max 0 (max 0 x.reach); near = let i = x.near in omega arith; around = chain_start firsts (climbs is_member Member f) (member_links f) {F' = no_function} (member_foot ▹ (left (fails_alt (no_with n) (fails_alt (no_supers u) (no_target n))) ▹ weaken x.goes (λ ts y e. admits (at Primary f) ts y e.0))) refl refl b }
+  member_start n u w x b = record { reach = max 0 (max 0 x.reach); near = let i = x.near in omega arith; around = chain_start firsts (climbs is_member Member f) (member_links f) {F' = no_function} (member_foot ▹ (left (fails_alt (no_with n) (fails_alt (no_supers u) (no_property n w))) ▹ weaken x.goes (λ ts y e. admits (at Primary f) ts y e.0))) refl refl b }
 
-  pub no_member : {s : ℕ} → NoneIs text s New → NoneIs text s super_kind → Underived text (at Primary f) s → Underived text (at Member f) s
+  pub no_member : {s : ℕ} → NoneIs text s New → NoneIs text s super_kind → NoneIs text s Import → Underived text (at Primary f) s → Underived text (at Member f) s
   unfolding member_links rule_of covers
-  no_member n u x = chain_start_fails firsts (climbs is_member Member f) (member_links f) {F' = no_function} (member_foot ▹✗ fails_alt (weaken_fails x (λ ts y e. admits (at Primary f) ts y e.0)) (fails_alt (no_with n) (fails_alt (no_supers u) (no_target n)))) refl refl
+  no_member n u w x = chain_start_fails firsts (climbs is_member Member f) (member_links f) {F' = no_function} (member_foot ▹✗ fails_alt (weaken_fails x (λ ts y e. admits (at Primary f) ts y e.0)) (fails_alt (no_with n) (fails_alt (no_supers u) (no_property n w)))) refl refl
 
   -- `new` with arguments was read
-  pub member_new : {s s' from : ℕ} {h : Slots → Slots} {pass : Lexemes → Lexemes} → NoneIs text s super_kind → Underived text (at Primary f) s → Fails rule (Lex text) (plain full) end target_slots s → Stretch text (plain full) (with_arguments f) s nothing s' h pass → ((y : Lexeme) → Lex text s y → y.from ≡ from) → Looped text (members f) (after (at Member f)) s from (linked_label (link new_expression no_op 0 (with_arguments f)) from s') (h end) pass s'
+  pub member_new : {s s' from : ℕ} {h : Slots → Slots} {pass : Lexemes → Lexemes} → NoneIs text s super_kind → NoneIs text s Import → Underived text (at Primary f) s → Fails rule (Lex text) (plain full) end target_slots s → Stretch text (plain full) (with_arguments f) s nothing s' h pass → ((y : Lexeme) → Lex text s y → y.from ≡ from) → Looped text (members f) (after (at Member f)) s from (linked_label (link new_expression no_op 0 (with_arguments f)) from s') (h end) pass s'
   unfolding member_links rule_of covers
-  member_new {s' = s'} {from} u x n y b = record { reach = max 0 (max 0 (max 0 y.reach)); near = let i = y.near in omega arith; around = chain_start firsts (climbs is_member Member f) (member_links f) {F' = no_function} (member_foot ▹ (right (weaken_fails x (λ ts y e. admits (at Primary f) ts y e.0)) ▹ (left (fails_alt (no_supers u) (fails_under (fails_node inside_full n))) ▹ makes_by (linked_label (link new_expression no_op 0 (with_arguments f)) from s') inside_full y.goes (λ ls ls' i j. ap (λ v. linked_label (link new_expression no_op 0 (with_arguments f)) v s') (b (here ls) (here_at (Lex text) ls i)))))) refl refl b }
+  member_new {s' = s'} {from} u w x n y b = record { reach = max 0 (max 0 (max 0 y.reach)); near = let i = y.near in omega arith; around = chain_start firsts (climbs is_member Member f) (member_links f) {F' = no_function} (member_foot ▹ (right (weaken_fails x (λ ts y e. admits (at Primary f) ts y e.0)) ▹ (left (fails_alt (no_supers u) (fails_alt (fails_under (fails_node inside_full n)) (no_meta w))) ▹ makes_by (linked_label (link new_expression no_op 0 (with_arguments f)) from s') inside_full y.goes (λ ls ls' i j. ap (λ v. linked_label (link new_expression no_op 0 (with_arguments f)) v s') (b (here ls) (here_at (Lex text) ls i)))))) refl refl b }
 
-  pub no_member_new : {s : ℕ} → NoneIs text s super_kind → Underived text (at Primary f) s → Fails rule (Lex text) (plain full) end (with_arguments f) s → ((X : Test) → Fails rule (Lex text) X end (new_target f) s) → Underived text (at Member f) s
+  pub no_member_new : {s : ℕ} → NoneIs text s super_kind → NoneIs text s Import → Underived text (at Primary f) s → Fails rule (Lex text) (plain full) end (with_arguments f) s → ((X : Test) → Fails rule (Lex text) X end (new_target f) s) → Underived text (at Member f) s
   unfolding member_links rule_of covers
-  no_member_new u x n t = chain_start_fails firsts (climbs is_member Member f) (member_links f) {F' = no_function} (member_foot ▹✗ fails_alt (weaken_fails x (λ ts y e. admits (at Primary f) ts y e.0)) (fails_alt (fails_node inside_full n) (fails_alt (no_supers u) (t _)))) refl refl
+  no_member_new u w x n t = chain_start_fails firsts (climbs is_member Member f) (member_links f) {F' = no_function} (member_foot ▹✗ fails_alt (weaken_fails x (λ ts y e. admits (at Primary f) ts y e.0)) (fails_alt (fails_node inside_full n) (fails_alt (no_supers u) (fails_alt (t _) (no_meta w))))) refl refl
 
   -- `new.target` was read
-  pub member_target : {s s' from : ℕ} {h : Slots → Slots} {pass : Lexemes → Lexemes} → NoneIs text s super_kind → f.new_target ≡ true → Underived text (at Primary f) s → Fails rule (Lex text) (plain full) end (with_arguments f) s → Stretch text (plain full) target_slots s nothing s' h pass → ((y : Lexeme) → Lex text s y → y.from ≡ from) → Looped text (members f) (after (at Member f)) s from (linked_label (link new_target_expression no_op 0 target_slots) from s') (h end) pass s'
+  pub member_target : {s s' from : ℕ} {h : Slots → Slots} {pass : Lexemes → Lexemes} → NoneIs text s super_kind → NoneIs text s Import → f.new_target ≡ true → Underived text (at Primary f) s → Fails rule (Lex text) (plain full) end (with_arguments f) s → Stretch text (plain full) target_slots s nothing s' h pass → ((y : Lexeme) → Lex text s y → y.from ≡ from) → Looped text (members f) (after (at Member f)) s from (linked_label (link new_target_expression no_op 0 target_slots) from s') (h end) pass s'
   unfolding member_links rule_of covers
-  member_target {s' = s'} {from} u c x n y b = record { reach = max 0 (max 0 (max 0 (max 0 (max 0 y.reach)))); near = let i = y.near in omega arith; around = chain_start firsts (climbs is_member Member f) (member_links f) {F' = no_function} (member_foot ▹ (right (weaken_fails x (λ ts y e. admits (at Primary f) ts y e.0)) ▹ (right (fails_node inside_full n) ▹ (right (no_supers u) ▹ (where_true c ▹ makes_by (linked_label (link new_target_expression no_op 0 target_slots) from s') inside_full y.goes (λ ls ls' i j. ap (λ v. linked_label (link new_target_expression no_op 0 target_slots) v s') (b (here ls) (here_at (Lex text) ls i)))))))) refl refl b }
+  member_target {s' = s'} {from} u w c x n y b = record { reach = max 0 (max 0 (max 0 (max 0 (max 0 (max 0 y.reach))))); near = let i = y.near in omega arith; around = chain_start firsts (climbs is_member Member f) (member_links f) {F' = no_function} (member_foot ▹ (right (weaken_fails x (λ ts y e. admits (at Primary f) ts y e.0)) ▹ (right (fails_node inside_full n) ▹ (right (no_supers u) ▹ (left (no_meta w) ▹ (where_true c ▹ makes_by (linked_label (link new_target_expression no_op 0 target_slots) from s') inside_full y.goes (λ ls ls' i j. ap (λ v. linked_label (link new_target_expression no_op 0 target_slots) v s') (b (here ls) (here_at (Lex text) ls i))))))))) refl refl b }
+
+  -- `import.meta` was read
+  pub member_meta : {s s' from : ℕ} {h : Slots → Slots} {pass : Lexemes → Lexemes} → NoneIs text s New → NoneIs text s super_kind → f.module_goal ≡ true → Underived text (at Primary f) s → Stretch text (plain full) meta_slots s nothing s' h pass → ((y : Lexeme) → Lex text s y → y.from ≡ from) → Looped text (members f) (after (at Member f)) s from (linked_label (link import_meta no_op 0 meta_slots) from s') (h end) pass s'
+  unfolding member_links rule_of covers
+  member_meta {s' = s'} {from} n u c x y b = record { reach = max 0 (max 0 (max 0 (max 0 (max 0 (max 0 y.reach))))); near = let i = y.near in omega arith; around = chain_start firsts (climbs is_member Member f) (member_links f) {F' = no_function} (member_foot ▹ (right (weaken_fails x (λ ts y e. admits (at Primary f) ts y e.0)) ▹ (right (no_with n) ▹ (right (no_supers u) ▹ (right (no_target n) ▹ (where_true c ▹ makes_by (linked_label (link import_meta no_op 0 meta_slots) from s') inside_full y.goes (λ ls ls' i j. ap (λ v. linked_label (link import_meta no_op 0 meta_slots) v s') (b (here ls) (here_at (Lex text) ls i))))))))) refl refl b }
+
+  -- or can't be
+  pub no_member_import : {s : ℕ} → NoneIs text s New → NoneIs text s super_kind → Underived text (at Primary f) s → ((X : Test) → Fails rule (Lex text) X end (meta_property f) s) → Underived text (at Member f) s
+  unfolding member_links rule_of covers
+  no_member_import n u x t = chain_start_fails firsts (climbs is_member Member f) (member_links f) {F' = no_function} (member_foot ▹✗ fails_alt (weaken_fails x (λ ts y e. admits (at Primary f) ts y e.0)) (fails_alt (no_with n) (fails_alt (no_supers u) (fails_alt (no_target n) (t _))))) refl refl
 
   -- `super` was read
-  module _ {s s' : ℕ} {l : Label} {cs : Slots} {pass : Lexemes → Lexemes} (n : NoneIs text s New) (p : Underived text (at Primary f) s) (x : SuperWord text f s l cs pass s') where
+  module _ {s s' : ℕ} {l : Label} {cs : Slots} {pass : Lexemes → Lexemes} (n : NoneIs text s New) (w : NoneIs text s Import) (p : Underived text (at Primary f) s) (x : SuperWord text f s l cs pass s') where
     pub super_goes : (c : LinkForm) → Goes rule (Lex text) (plain full) end (behind_super f c) s (chained f c false).part s' (tree l cs) (joined (still 0) (record { reach = x.word.reach; pass = pass }))
     super_goes c = then_by {X' = plain full} (right fails_never ▹ x.word.goes) (record { admits = λ ts us vs j k ls mid rest d d' h. (refl, refl) })
 
@@ -238,12 +266,12 @@ module _ {text : List ℕ} (f : Flags) where
     member_super {s''} {from} by_name q u o b y = record {
       reach = max 0 (max 0 (max 0 (max 0 (max 0 (max (max 0 x.word.reach) y.reach)))));
       near = let i = x.word.near in let j = y.near in omega arith;
-      around = chain_start firsts (climbs is_member Member f) (member_links f) {F' = no_function} (member_foot ▹ (right (weaken_fails p (λ ts y e. admits (at Primary f) ts y e.0)) ▹ (right (no_with n) ▹ (left (no_target n) ▹ (left (another_property by_index by_name (λ e. cc) u) ▹ makes_by (link_label by_name false from s'') inside_full (super_goes by_name ▹ y.goes) (λ ls ls' i j. ap (λ v. link_label by_name false v s'') (b (here ls) (here_at (Lex text) ls i)))))))) refl refl b;
+      around = chain_start firsts (climbs is_member Member f) (member_links f) {F' = no_function} (member_foot ▹ (right (weaken_fails p (λ ts y e. admits (at Primary f) ts y e.0)) ▹ (right (no_with n) ▹ (left (no_property n w) ▹ (left (another_property by_index by_name (λ e. cc) u) ▹ makes_by (link_label by_name false from s'') inside_full (super_goes by_name ▹ y.goes) (λ ls ls' i j. ap (λ v. link_label by_name false v s'') (b (here ls) (here_at (Lex text) ls i)))))))) refl refl b;
     }
     member_super {s''} {from} by_index q u o b y = record {
       reach = max 0 (max 0 (max 0 (max 0 (max 0 (max (max 0 x.word.reach) y.reach)))));
       near = let i = x.word.near in let j = y.near in omega arith;
-      around = chain_start firsts (climbs is_member Member f) (member_links f) {F' = no_function} (member_foot ▹ (right (weaken_fails p (λ ts y e. admits (at Primary f) ts y e.0)) ▹ (right (no_with n) ▹ (left (no_target n) ▹ (right (another_property by_name by_index (λ e. cc) u) ▹ makes_by (link_label by_index false from s'') inside_full (super_goes by_index ▹ y.goes) (λ ls ls' i j. ap (λ v. link_label by_index false v s'') (b (here ls) (here_at (Lex text) ls i)))))))) refl refl b;
+      around = chain_start firsts (climbs is_member Member f) (member_links f) {F' = no_function} (member_foot ▹ (right (weaken_fails p (λ ts y e. admits (at Primary f) ts y e.0)) ▹ (right (no_with n) ▹ (left (no_property n w) ▹ (right (another_property by_name by_index (λ e. cc) u) ▹ makes_by (link_label by_index false from s'') inside_full (super_goes by_index ▹ y.goes) (λ ls ls' i j. ap (λ v. link_label by_index false v s'') (b (here ls) (here_at (Lex text) ls i)))))))) refl refl b;
     }
     member_super by_call q u o b y = absurd (false≢true q)
     member_super by_private q u o b y = absurd (false≢true q)
@@ -251,7 +279,7 @@ module _ {text : List ℕ} (f : Flags) where
     -- neither stands there
     pub no_member_super : Fails rule (Lex text) (plain full) end (chained f by_name false).part s' → Fails rule (Lex text) (plain full) end (chained f by_index false).part s' → Underived text (at Member f) s
     unfolding member_links rule_of covers
-    no_member_super z i = chain_start_fails firsts (climbs is_member Member f) (member_links f) {F' = no_function} (member_foot ▹✗ fails_alt (weaken_fails p (λ ts y e. admits (at Primary f) ts y e.0)) (fails_alt (no_with n) (fails_alt (no_super_link (super_goes by_name ▹✗ z) (super_goes by_index ▹✗ i)) (no_target n)))) refl refl
+    no_member_super z i = chain_start_fails firsts (climbs is_member Member f) (member_links f) {F' = no_function} (member_foot ▹✗ fails_alt (weaken_fails p (λ ts y e. admits (at Primary f) ts y e.0)) (fails_alt (no_with n) (fails_alt (no_super_link (super_goes by_name ▹✗ z) (super_goes by_index ▹✗ i)) (no_property n w)))) refl refl
 
   -- a name or an expression in brackets behind it
   pub member_step : {s s' s'' from : ℕ} {l : Label} {cs : Slots} {pass more : Lexemes → Lexemes} {h : Slots → Slots} (c : LinkForm) → admits_link OfMember' c false ≡ true → Looped text (members f) (after (at Member f)) s from l cs pass s' → AllAre text s' (sign_of c false) → OnlyLink text f s' c false → s' ≤ s'' → Stretch text (plain full) (chained f c false).part s' nothing s'' h more
@@ -344,7 +372,7 @@ module _ {text : List ℕ} (f : Flags) where
   unfolding covers
   member_before_chain x z = unfollowed x.goes (record { admits = λ ts vs k ls rest d e. admits (at Member f) ts (here rest) (covered (is QuestionDot) behind_member refl (here rest).kind (here rest).newline (here rest).escaped e.0) }) (λ us y i e. none_seen (is_one z parens_differ) y i e.0)
 
-  call_foot : {X : Test} {s : ℕ} → Goes rule (Lex text) X end (base_of is_call Call f) s (first_call f) s (λ us. us) (still 0)
+  call_foot : {X : Test} {s : ℕ} → Goes rule (Lex text) X end (base_of is_call Call f) s (alt (first_call f) (import_call f)) s (λ us. us) (still 0)
   call_foot {X} {s} = subst (λ (g : G). Goes rule (Lex text) X end (base_of is_call Call f) s g s (λ us. us) (still 0)) (call_left f) (lives (base_of is_call Call f))
 
   callee_goes : {s s' : ℕ} {l : Label} {cs : Slots} {pass : Lexemes → Lexemes} (x : Stretch text (after (at Member f)) (such (at Member f) always) s nothing s' (tree l cs) pass) → NoSuperCall text f s → Goes rule (Lex text) (plain full) end (seq (callees f) (args f)) s (args f) s' (tree l cs) (joined (still 0) (record { reach = x.reach; pass = pass }))
@@ -364,38 +392,43 @@ module _ {text : List ℕ} (f : Flags) where
   callee_fails x u = part_fails {X' = before_call} (fails_alt (no_member_call x) (fails_alt u fails_never)) (by_first firsts (by_plain (is LParen)) refl)
 
   -- no call begins here
-  no_call_by : {X : Test} {s : ℕ} → Fails rule (Lex text) (plain full) end (seq (callees f) (args f)) s → Fails rule (Lex text) X end (such (at Call f) always) s
+  no_call_by : {X : Test} {s : ℕ} → Fails rule (Lex text) (plain full) end (seq (callees f) (args f)) s → NoImport text f s → Fails rule (Lex text) X end (such (at Call f) always) s
   unfolding call_links rule_of covers
-  no_call_by x = chain_start_fails firsts (climbs is_call Call f) (call_links f) {F' = full} (call_foot ▹✗ fails_node inside_full x) refl refl
+  no_call_by x i = chain_start_fails firsts (climbs is_call Call f) (call_links f) {F' = full} (call_foot ▹✗ fails_alt (fails_node inside_full x) (fails_node inside_full i)) refl refl
 
-  pub no_call_at_all : {X : Test} {s : ℕ} → Underived text (at Member f) s → NoSuperCall text f s → Fails rule (Lex text) X end (such (at Call f) always) s
-  no_call_at_all x u = no_call_by (callee_fails x u)
+  pub no_call_at_all : {X : Test} {s : ℕ} → Underived text (at Member f) s → NoSuperCall text f s → NoImport text f s → Fails rule (Lex text) X end (such (at Call f) always) s
+  no_call_at_all x u i = no_call_by (callee_fails x u) i
 
-  pub no_super_call : {X : Test} {s s' : ℕ} {l : Label} {cs : Slots} {pass : Lexemes → Lexemes} → Underived text (at Member f) s → SuperWord text f s l cs pass s' → Fails rule (Lex text) (plain full) end (args f) s' → Fails rule (Lex text) X end (such (at Call f) always) s
-  no_super_call x w n = no_call_by (callee_super x w ▹✗ n)
+  pub no_super_call : {X : Test} {s s' : ℕ} {l : Label} {cs : Slots} {pass : Lexemes → Lexemes} → Underived text (at Member f) s → SuperWord text f s l cs pass s' → NoImport text f s → Fails rule (Lex text) (plain full) end (args f) s' → Fails rule (Lex text) X end (such (at Call f) always) s
+  no_super_call x w i n = no_call_by (callee_super x w ▹✗ n) i
 
-  pub no_call_behind : {X : Test} {s s' : ℕ} {l : Label} {cs : Slots} {pass : Lexemes → Lexemes} → Stretch text (after (at Member f)) (such (at Member f) always) s nothing s' (tree l cs) pass → NoSuperCall text f s → Fails rule (Lex text) (plain full) end (args f) s' → Fails rule (Lex text) X end (such (at Call f) always) s
-  no_call_behind x u n = no_call_by (callee_goes x u ▹✗ n)
+  pub no_call_behind : {X : Test} {s s' : ℕ} {l : Label} {cs : Slots} {pass : Lexemes → Lexemes} → Stretch text (after (at Member f)) (such (at Member f) always) s nothing s' (tree l cs) pass → NoSuperCall text f s → NoImport text f s → Fails rule (Lex text) (plain full) end (args f) s' → Fails rule (Lex text) X end (such (at Call f) always) s
+  no_call_behind x u i n = no_call_by (callee_goes x u ▹✗ n) i
 
   -- arguments were read behind a member
-  pub call_begin : {s s' s'' from : ℕ} {l : Label} {cs : Slots} {pass more : Lexemes → Lexemes} {h : Slots → Slots} → Stretch text (after (at Member f)) (such (at Member f) always) s nothing s' (tree l cs) pass → NoSuperCall text f s → s' ≤ s'' → ((y : Lexeme) → Lex text s y → y.from ≡ from) → Stretch text (plain full) (args f) s' nothing s'' h more
+  pub call_begin : {s s' s'' from : ℕ} {l : Label} {cs : Slots} {pass more : Lexemes → Lexemes} {h : Slots → Slots} → Stretch text (after (at Member f)) (such (at Member f) always) s nothing s' (tree l cs) pass → NoSuperCall text f s → NoImport text f s → s' ≤ s'' → ((y : Lexeme) → Lex text s y → y.from ≡ from) → Stretch text (plain full) (args f) s' nothing s'' h more
       → Looped text (calls f) (after (at Call f)) s from (link_label by_call false from s'') (tree l cs (h end)) (λ ls. pass (more ls)) s''
   unfolding call_links rule_of covers
-  call_begin {s = s} {s'' = s''} {from = from} x u o b y = record {
-    reach = max 0 (max (max 0 x.reach) y.reach);
+  call_begin {s = s} {s'' = s''} {from = from} x u w o b y = record {
+    reach = max 0 (max 0 (max (max 0 x.reach) y.reach));
     near = let i = x.near in let j = y.near in omega arith;
-    around = chain_start firsts (climbs is_call Call f) (call_links f) {F' = full} (call_foot ▹ makes_by (link_label by_call false from s'') inside_full (callee_goes x u ▹ y.goes) (λ ls ls' i j. ap (λ v. link_label by_call false v s'') (b (here ls) (here_at (Lex text) ls i)))) refl refl b;
+    around = chain_start firsts (climbs is_call Call f) (call_links f) {F' = full} (call_foot ▹ (left (fails_node inside_full w) ▹ makes_by (link_label by_call false from s'') inside_full (callee_goes x u ▹ y.goes) (λ ls ls' i j. ap (λ v. link_label by_call false v s'') (b (here ls) (here_at (Lex text) ls i))))) refl refl b;
   }
 
   -- and behind `super`
-  pub super_begin : {s s' s'' from : ℕ} {l : Label} {cs : Slots} {pass more : Lexemes → Lexemes} {h : Slots → Slots} → Underived text (at Member f) s → SuperWord text f s l cs pass s' → s' ≤ s'' → ((y : Lexeme) → Lex text s y → y.from ≡ from) → Stretch text (plain full) (args f) s' nothing s'' h more
+  pub super_begin : {s s' s'' from : ℕ} {l : Label} {cs : Slots} {pass more : Lexemes → Lexemes} {h : Slots → Slots} → Underived text (at Member f) s → SuperWord text f s l cs pass s' → NoImport text f s → s' ≤ s'' → ((y : Lexeme) → Lex text s y → y.from ≡ from) → Stretch text (plain full) (args f) s' nothing s'' h more
       → Looped text (calls f) (after (at Call f)) s from (link_label by_call false from s'') (tree l cs (h end)) (λ ls. pass (more ls)) s''
   unfolding call_links rule_of covers
-  super_begin {s = s} {s'' = s''} {from = from} n x o b y = record {
-    reach = max 0 (max (max 0 (max 0 x.word.reach)) y.reach);
+  super_begin {s = s} {s'' = s''} {from = from} n x w o b y = record {
+    reach = max 0 (max 0 (max (max 0 (max 0 x.word.reach)) y.reach));
     near = let i = x.word.near in let j = y.near in omega arith;
-    around = chain_start firsts (climbs is_call Call f) (call_links f) {F' = full} (call_foot ▹ makes_by (link_label by_call false from s'') inside_full (callee_super n x ▹ y.goes) (λ ls ls' i j. ap (λ v. link_label by_call false v s'') (b (here ls) (here_at (Lex text) ls i)))) refl refl b;
+    around = chain_start firsts (climbs is_call Call f) (call_links f) {F' = full} (call_foot ▹ (left (fails_node inside_full w) ▹ makes_by (link_label by_call false from s'') inside_full (callee_super n x ▹ y.goes) (λ ls ls' i j. ap (λ v. link_label by_call false v s'') (b (here ls) (here_at (Lex text) ls i))))) refl refl b;
   }
+
+  -- an ImportCall was read
+  pub import_begin : {s s' from : ℕ} {h : Slots → Slots} {pass : Lexemes → Lexemes} → Underived text (at Member f) s → NoSuperCall text f s → Stretch text (plain full) (import_slots f) s nothing s' h pass → ((y : Lexeme) → Lex text s y → y.from ≡ from) → Looped text (calls f) (after (at Call f)) s from (linked_label (link import_expression no_op 0 (import_slots f)) from s') (h end) pass s'
+  unfolding call_links rule_of covers
+  import_begin {s' = s'} {from} x u y b = record { reach = max 0 (max 0 y.reach); near = let i = y.near in omega arith; around = chain_start firsts (climbs is_call Call f) (call_links f) {F' = full} (call_foot ▹ (right (fails_node inside_full (callee_fails x u)) ▹ makes_by (linked_label (link import_expression no_op 0 (import_slots f)) from s') inside_full y.goes (λ ls ls' i j. ap (λ v. linked_label (link import_expression no_op 0 (import_slots f)) v s') (b (here ls) (here_at (Lex text) ls i))))) refl refl b }
 
   not_before_call : (k : Kind) {s' : ℕ} (l : Label) (cs : Slots) → ((w : Bool) → follow_of Call f.in_ (edge_of l cs) k w false ≡ false) → AllAre text s' k → (y : Lexeme) → Lex text s' y → Admits (after (at Call f)) (tree l cs end) y → ⊥
   not_before_call k l cs h z y i e = false≢true (sym (h y.newline) ∙ subst (λ v. follow_of Call f.in_ (edge_of l cs) v y.newline false ≡ true) (z y i).0 (subst (λ v. follow_of Call f.in_ (edge_of l cs) y.kind y.newline v ≡ true) (z y i).1 e.1))
@@ -471,9 +504,9 @@ module _ {text : List ℕ} (f : Flags) where
   no_arguments_part n = fails_here firsts (λ y l h. none_seen n y l h)
 
   -- what stands before the first `?.`: a member, or a call
-  pub base_member : {s s' : ℕ} {l : Label} {cs : Slots} {pass : Lexemes → Lexemes} → Stretch text (after (at Member f)) (such (at Member f) always) s nothing s' (tree l cs) pass → NoSuperCall text f s → AllAre text s' QuestionDot → Stretch text before_chain (bases f) s nothing s' (tree l cs) pass
+  pub base_member : {s s' : ℕ} {l : Label} {cs : Slots} {pass : Lexemes → Lexemes} → Stretch text (after (at Member f)) (such (at Member f) always) s nothing s' (tree l cs) pass → NoSuperCall text f s → NoImport text f s → AllAre text s' QuestionDot → Stretch text before_chain (bases f) s nothing s' (tree l cs) pass
   unfolding covers
-  base_member x u z = record { reach = max 0 x.reach; near = let i = x.near in omega arith; goes = left (fails_alt (no_call_behind x u (no_arguments_part (is_one z (λ e. cc)))) fails_never) ▹ weaken x.goes (λ ts y e. admits (at Member f) ts y (covered (is QuestionDot) behind_member refl y.kind y.newline y.escaped e.0)) }
+  base_member x u w z = record { reach = max 0 x.reach; near = let i = x.near in omega arith; goes = left (fails_alt (no_call_behind x u w (no_arguments_part (is_one z (λ e. cc)))) fails_never) ▹ weaken x.goes (λ ts y e. admits (at Member f) ts y (covered (is QuestionDot) behind_member refl y.kind y.newline y.escaped e.0)) }
 
   pub base_call : {s s' : ℕ} {l : Label} {cs : Slots} {pass : Lexemes → Lexemes} → Stretch text (after (at Call f)) (such (at Call f) always) s nothing s' (tree l cs) pass → Fails rule (Lex text) before_chain end (such (at Member f) always) s → Stretch text before_chain (bases f) s nothing s' (tree l cs) pass
   unfolding covers
@@ -669,8 +702,8 @@ module _ {text : List ℕ} (f : Flags) where
   call_alone x n = unfollowed x.goes (record { admits = λ ts vs k ls rest d e. admits (at Call f) ts (here rest) (covered (is QuestionDot) behind_call refl (here rest).kind (here rest).newline (here rest).escaped e.0) }) (λ us y i e. none_seen n y i e.0)
 
   -- where no member is, no LeftHandSideExpression is
-  pub no_lhs_here : {s : ℕ} → NoMember text f s → Underived text (at LeftHandSide f) s
-  no_lhs_here n = no_lhs (no_new n) (no_call_at_all n.0 n.1.uncalled) (no_first (base_none (member_before n.0) (no_call_at_all n.0 n.1.uncalled)))
+  pub no_lhs_here : {s : ℕ} → NoMember text f s → NoImport text f s → Underived text (at LeftHandSide f) s
+  no_lhs_here n i = no_lhs (no_new n) (no_call_at_all n.0 n.1.uncalled i) (no_first (base_none (member_before n.0) (no_call_at_all n.0 n.1.uncalled i)))
 
 pub call_heads : (f : Flags) → Heads (after (at LeftHandSide f)) (after (at Call f))
 call_heads f l cs vs y e = admits (at Call f) (tree l cs end) y (covered (lhs_follow f.in_) behind_call (below_call f.in_) y.kind y.newline y.escaped e.1)

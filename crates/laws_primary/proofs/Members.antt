@@ -8,7 +8,7 @@ use Rattle.js_base.specs.declared.diagnostic.Diagnostic.{Diagnostic}
 use Rattle.js_base.specs.Texts.{words}
 use Rattle.laws_shared.specs.Told.{unrelated_at}
 use Rattle.js_base.specs.declared.kind.Kind.{Kind}
-use Rattle.js_base.specs.declared.kind.Kind.TheVariants.{RAngle, New, Dot, QuestionDot, LParen, LBrack, NoSubstitutionTemplate, RBrack, PrivateIdentifier, Super as super_kind, TemplateHead, LAngle}
+use Rattle.js_base.specs.declared.kind.Kind.TheVariants.{RAngle, Import, New, Dot, QuestionDot, LParen, LBrack, NoSubstitutionTemplate, RBrack, PrivateIdentifier, Super as super_kind, TemplateHead, LAngle}
 use Rattle.js_base.specs.declared.span.Span.{Span}
 use Rattle.js_base.specs.Kinds.{same_kind, one_of_kinds, every_kind}
 use Rattle.js_base.specs.KindSets.{identifier_name_kinds, binding_identifier_kinds}
@@ -55,7 +55,7 @@ use Rattle.laws_shared.proofs.Nesting.{nested_room, later_room}
 use Rattle.laws_shared.specs.Moves.{Moved, MadeHere, TakesLeaf, IsWholeHere, plain_label, unpassable}
 use Rattle.laws_shared.specs.Answers.{Grown, Verdict, clean, Stretch, Underived, Numbered, Outcome, Stops, beside}
 use Rattle.laws_shared.specs.Stands.{StandsHere}
-use Rattle.laws_primary.specs.Members.{access_kinds, no_link_behind, Taken, NoBareNew, NoMember, NoOther, Headed, a_member, a_new, a_super, is_super_word, MemberSoFar, NoAccess, NoParen, NoLhs, HeadOutcome, link_kinds, LinkForm, by_name, by_private, by_call, by_index, indexed, admits, chained, sign_of, link_label, NoLink, OnlyLink, Linked, LinkHere, a_link, no_link, ReadsLink, WithArguments, MakesWithArguments, WithIndex, MakesWithIndex, WithName, MakesWithName, NoNames, member_name, named_form, LinkOutcome, Beyond, CallSoFar, ChainSoFar, Callee, a_head, a_call, CalleeOutcome, TellsChain}
+use Rattle.laws_primary.specs.Members.{access_kinds, no_link_behind, Taken, NoBareNew, NoImport, NoMember, NoOther, Headed, a_member, a_new, a_super, is_super_word, MemberSoFar, NoAccess, NoParen, NoLhs, HeadOutcome, link_kinds, LinkForm, by_name, by_private, by_call, by_index, indexed, admits, chained, sign_of, link_label, NoLink, OnlyLink, Linked, LinkHere, a_link, no_link, ReadsLink, WithArguments, MakesWithArguments, WithIndex, MakesWithIndex, WithName, MakesWithName, NoNames, member_name, named_form, LinkOutcome, Beyond, CallSoFar, ChainSoFar, Callee, a_head, a_call, CalleeOutcome, TellsChain}
 use Rattle.laws_primary.specs.Templates.{ChainLinkOutcome, GoesOn, ReadsChainLink, ReadsTagged, Tagged, TagOutcome, TagSign, Templated, heads, tagged_label}
 use Rattle.laws_primary.proofs.SuperWords.{no_super_member, no_super_new, no_super_there}
 use Rattle.laws_primary.proofs.Templates.{heads_there, tag_taken}
@@ -71,7 +71,7 @@ use Rattle.laws_primary.proofs.Operands.{by_path, primary_fails, primary_kinds}
 use Rattle.laws_shared.proofs.NameKinds.{no_listed_name}
 use Rattle.laws_shared.proofs.Giving.{gives_up}
 use Rattle.laws_shared.proofs.Signs.{AllAre, NoneIs}
-use Rattle.laws_primary.proofs.Links.{call_kinds, call_template, call_template_fails, chain_template_fails, member_template, member_template_fails, NotCall, bases, before_chain, with_arguments, member_start, no_member, member_new, no_member_new, member_step, member_step_fails, member_end, no_new_before, new_unfollowed, no_new_by, no_super_call, no_super_word, super_begin, new_member, new_bare, member_before_chain, no_call_at_all, no_call_behind, call_begin, call_step, call_step_fails, call_ends, base_member, base_call, base_none, chain_begin, no_first, chain_step, chain_step_fails, chain_ends, no_lhs, lhs_new, lhs_call, lhs_chain, call_unfollowed, member_before, member_alone, call_alone, no_lhs_here, call_heads, chain_heads}
+use Rattle.laws_primary.proofs.Links.{call_kinds, call_template, call_template_fails, chain_template_fails, member_template, member_template_fails, NotCall, bases, before_chain, with_arguments, member_start, no_member, member_new, no_member_new, member_step, member_step_fails, member_end, no_new_before, new_unfollowed, no_new_by, no_super_call, no_super_word, super_begin, new_member, new_bare, member_before_chain, no_call_at_all, no_call_behind, call_begin, call_step, call_step_fails, call_ends, base_member, base_call, base_none, chain_begin, no_first, chain_step, chain_step_fails, chain_ends, no_lhs, lhs_new, lhs_call, lhs_chain, call_unfollowed, member_before, member_alone, call_alone, no_import, no_lhs_here, call_heads, chain_heads}
 use Rattle.laws_primary.proofs.Links.{no_link as no_chain_link}
 use Rattle.laws_primary.specs.NewTargets.{target_slots}
 use Rattle.laws_shared.proofs.Stretches.{stretches}
@@ -415,11 +415,15 @@ no_bare_new a s = fails_here firsts (none_seen (stands_not a refl s))
 none_other : {text : List ℕ} {f : Flags} {p : Parser} → At text f p → StandsHere p New false → StandsHere p super_kind false → NoOther text f p.prev_token_end
 none_other {f = f} a s u = record { bare = no_bare_new a s; uncalled = no_super_word f (stands_not a refl u) }
 
-pub member_init : {text : List ℕ} {f : Flags} {p q : Parser} {id : NodeId} → At text f p → StandsHere p New false → StandsHere p super_kind false → Numbered text f (at Primary f) p q id → Membered text f p q id
-member_init {f = f} a s u x = retake (taken x x.answer.row) (λ l cs pass c. (member_start f (stands_not a refl s) (stands_not a refl u) c (begins_here a), none_other a s u)) (λ n. (no_member f (stands_not a refl s) (stands_not a refl u) n, none_other a s u))
+pub member_init : {text : List ℕ} {f : Flags} {p q : Parser} {id : NodeId} → At text f p → StandsHere p New false → StandsHere p super_kind false → StandsHere p Import false → Numbered text f (at Primary f) p q id → Membered text f p q id
+member_init {f = f} a s u w x = retake (taken x x.answer.row) (λ l cs pass c. (member_start f (stands_not a refl s) (stands_not a refl u) (stands_not a refl w) c (begins_here a), none_other a s u)) (λ n. (no_member f (stands_not a refl s) (stands_not a refl u) (stands_not a refl w) n, none_other a s u))
 
-pub no_head : {text : List ℕ} {f : Flags} {p : Parser} → At text f p → StandsHere p New false → StandsHere p super_kind false → Underived text (at Primary f) p.prev_token_end → NoMember text f p.prev_token_end
-no_head {f = f} a s u n = (no_member f (stands_not a refl s) (stands_not a refl u) n, none_other a s u)
+pub no_head : {text : List ℕ} {f : Flags} {p : Parser} → At text f p → StandsHere p New false → StandsHere p super_kind false → StandsHere p Import false → Underived text (at Primary f) p.prev_token_end → NoMember text f p.prev_token_end
+no_head {f = f} a s u w n = (no_member f (stands_not a refl s) (stands_not a refl u) (stands_not a refl w) n, none_other a s u)
+
+-- no ImportCall, where another word stands
+pub no_import_here : {text : List ℕ} {f : Flags} {p : Parser} → At text f p → StandsHere p Import false → NoImport text f p.prev_token_end
+no_import_here {f = f} a w = no_import f (stands_not a refl w)
 
 member_good : {text : List ℕ} {f : Flags} (o p : Parser) (c : LinkForm) (d : Bool) → (admits base.Member c false ≡ true) × (d ≡ false) → AllAre text p.prev_token_end (sign_of c d) → OnlyLink text f p.prev_token_end c d → {l : Label} {cs : Slots} {pass more : Lexemes → Lexemes} {h : Slots → Slots} {s'' : ℕ} → MemberSoFar text f o.prev_token_end o.token.span.start l cs pass p.prev_token_end → p.prev_token_end ≤ s'' → Stretch text (plain full) (chained f c d).part p.prev_token_end nothing s'' h more → MemberSoFar text f o.prev_token_end o.token.span.start (link_label c d o.token.span.start s'') (tree l cs (h end)) (λ ls. pass (more ls)) s''
 member_good {f = f} o p c false e z n u i y = (member_step f c e.0 u.0 z n i y, u.1)
@@ -497,6 +501,9 @@ module _ {text : List ℕ} {f : Flags} {p q : Parser} (a : At text f p) (k : p.t
   pub no_super_at_new : NoneIs text p.prev_token_end super_kind
   no_super_at_new = stands_not a refl (λ e i. let u : New ≡ super_kind = sym k ∙ e in cc)
 
+  pub no_import_at_new : NoneIs text p.prev_token_end Import
+  no_import_at_new = stands_not a refl (λ e i. let u : New ≡ Import = sym k ∙ e in cc)
+
   -- nothing else than a MemberExpression, where no NewExpression stands behind it
   pub new_other : Underived text (at new_symbol f) q.prev_token_end → NoOther text f p.prev_token_end
   new_other z = record { bare = bare_fails z; uncalled = no_super_word f no_super_at_new }
@@ -510,7 +517,7 @@ module _ {text : List ℕ} {f : Flags} {p q : Parser} (a : At text f p) (k : p.t
   no_target_here = skips a New k n refl m ▹✗ fails_here firsts (none_seen (stands_not m.at refl t))
 
   none_called : Fails rule (Lex text) (plain full) end (called_member f) q.prev_token_end → Underived text (at Member f) p.prev_token_end
-  none_called z = no_member_new f (no_super_at_new a k n m) (no_primary a k n m) ((new_skips a k n m).goes ▹✗ z) (λ X. fails_under (fails_node inside_full no_target_here))
+  none_called z = no_member_new f (no_super_at_new a k n m) (no_import_at_new a k n m) (no_primary a k n m) ((new_skips a k n m).goes ▹✗ z) (λ X. fails_under (fails_node inside_full no_target_here))
 
   pub new_fails_by : Underived text (at Member f) q.prev_token_end → NoBareNew text f q.prev_token_end → NoMember text f p.prev_token_end
   new_fails_by z b = (none_called (member_lacks f z), new_other a k n m (no_new_by f z b))
@@ -634,7 +641,7 @@ module _ {text : List ℕ} {f : Flags} {p q : Parser} (a : At text f p) (k : p.t
           })
         where
           whole : {l : Label} {cs : Slots} {pass more : Lexemes → Lexemes} {h : Slots → Slots} {s'' : ℕ} → Headed text f q.prev_token_end l cs pass w.prev_token_end → (is_super_word l.kind ≡ false) ⊎ NoneIs text q.prev_token_end super_kind → Stretch text (plain full) (args f) w.prev_token_end nothing s'' h more → w.prev_token_end ≤ s'' → MemberSoFar text f p.prev_token_end p.token.span.start (record { kind = new_expression; op = no_op; flags = 0; span = record { from = p.token.span.start; to = s'' } }) (tree l cs (h end)) (λ ls. next m.lexeme (pass (more ls))) s''
-          whole (a_member c b) o z i = (member_new f (no_super_at_new a k n m) (no_primary a k n m) no_target_here (stretches (new_skips a k n m) (stretches (member_then f c) z i) (let d = m.at.behind in let e = callee_taken.further in omega arith)) (begins_here a), bare_none (a_member c b))
+          whole (a_member c b) o z i = (member_new f (no_super_at_new a k n m) (no_import_at_new a k n m) (no_primary a k n m) no_target_here (stretches (new_skips a k n m) (stretches (member_then f c) z i) (let d = m.at.behind in let e = callee_taken.further in omega arith)) (begins_here a), bare_none (a_member c b))
           whole (a_super c b v y) (inl o) z i = absurd (false≢true (sym o ∙ v.kind))
           whole (a_super c b v y) (inr o) z i = absurd (no_super_there f o v y.0 y.1)
           whole (a_new z c d b) o u i = absurd (let y = lexeme_there callee_taken.at s refl refl refl in false≢true (sym (b y.0 y.1) ∙ subst (λ (v : Kind). one_of_kinds link_kinds v ≡ true) (sym y.2) refl))
@@ -670,10 +677,10 @@ Called text f o p id = Taken text f o p id (λ l cs pass s'. CallSoFar text f o.
 abbrev pub CalleeTaken : List ℕ → Flags → Parser → Parser → NodeId → Type 0
 CalleeTaken text f o p id = Taken text f o p id (λ l cs pass s'. Callee text f o.prev_token_end l cs pass s') (NoLhs text f o.prev_token_end)
 
-pub head_closed : {text : List ℕ} {f : Flags} {o p : Parser} {id : NodeId} → HeadTaken text f o p id → NoAccess text p → StandsHere p LParen false → CalleeOutcome text f o p (Ok id)
-head_closed {f = f} x n s = (retake x (λ l cs pass c. a_head c) (λ z. no_lhs_here f z), n, (λ y l e. stands_not x.at refl s y l e (read_plain y l e refl)))
+pub head_closed : {text : List ℕ} {f : Flags} {o p : Parser} {id : NodeId} → HeadTaken text f o p id → NoImport text f o.prev_token_end → NoAccess text p → StandsHere p LParen false → CalleeOutcome text f o p (Ok id)
+head_closed {f = f} x i n s = (retake x (λ l cs pass c. a_head c i) (λ z. no_lhs_here f z i), n, (λ y l e. stands_not x.at refl s y l e (read_plain y l e refl)))
 
-module _ {text : List ℕ} {f : Flags} {o p : Parser} {left : NodeId} (a : At text f o) (x : HeadTaken text f o p left) (s : StandsHere p LParen true) where
+module _ {text : List ℕ} {f : Flags} {o p : Parser} {left : NodeId} (a : At text f o) (x : HeadTaken text f o p left) (w : NoImport text f o.prev_token_end) (s : StandsHere p LParen true) where
   parens : AllAre text p.prev_token_end LParen
   parens = stands_there x.at s.0 refl
 
@@ -684,30 +691,30 @@ module _ {text : List ℕ} {f : Flags} {o p : Parser} {left : NodeId} (a : At te
   never_new b = let y = lexeme_there x.at s refl refl refl in absurd (false≢true (sym (b y.0 y.1) ∙ subst (λ (v : Kind). one_of_kinds link_kinds v ≡ true) (sym y.2) refl))
 
   first_good : (c : LinkForm) (d : Bool) → (by_call ≡ c) × (d ≡ false) → {l : Label} {cs : Slots} {pass more : Lexemes → Lexemes} {h : Slots → Slots} {s'' : ℕ} → Headed text f o.prev_token_end l cs pass p.prev_token_end → p.prev_token_end ≤ s'' → Stretch text (plain full) (chained f c d).part p.prev_token_end nothing s'' h more → CallSoFar text f o.prev_token_end o.token.span.start (link_label c d o.token.span.start s'') (tree l cs (h end)) (λ ls. pass (more ls)) s''
-  first_good by_call false e (a_member c b) i y = (call_begin f c b.uncalled i (begins_here a) y, beyond c b)
+  first_good by_call false e (a_member c b) i y = (call_begin f c b.uncalled w i (begins_here a) y, beyond c b)
   first_good by_call false e (a_new n c u b) i y = never_new b
-  first_good by_call false e (a_super n b w z) i y = (super_begin f n w i (begins_here a) y, record { no_new = no_new_by f n b; no_member = member_before f n })
+  first_good by_call false e (a_super n b v z) i y = (super_begin f n v w i (begins_here a) y, record { no_new = no_new_by f n b; no_member = member_before f n })
   first_good by_name d e c i y = absurd (let z : by_call ≡ by_name = e.0 in cc)
   first_good by_private d e c i y = absurd (let z : by_call ≡ by_private = e.0 in cc)
   first_good by_index d e c i y = absurd (let z : by_call ≡ by_index = e.0 in cc)
   first_good by_call true e c i y = absurd (false≢true (sym e.1))
 
   no_first_call : {l : Label} {cs : Slots} {pass : Lexemes → Lexemes} → Headed text f o.prev_token_end l cs pass p.prev_token_end → NoLink text f p.prev_token_end by_call false → NoLhs text f o.prev_token_end
-  no_first_call (a_member c b) n = no_lhs f (beyond c b).no_new (no_call_behind f c b.uncalled n) (no_first f (base_none f (member_before_chain f c parens) (no_call_behind f c b.uncalled n)))
-  no_first_call (a_super z b w y) n = no_lhs f (no_new_by f z b) (no_super_call f z w n) (no_first f (base_none f (member_before f z) (no_super_call f z w n)))
+  no_first_call (a_member c b) n = no_lhs f (beyond c b).no_new (no_call_behind f c b.uncalled w n) (no_first f (base_none f (member_before_chain f c parens) (no_call_behind f c b.uncalled w n)))
+  no_first_call (a_super z b v y) n = no_lhs f (no_new_by f z b) (no_super_call f z v w n) (no_first f (base_none f (member_before f z) (no_super_call f z v w n)))
   no_first_call (a_new z c u b) n = never_new b
 
   first_bad : (c : LinkForm) (d : Bool) → (by_call ≡ c) × (d ≡ false) → {l : Label} {cs : Slots} {pass : Lexemes → Lexemes} → Headed text f o.prev_token_end l cs pass p.prev_token_end → NoLink text f p.prev_token_end c d → NoLhs text f o.prev_token_end
   first_bad c d e u n = no_first_call u (subst (λ (v : LinkForm). NoLink text f p.prev_token_end v false) (sym e.0) (subst (λ (v : Bool). NoLink text f p.prev_token_end c v) e.1 n))
 
   begun : Taken text f o p left (λ l cs pass s'. Headed text f o.prev_token_end l cs pass s') (NoLhs text f o.prev_token_end)
-  begun = retake x (λ l cs pass c. c) (λ z. no_lhs_here f z)
+  begun = retake x (λ l cs pass c. c) (λ z. no_lhs_here f z w)
 
   pub call_first : {w : Parser} {id : NodeId} {start : ℕ} → start ≡ o.token.span.start → Linked text f start left p w id → Called text f o w id
   call_first e y = link_taken begun e y (λ pass c i z. first_good y.form y.optional (call_here p y.form y.optional s y.sign) c i z) (λ c n. first_bad y.form y.optional (call_here p y.form y.optional s y.sign) c n)
 
   pub call_first_stops : (w : Parser) (e : Stop) → Stops p w e ((c : LinkForm) (d : Bool) → NoLink text f p.prev_token_end c d) → Stops o w e (NoLhs text f o.prev_token_end)
-  call_first_stops w e z = stops_behind w e x.same (λ g. grown_behind x.verdict g) (λ n. either_way x.verdict (λ c. no_first_call c (n by_call false)) (λ n. no_lhs_here f n)) z
+  call_first_stops v e z = stops_behind v e x.same (λ g. grown_behind x.verdict g) (λ n. either_way x.verdict (λ c. no_first_call c (n by_call false)) (λ n. no_lhs_here f n w)) z
 
 module _ {text : List ℕ} {f : Flags} {o p : Parser} {left : NodeId} (x : Called text f o p left) (k : LinkHere p base.Call true) where
   call_good : (c : LinkForm) (d : Bool) → d ≡ false → StandsHere p (sign_of c d) true → OnlyLink text f p.prev_token_end c d → {l : Label} {cs : Slots} {pass more : Lexemes → Lexemes} {h : Slots → Slots} {s'' : ℕ} → CallSoFar text f o.prev_token_end o.token.span.start l cs pass p.prev_token_end → p.prev_token_end ≤ s'' → Stretch text (plain full) (chained f c d).part p.prev_token_end nothing s'' h more → CallSoFar text f o.prev_token_end o.token.span.start (link_label c d o.token.span.start s'') (tree l cs (h end)) (λ ls. pass (more ls)) s''
@@ -773,9 +780,9 @@ lhs_callee {text} {f} {o} {p} x n m s =
     none = stands_not x.at refl s
 
     whole : {l : Label} {cs : Slots} {pass : Lexemes → Lexemes} → Callee text f o.prev_token_end l cs pass p.prev_token_end → Stretch text (after (at LeftHandSide f)) (such (at LeftHandSide f) always) o.prev_token_end nothing p.prev_token_end (tree l cs) pass
-    whole (a_head (a_member c b)) = lhs_new f (new_member f c b.bare) (no_call_behind f c b.uncalled (no_arguments_here f (λ y l e w. m y l e))) (no_first f (base_none f (member_alone f c none) (no_call_behind f c b.uncalled (no_arguments_here f (λ y l e w. m y l e)))))
-    whole (a_head (a_new z c u b)) = lhs_new f c (no_call_at_all f z u) (no_first f (base_none f (member_before f z) (no_call_at_all f z u)))
-    whole (a_head (a_super z b w y)) = absurd (m y.0 y.1 y.2)
+    whole (a_head (a_member c b) i) = lhs_new f (new_member f c b.bare) (no_call_behind f c b.uncalled i (no_arguments_here f (λ y l e w. m y l e))) (no_first f (base_none f (member_alone f c none) (no_call_behind f c b.uncalled i (no_arguments_here f (λ y l e w. m y l e)))))
+    whole (a_head (a_new z c u b) i) = lhs_new f c (no_call_at_all f z u i) (no_first f (base_none f (member_before f z) (no_call_at_all f z u i)))
+    whole (a_head (a_super z b w y) i) = absurd (m y.0 y.1 y.2)
     whole (a_call c b) = lhs_call f b.no_new c (no_first f (base_none f b.no_member (call_alone f c none)))
 
 module _ {text : List ℕ} {f : Flags} {o p : Parser} {left : NodeId} (a : At text f o) (x : CalleeTaken text f o p left) (s : StandsHere p QuestionDot true) where
@@ -792,9 +799,9 @@ module _ {text : List ℕ} {f : Flags} {o p : Parser} {left : NodeId} (a : At te
     no_call : NotCall text f o.prev_token_end
 
   based : {l : Label} {cs : Slots} {pass : Lexemes → Lexemes} → Callee text f o.prev_token_end l cs pass p.prev_token_end → Base l cs pass
-  based (a_head (a_member c b)) = record { base = base_member f c b.uncalled chains_here; no_bare = no_new_before f QuestionDot (λ d v. refl) c b.bare chains_here; no_call = no_call_behind f c b.uncalled (no_arguments_here f no_parens) }
-  based (a_head (a_super z b w y)) = absurd (no_parens y.0 y.1 y.2 (read_plain y.0 y.1 y.2 refl))
-  based (a_head (a_new z c u b)) = let y = lexeme_there x.at s refl refl refl in absurd (false≢true (sym (b y.0 y.1) ∙ subst (λ (v : Kind). one_of_kinds link_kinds v ≡ true) (sym y.2) refl))
+  based (a_head (a_member c b) i) = record { base = base_member f c b.uncalled i chains_here; no_bare = no_new_before f QuestionDot (λ d v. refl) c b.bare chains_here; no_call = no_call_behind f c b.uncalled i (no_arguments_here f no_parens) }
+  based (a_head (a_super z b w y) i) = absurd (no_parens y.0 y.1 y.2 (read_plain y.0 y.1 y.2 refl))
+  based (a_head (a_new z c u b) i) = let y = lexeme_there x.at s refl refl refl in absurd (false≢true (sym (b y.0 y.1) ∙ subst (λ (v : Kind). one_of_kinds link_kinds v ≡ true) (sym y.2) refl))
   based (a_call c b) = record { base = base_call f c b.no_member; no_bare = b.no_new; no_call = call_unfollowed f c chains_here }
 
   chain_good : (c : LinkForm) (d : Bool) → d ≡ true → OnlyLink text f p.prev_token_end c d → {l : Label} {cs : Slots} {pass more : Lexemes → Lexemes} {h : Slots → Slots} {s'' : ℕ} → Callee text f o.prev_token_end l cs pass p.prev_token_end → p.prev_token_end ≤ s'' → Stretch text (plain full) (chained f c d).part p.prev_token_end nothing s'' h more → ChainSoFar text f o.prev_token_end o.token.span.start (link_label c d o.token.span.start s'') (tree l cs (h end)) (λ ls. pass (more ls)) s''
@@ -1120,7 +1127,7 @@ abbrev pub MemberGoes : NodeId → ℕ → Parser → Parser → NodeId → Type
 MemberGoes member start p q left = (text : List ℕ) (f : Flags) (o : Parser) → start ≡ o.token.span.start → Membered text f o p member → Membered text f o q left
 
 abbrev pub CallGoes : NodeId → ℕ → Parser → Parser → NodeId → Type 0
-CallGoes member start p q left = (text : List ℕ) (f : Flags) (o : Parser) → At text f o → start ≡ o.token.span.start → HeadTaken text f o p member → Called text f o q left
+CallGoes call start p q left = (text : List ℕ) (f : Flags) (o : Parser) → start ≡ o.token.span.start → Called text f o p call → Called text f o q left
 
 abbrev pub ChainGoes : NodeId → ℕ → Parser → Parser → NodeId → Type 0
 ChainGoes callee start p q left = (text : List ℕ) (f : Flags) (o : Parser) → At text f o → start ≡ o.token.span.start → CalleeTaken text f o p callee → Chained text f o q left

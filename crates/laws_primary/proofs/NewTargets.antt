@@ -41,7 +41,7 @@ use Rattle.laws_shared.specs.js_cursor.declared.stop.Stop.TheVariants.{Fatal, No
 use Rattle.laws_primary.specs.Members.{MemberSoFar, NoMember, NoOther, MemberOutcome}
 use Rattle.laws_primary.specs.NewTargets.{BehindDot, BehindNew, ChecksTarget, no_target_at, outside_at, target_slots}
 use Rattle.laws_primary.proofs.Links.{member_target, new_target, no_member_new, with_arguments}
-use Rattle.laws_primary.proofs.Members.{called_member, new_other, new_skips, no_primary, no_super_at_new}
+use Rattle.laws_primary.proofs.Members.{called_member, new_other, new_skips, no_import_at_new, no_primary, no_super_at_new}
 use Rattle.laws_shared.specs.Answers.{Grown, Stops, Stretch, Verdict, unclean}
 use Rattle.laws_shared.specs.Classes.{EndsParse}
 use Rattle.laws_shared.specs.Lexemes.{Lex, spot}
@@ -203,7 +203,7 @@ module _ {text : List ℕ} {f : Flags} {o p : Parser} (a : At text f o) (s : Sta
 
   -- nothing, where it isn't
   none_there : ((X : Test) → Fails rule (Lex text) X end (new_target f) o.prev_token_end) → NoMember text f o.prev_token_end
-  none_there t = (no_member_new f (no_super_at_new a s.0 s.1 m) (no_primary a s.0 s.1 m) no_call t, no_bare)
+  none_there t = (no_member_new f (no_super_at_new a s.0 s.1 m) (no_import_at_new a s.0 s.1 m) (no_primary a s.0 s.1 m) no_call t, no_bare)
 
   pub target_stops : {q : Parser} (n : Moved text f p q) → StandsHere q Target false → (w : Parser) (e : Stop) → GivesUp EndsParse q w e → Stops o w e (NoMember text f o.prev_token_end)
   target_stops {q} n t w e g = stops_behind w e (same_both m.same n.same) (λ h. grown_then m.kept (grown_then n.kept h)) (λ z. z) (gives_up EndsParse q w e n.at g (λ d i. i) (none_there (λ X. fails_under (fails_node inside_full no_word))))
@@ -261,7 +261,7 @@ module _ {text : List ℕ} {f : Flags} {o p : Parser} (a : At text f o) (s : Sta
           allowed i = sym (ap (λ (h : Flags). h.new_target) e.at.flags_are) ∙ ap (λ (b : Bool). f.wide || b) i
 
           read_here : f.new_target ≡ true → Stretch text (plain full) target_slots o.prev_token_end nothing r.prev_token_end (λ us. us) target_path.pass → MemberSoFar text f o.prev_token_end o.token.span.start (label_here new_target_expression no_op o r) end target_path.pass r.prev_token_end
-          read_here i y = (member_target f (no_super_at_new a s.0 s.1 m) i (no_primary a s.0 s.1 m) no_call y (begins_here a), no_bare)
+          read_here i y = (member_target f (no_super_at_new a s.0 s.1 m) (no_import_at_new a s.0 s.1 m) i (no_primary a s.0 s.1 m) no_call y (begins_here a), no_bare)
 
           none_here : Fails rule (Lex text) (plain full) end target_slots o.prev_token_end → NoMember text f o.prev_token_end
           none_here x = none_there (λ X. fails_under (fails_node inside_full x))

@@ -8,7 +8,7 @@ use Rattle.js_base.specs.declared.diagnostic.Diagnostic.{Diagnostic}
 use Rattle.js_base.specs.declared.diagnostic.DiagnosticKind.{DiagnosticKind}
 use Rattle.js_base.specs.declared.diagnostic.DiagnosticKind.TheVariants as fault
 use Rattle.js_base.specs.declared.kind.Kind.{Kind}
-use Rattle.js_base.specs.declared.kind.Kind.TheVariants.{Dot, LBrack, LParen, New, Super as super_kind, RAngle}
+use Rattle.js_base.specs.declared.kind.Kind.TheVariants.{Dot, Import, LBrack, LParen, New, Super as super_kind, RAngle}
 use Rattle.js_base.specs.declared.source_type.SourceType.{SourceType}
 use Rattle.js_base.specs.declared.span.Span.{Span}
 use Rattle.js_grammar.specs.Trees.{Label, Slots, end, tree, no_op, super_expression}
@@ -73,6 +73,9 @@ module _ {text : List ℕ} {f : Flags} {p : Parser} (a : At text f p) (s : Stand
   no_new_here : NoneIs text p.prev_token_end New
   no_new_here = stands_not a refl another_word
 
+  no_import_word : NoneIs text p.prev_token_end Import
+  no_import_word = stands_not a refl (λ e i. let u : super_kind ≡ Import = sym s.0 ∙ e in cc)
+
   no_bare_here : NoBareNew text f p.prev_token_end
   no_bare_here = no_bare_new a another_word
 
@@ -97,7 +100,7 @@ module _ {text : List ℕ} {f : Flags} {p q : Parser} (a : At text f p) (s : Sta
   -- none of the three stands behind it
   none_behind : LinkHere q base.Call false → NoMember text f p.prev_token_end
   none_behind (no_link g) = (
-    no_member_super f (no_new_here a s) (no_primary_here a s) the_word (no_name_part f (stands_not m.at refl (g by_name false refl))) (no_index_part f (stands_not m.at refl (g by_index false refl))),
+    no_member_super f (no_new_here a s) (no_import_word a s) (no_primary_here a s) the_word (no_name_part f (stands_not m.at refl (g by_name false refl))) (no_index_part f (stands_not m.at refl (g by_index false refl))),
     record { bare = no_bare_here a s; uncalled = uncalled the_word (stands_not m.at refl (g by_call false refl)) },
   )
 
@@ -174,7 +177,7 @@ module _ {text : List ℕ} {f : Flags} {o p : Parser} {word : NodeId} (a : At te
   pub super_headed : StandsHere p LParen true → HeadOutcome text f o p (Ok word)
   super_headed u =
       let z = stands_there x.at u.0 refl in (
-        retake x (λ l cs pass c. a_super (no_member_super f (no_new_here a s) (no_primary_here a s) c.0 (not_sign f by_name false LParen (λ e. cc) z) (not_sign f by_index false LParen (λ e. cc) z)) (no_bare_here a s) c.0 (lexeme_there x.at u refl refl refl)) (λ n. n),
+        retake x (λ l cs pass c. a_super (no_member_super f (no_new_here a s) (no_import_word a s) (no_primary_here a s) c.0 (not_sign f by_name false LParen (λ e. cc) z) (not_sign f by_index false LParen (λ e. cc) z)) (no_bare_here a s) c.0 (lexeme_there x.at u refl refl refl)) (λ n. n),
         λ y l. ap (one_of_kinds access_kinds) (z y l).0,
       )
 
@@ -187,15 +190,15 @@ module _ {text : List ℕ} {f : Flags} {o p : Parser} {word : NodeId} (a : At te
     beside_member w = record { bare = no_bare_here a s; uncalled = uncalled w (stands_not x.at refl u) }
 
     no_property : {l : Label} {cs : Slots} {pass : Lexemes → Lexemes} → SuperWord text f o.prev_token_end l cs pass p.prev_token_end → ((c : LinkForm) (d : Bool) → NoLink text f p.prev_token_end c d) → NoMember text f o.prev_token_end
-    no_property w n = (no_member_super f (no_new_here a s) (no_primary_here a s) w (n by_name false) (n by_index false), beside_member w)
+    no_property w n = (no_member_super f (no_new_here a s) (no_import_word a s) (no_primary_here a s) w (n by_name false) (n by_index false), beside_member w)
 
     property_good : (c : LinkForm) (d : Bool) → (admits base.Member c false ≡ true) × (d ≡ false) → OnlyLink text f p.prev_token_end c d → {l : Label} {cs : Slots} {pass more : Lexemes → Lexemes} {h : Slots → Slots} {s'' : ℕ} → SuperWord text f o.prev_token_end l cs pass p.prev_token_end → p.prev_token_end ≤ s'' → Stretch text (plain full) (chained f c d).part p.prev_token_end nothing s'' h more → is_private_member (node_of c) ≡ false → MemberSoFar text f o.prev_token_end o.token.span.start (link_label c d o.token.span.start s'') (tree l cs (h end)) (λ ls. pass (more ls)) s''
-    property_good c false e z w i y n = (member_super f (no_new_here a s) (no_primary_here a s) w c (and_from _ _ e.0 (ap not n)) z i (begins_here a) y, beside_member w)
+    property_good c false e z w i y n = (member_super f (no_new_here a s) (no_import_word a s) (no_primary_here a s) w c (and_from _ _ e.0 (ap not n)) z i (begins_here a) y, beside_member w)
     property_good c true e z w i y n = absurd (false≢true (sym e.1))
 
     -- a private name stands there
     no_private_property : (c : LinkForm) (d : Bool) → (admits base.Member c false ≡ true) × (d ≡ false) → OnlyLink text f p.prev_token_end c d → is_private_member (node_of c) ≡ true → {l : Label} {cs : Slots} {pass : Lexemes → Lexemes} → SuperWord text f o.prev_token_end l cs pass p.prev_token_end → NoMember text f o.prev_token_end
-    no_private_property by_private false e z n w = (no_member_super f (no_new_here a s) (no_primary_here a s) w (other_link f false by_name by_private (λ i. cc) z) (other_link f false by_index by_private (λ i. cc) z), beside_member w)
+    no_private_property by_private false e z n w = (no_member_super f (no_new_here a s) (no_import_word a s) (no_primary_here a s) w (other_link f false by_name by_private (λ i. cc) z) (other_link f false by_index by_private (λ i. cc) z), beside_member w)
     no_private_property by_name d e z n w = absurd (false≢true n)
     no_private_property by_call d e z n w = absurd (false≢true n)
     no_private_property by_index d e z n w = absurd (false≢true n)
@@ -218,7 +221,7 @@ module _ {text : List ℕ} {f : Flags} {o p : Parser} {word : NodeId} (a : At te
 
 -- ---- behind `new`
 
-told_taken : {text : List ℕ} {f : Flags} {C D : Label → Slots → (Lexemes → Lexemes) → ℕ → Type 0} {A B : Type 0} {o p q : Parser} {id : NodeId} {d : Diagnostic} → Taken text f o p id C A → KeepsDiagnostic d p q → IsEarly d → B → Taken text f o q id D B
+pub told_taken : {text : List ℕ} {f : Flags} {C D : Label → Slots → (Lexemes → Lexemes) → ℕ → Type 0} {A B : Type 0} {o p q : Parser} {id : NodeId} {d : Diagnostic} → Taken text f o p id C A → KeepsDiagnostic d p q → IsEarly d → B → Taken text f o q id D B
 told_taken {o = o} {id = id} x k e b = record {
   at = told_at k x.at;
   same = same_both x.same (told_same k e);

@@ -3,6 +3,7 @@ pub mod Classes
 pub mod DecoratorMembers
 pub mod Decorators
 pub mod Functions
+pub mod Imports
 pub mod Marked
 pub mod Members
 pub mod NewTargets

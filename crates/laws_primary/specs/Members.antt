@@ -5,7 +5,7 @@ use Rattle.js_base.specs.declared.diagnostic.Diagnostic.{Diagnostic}
 use Rattle.js_base.specs.declared.diagnostic.DiagnosticKind.TheVariants.{InvalidNewOptionalChain, IdentifierExpectedAfterQuestionDot}
 use Rattle.js_base.specs.declared.span.Span.{Span}
 use Rattle.js_base.specs.declared.kind.Kind.{Kind}
-use Rattle.js_base.specs.declared.kind.Kind.TheVariants.{New, Dot, QuestionDot, LParen, LBrack, NoSubstitutionTemplate, PrivateIdentifier, RBrack, TemplateHead}
+use Rattle.js_base.specs.declared.kind.Kind.TheVariants.{Comma, Import, New, Dot, QuestionDot, LParen, LBrack, NoSubstitutionTemplate, PrivateIdentifier, RBrack, TemplateHead}
 use Rattle.js_base.specs.KindSets.{identifier_name_kinds}
 use Rattle.js_base.specs.Kinds.{one_of_kinds}
 use Rattle.js_grammar.specs.Trees.{NodeKind as TreeKind, Slots, end, tree, Label, no_op, static_member_expression, computed_member_expression, private_field_expression, call_expression, new_expression, super_expression}
@@ -13,7 +13,7 @@ use Rattle.js_grammar.specs.Grammar.{Lexeme, Lexemes, is, such, nothing, ◌▸�
 use Rattle.js_grammar.specs.Follow.{row_of, after}
 use Rattle.js_grammar.specs.Insertion.{after_expression}
 use Rattle.js_grammar.specs.Parsing.{Test, Fails, always, plain, full}
-use Rattle.js_grammar.specs.Productions.{G, Flags, Symbol, at, mk, tok, optional_flag, plus_in, Member, Call, Links, Super, LeftHandSide, IdentifierName, PrivateName, Expression}
+use Rattle.js_grammar.specs.Productions.{G, Flags, Symbol, at, mk, opt, parens, slot, tok, optional_flag, plus_in, Assignment, Member, Call, Links, Super, LeftHandSide, IdentifierName, PrivateName, Expression}
 use Rattle.js_grammar.specs.Productions.{New as new_symbol, sym as symbol}
 use Rattle.js_grammar.specs.Table.{rule, args}
 use Rattle.js_grammar.specs.RightEdges.{same_row}
@@ -77,6 +77,17 @@ before_call = plain (is LParen)
 -- no `super` before arguments
 abbrev pub NoSuperCall : List ℕ → Flags → ℕ → Type 0
 NoSuperCall text f s = Fails rule (Lex text) before_call end (such (at Super f) always) s
+
+-- the arguments of an ImportCall: one or two, and a comma behind
+abbrev pub import_arguments : Flags → G
+import_arguments f = parens (symbol Assignment (plus_in f) ▸ slot (tok Comma ▸ symbol Assignment (plus_in f)) ▸ opt (tok Comma))
+
+abbrev pub import_slots : Flags → G
+import_slots f = tok Import ▸ import_arguments f
+
+-- no ImportCall, which is a CallExpression and no member
+abbrev pub NoImport : List ℕ → Flags → ℕ → Type 0
+NoImport text f s = Fails rule (Lex text) (plain full) end (import_slots f) s
 
 -- Besides a MemberExpression nothing begins here: neither a NewExpression that is none, nor a SuperCall.
 pub record NoOther (text : List ℕ) (f : Flags) (s : ℕ) : Type 0 where
@@ -281,7 +292,7 @@ CallSoFar text f s from l cs pass s' = Looped text (calls f) (after (at Call f))
 
 -- A callee: what stands before a chain, or is none.
 pub data Callee (text : List ℕ) (f : Flags) (s : ℕ) (l : Label) (cs : Slots) (pass : Lexemes → Lexemes) (s' : ℕ) : Type 0 where
-  a_head : Headed text f s l cs pass s' → Callee text f s l cs pass s'
+  a_head : Headed text f s l cs pass s' → NoImport text f s → Callee text f s l cs pass s'
   a_call : Stretch text (after (at Call f)) (such (at Call f) always) s nothing s' (tree l cs) pass → Beyond text f s → Callee text f s l cs pass s'
 
 abbrev pub NoLhs : List ℕ → Flags → ℕ → Type 0
@@ -295,8 +306,15 @@ abbrev pub CalleeOutcome : List ℕ → Flags → Parser → Parser → Result N
 CalleeOutcome text f o q (Ok id) = Taken text f o q id (λ l cs pass s'. Callee text f o.prev_token_end l cs pass s') (NoLhs text f o.prev_token_end) × NoAccess text q × NoParen text q
 CalleeOutcome text f o q (Err e) = Stops o q e (NoLhs text f o.prev_token_end)
 
+abbrev pub ReadsCallee : Parser → Parser → Result NodeId Stop → Type 0
+ReadsCallee p q r = (text : List ℕ) (f : Flags) → At text f p → CalleeOutcome text f p q r
+
 abbrev pub CallsMember : ℕ → NodeId → Parser → Parser → Result NodeId Stop → Type 0
-CallsMember start left p q r = (text : List ℕ) (f : Flags) (o : Parser) → At text f o → start ≡ o.token.span.start → Taken text f o p left (λ l cs pass s'. Headed text f o.prev_token_end l cs pass s') (NoMember text f o.prev_token_end) → NoAccess text p → CalleeOutcome text f o q r
+CallsMember start left p q r = (text : List ℕ) (f : Flags) (o : Parser) → At text f o → start ≡ o.token.span.start → NoImport text f o.prev_token_end → Taken text f o p left (λ l cs pass s'. Headed text f o.prev_token_end l cs pass s') (NoMember text f o.prev_token_end) → NoAccess text p → CalleeOutcome text f o q r
+
+-- a call goes on with one that was read from the state o on
+abbrev pub GoesOnCall : ℕ → NodeId → Parser → Parser → Result NodeId Stop → Type 0
+GoesOnCall start left p q r = (text : List ℕ) (f : Flags) (o : Parser) → start ≡ o.token.span.start → Taken text f o p left (λ l cs pass s'. CallSoFar text f o.prev_token_end o.token.span.start l cs pass s') (NoLhs text f o.prev_token_end) → CalleeOutcome text f o q r
 
 -- a chain, as far as it was read
 abbrev pub ChainSoFar : List ℕ → Flags → ℕ → ℕ → Label → Slots → (Lexemes → Lexemes) → ℕ → Type 0

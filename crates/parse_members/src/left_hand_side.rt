@@ -1,10 +1,11 @@
 //! Members, `new`, calls and optional chains (ECMA-262, section 13.3).
 
 ghost use Rattle.std.specs.Prelude.{◌≡◌, ◌≤◌, ◌∷◌, [], Some, IfOk, cond, true, false};
-ghost use Rattle.parse_members.specs.Prelude.{Answers, at, CallsMember, CanNest, ChainsCallee, Dot, flagged_label, GivesUp, goal, GoesOn, GoesOnMember, Heads, is_textual, LBrack, LeftHandSide, LinkHere, LParen, MadeHere, MakesWithArguments, MakesWithIndex, MakesWithName, Mark, member_name_kinds, no_link_behind, number_of, one_of_kinds, optional_flag, QuestionDot, ReadsChainLink, ReadsLink, room, Standing, StandsHere, TellsChain};
+ghost use Rattle.parse_members.specs.Prelude.{Answers, at, CallsMember, CanNest, ChainsCallee, Dot, flagged_label, GivesUp, goal, GoesOn, GoesOnCall, GoesOnMember, Heads, is_textual, LBrack, LeftHandSide, LinkHere, LParen, MadeHere, MakesWithArguments, MakesWithIndex, MakesWithName, Mark, member_name_kinds, no_link_behind, number_of, one_of_kinds, optional_flag, QuestionDot, ReadsCallee, ReadsChainLink, ReadsLink, room, Standing, StandsHere, TellsChain};
 ghost use Rattle.parse_primary.specs.laws_primary.Members as members;
 ghost use Rattle.parse_primary.specs.laws_primary.declared.forms.LinkBase.TheVariants as base;
 
+use crate::import_word::{parse_import_callee, parse_import_member};
 use crate::new_target::parse_new_target;
 use crate::primary::parse_primary_expression;
 use crate::super_word::{check_new_callee, is_super_alone, parse_super_member};
@@ -31,9 +32,25 @@ pub fn parse_lhs_expression_or_higher<C: ParserConfig, N: Nested<C>>(
     ensures { Answers (at LeftHandSide) p.old p.new result }
 {
     let start = p.cur_start();
-    let member = parse_member_expression_or_higher(p, nested)?;
-    let callee = parse_call_expression_rest(p, nested, start, member)?;
+    let callee = parse_callee(p, nested)?;
     parse_optional_chain(p, nested, start, callee)
+}
+
+/// What an optional chain may stand behind: a MemberExpression, a NewExpression or a CallExpression.
+fn parse_callee<C: ParserConfig, N: Nested<C>>(
+    p: &mut ParserImpl<'_, C>,
+    nested: &N,
+) -> Result<NodeId, Stop>
+    requires at { Standing p.old }
+    requires nests { CanNest (N.can nested.now) (room p.old) }
+    ensures { ReadsCallee p.old p.new result }
+{
+    if stands(p, Kind::Import) {
+        return parse_import_callee(p, nested);
+    }
+    let start = p.cur_start();
+    let member = parse_member_expression_or_higher(p, nested)?;
+    parse_call_expression_rest(p, nested, start, member)
 }
 
 /// A MemberExpression, or a NewExpression that is none.
@@ -76,6 +93,9 @@ fn parse_member_expression_or_higher<C: ParserConfig, N: Nested<C>>(
     if stands(p, Kind::Super) {
         return parse_super_member(p, nested);
     }
+    if stands(p, Kind::Import) {
+        return parse_import_member(p, nested);
+    }
     let primary = parse_primary_expression(p, nested)?;
     parse_member_expression_rest(p, nested, start, primary)
 }
@@ -116,7 +136,7 @@ pub(crate) fn parse_member_expression_rest<C: ParserConfig, N: Nested<C>>(
 
 /// The calls behind a member, where one stands, and the names, expressions in brackets and templates behind them.
 /// Reads: Call.
-fn parse_call_expression_rest<C: ParserConfig, N: Nested<C>>(
+pub(crate) fn parse_call_expression_rest<C: ParserConfig, N: Nested<C>>(
     p: &mut ParserImpl<'_, C>,
     nested: &N,
     start: u32,
@@ -130,7 +150,23 @@ fn parse_call_expression_rest<C: ParserConfig, N: Nested<C>>(
     if !stands(p, Kind::LParen) {
         return Ok(member);
     }
-    let mut left = parse_link(p, nested, start, member)?;
+    let call = parse_link(p, nested, start, member)?;
+    parse_call_links(p, nested, start, call)
+}
+
+/// The arguments, names, expressions in brackets and templates behind a call.
+pub(crate) fn parse_call_links<C: ParserConfig, N: Nested<C>>(
+    p: &mut ParserImpl<'_, C>,
+    nested: &N,
+    start: u32,
+    call: NodeId,
+) -> Result<NodeId, Stop>
+    requires at { Standing p.old }
+    requires nests { CanNest (N.can nested.now) (room p.old) }
+    requires start { start ≤ p.old.prev_token_end }
+    ensures { GoesOnCall start call p.old p.new result }
+{
+    let mut left = call;
     'links: while goes_on(p, LinkBase::Call) {
         if begins_template(p.cur_kind()) {
             left = parse_tagged_template(p, nested, start, left)?;

@@ -3,6 +3,9 @@
 
 pub mod decorated;
 pub mod decorator;
+mod import_call;
+mod import_meta;
+mod import_word;
 pub mod left_hand_side;
 pub mod new_target;
 pub mod primary;

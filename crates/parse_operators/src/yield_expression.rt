@@ -129,6 +129,7 @@ fn begins_other_argument(kind: Kind) -> bool
             | Kind::Percent
             | Kind::New
             | Kind::Super
+            | Kind::Import
             | Kind::PrivateIdentifier
     )
 }

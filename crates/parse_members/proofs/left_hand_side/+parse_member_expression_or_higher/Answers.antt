@@ -1,5 +1,5 @@
 use Rattle.std.proofs.Common.{◌∙◌, ap, arith, refl}
-use Rattle.js_base.specs.declared.kind.Kind.TheVariants.{Dot, New, QuestionDot, LParen, Super}
+use Rattle.js_base.specs.declared.kind.Kind.TheVariants.{Dot, Import, New, QuestionDot, LParen, Super}
 use Rattle.std.proofs.lemmas.Result.{err_from_is_err_and}
 use Rattle.parse_shared.specs.js_cursor.Parsers.{Parser}
 use Rattle.parse_shared.specs.laws_shared.Nesting.{room}
@@ -186,7 +186,7 @@ returns-then-stands g t c = λ text f a.
 pub returns-in_err-primary : goal.returns-in_err-primary
 returns-in_err-primary g t c = λ text f a.
     let p = err_from_is_err_and c.from_residual-in_err-primary.result c.from_residual-in_err-primary.ensures.1 in
-    rw (p.1, p.2) (stops_so _ _ _ (λ n. no_head a (stands_so c.args.p.now New c.if-stands.false c.stands.ensures) (stands_so c.args.p.now Super c.if-stands-5.false c.stands-2.ensures) n) (c.in_err-primary.ensures text f a))
+    rw (p.1, p.2) (stops_so _ _ _ (λ n. no_head a (stands_so c.args.p.now New c.if-stands.false c.stands.ensures) (stands_so c.args.p.now Super c.if-stands-5.false c.stands-2.ensures) (stands_so c.args.p.now Import c.if-stands-6.false c.stands-3.ensures) n) (c.in_err-primary.ensures text f a))
 
 pub parse_member_expression_rest-requires-2-clause-at : goal.parse_member_expression_rest-requires-2-clause-at
 parse_member_expression_rest-requires-2-clause-at g t c = standing (c.in_ok-primary.ensures _ _ c.requires.at).answer.at
@@ -200,7 +200,7 @@ pub parse_member_expression_rest-requires-2-clause-start : goal.parse_member_exp
 parse_member_expression_rest-requires-2-clause-start g t c = let i = (c.in_ok-primary.ensures _ _ c.requires.at).answer.further in let s = c.cur_start-start.ensures in omega arith
 
 pub returns : goal.returns
-returns g t c = λ text f a. c.parse_member_expression_rest-2.ensures text f c.args.p.now c.cur_start-start.ensures (member_init a (stands_so c.args.p.now New c.if-stands.false c.stands.ensures) (stands_so c.args.p.now Super c.if-stands-5.false c.stands-2.ensures) (c.in_ok-primary.ensures text f a))
+returns g t c = λ text f a. c.parse_member_expression_rest-2.ensures text f c.args.p.now c.cur_start-start.ensures (member_init a (stands_so c.args.p.now New c.if-stands.false c.stands.ensures) (stands_so c.args.p.now Super c.if-stands-5.false c.stands-2.ensures) (stands_so c.args.p.now Import c.if-stands-6.false c.stands-3.ensures) (c.in_ok-primary.ensures text f a))
 
 pub refuse_chain-requires-clause-at : goal.refuse_chain-requires-clause-at
 refuse_chain-requires-clause-at g t c =
@@ -284,3 +284,6 @@ advance-requires-clause-whole g t c = whole_sign New c.requires.at (stands_so c.
 
 pub parse_super_member-requires-clause-word : goal.parse_super_member-requires-clause-word
 parse_super_member-requires-clause-word g t c = stands_so c.args.p.now Super c.if-stands-5.true c.stands-2.ensures
+
+pub parse_import_member-requires-clause-word : goal.parse_import_member-requires-clause-word
+parse_import_member-requires-clause-word g t c = stands_so c.args.p.now Import c.if-stands-6.true c.stands-3.ensures

@@ -1,48 +1,26 @@
 use Rattle.std.proofs.Common.{arith}
 use Rattle.std.proofs.lemmas.Result.{err_from_is_err_and}
-use Rattle.parse_primary.proofs.laws_primary.Links.{no_lhs_here}
-use Rattle.parse_shared.proofs.laws_shared.Moving.{standing, stops_so}
+use Rattle.parse_shared.proofs.laws_shared.Moving.{standing}
 use Rattle.parse_shared.proofs.laws_shared.Nesting.{nests_later, later_room}
 use Rattle.parse_members.proofs.left_hand_side.parse_lhs_expression_or_higher.Goals as goal
 
-pub returns-in_err-member : goal.returns-in_err-member
-returns-in_err-member t c = λ text f a.
-    let p = err_from_is_err_and c.from_residual.result c.from_residual.ensures.1 in
-    rw (p.1, p.2) (stops_so _ _ _ (λ n. no_lhs_here f n) (c.in_err-member.ensures text f a))
-
-pub parse_call_expression_rest-requires-clause-at : goal.parse_call_expression_rest-requires-clause-at
-parse_call_expression_rest-requires-clause-at t c = standing (c.in_ok-member.ensures _ _ c.requires.at).0.at
-
-pub parse_call_expression_rest-requires-clause-nests : goal.parse_call_expression_rest-requires-clause-nests
-parse_call_expression_rest-requires-clause-nests t c =
-    let x = (c.in_ok-member.ensures _ _ c.requires.at).0 in
-    nests_later c.requires.nests (later_room (let a = x.further in let b = c.requires.at.behind in omega arith) x.same)
-
-pub parse_call_expression_rest-requires-clause-start : goal.parse_call_expression_rest-requires-clause-start
-parse_call_expression_rest-requires-clause-start t c = let i = (c.in_ok-member.ensures _ _ c.requires.at).0.further in let s = c.cur_start-start.ensures in omega arith
-
 pub returns-in_err-callee : goal.returns-in_err-callee
 returns-in_err-callee t c = λ text f a.
-    let p = err_from_is_err_and c.from_residual-in_err-callee.result c.from_residual-in_err-callee.ensures.1 in
-    let x = c.in_ok-member.ensures text f a in
-    rw (p.1, p.2) (c.in_err-callee.ensures text f c.args.p.now a c.cur_start-start.ensures x.0 x.1)
+    let p = err_from_is_err_and c.from_residual.result c.from_residual.ensures.1 in
+    rw (p.1, p.2) (c.in_err-callee.ensures text f a)
 
 pub parse_optional_chain-requires-clause-at : goal.parse_optional_chain-requires-clause-at
-parse_optional_chain-requires-clause-at t c = let x = c.in_ok-member.ensures _ _ c.requires.at in standing (c.in_ok-callee.ensures _ _ c.args.p.now c.requires.at c.cur_start-start.ensures x.0 x.1).0.at
+parse_optional_chain-requires-clause-at t c = standing (c.in_ok-callee.ensures _ _ c.requires.at).0.at
 
 pub parse_optional_chain-requires-clause-nests : goal.parse_optional_chain-requires-clause-nests
 parse_optional_chain-requires-clause-nests t c =
-    let x = c.in_ok-member.ensures _ _ c.requires.at in
-    let y = (c.in_ok-callee.ensures _ _ c.args.p.now c.requires.at c.cur_start-start.ensures x.0 x.1).0 in
+    let y = (c.in_ok-callee.ensures _ _ c.requires.at).0 in
     nests_later c.requires.nests (later_room (let a = y.further in let b = c.requires.at.behind in omega arith) y.same)
 
 pub parse_optional_chain-requires-clause-start : goal.parse_optional_chain-requires-clause-start
-parse_optional_chain-requires-clause-start t c =
-    let x = c.in_ok-member.ensures _ _ c.requires.at in
-    let i = (c.in_ok-callee.ensures _ _ c.args.p.now c.requires.at c.cur_start-start.ensures x.0 x.1).0.further in let s = c.cur_start-start.ensures in omega arith
+parse_optional_chain-requires-clause-start t c = let i = (c.in_ok-callee.ensures _ _ c.requires.at).0.further in let s = c.cur_start-start.ensures in omega arith
 
 pub returns : goal.returns
 returns t c = λ text f a.
-    let x = c.in_ok-member.ensures text f a in
-    let y = c.in_ok-callee.ensures text f c.args.p.now a c.cur_start-start.ensures x.0 x.1 in
+    let y = c.in_ok-callee.ensures text f a in
     c.parse_optional_chain.ensures text f c.args.p.now a c.cur_start-start.ensures y.0 y.1 y.2
