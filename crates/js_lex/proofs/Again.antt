@@ -2,8 +2,11 @@
 use Rattle.std.proofs.Common.{◌≡◌, ◌≤◌, ℕ, ◌+◌, ◌==◌, Bool, true, false, List, [], ◌∷◌, ◌++◌, refl, sym, ap, subst, ◌∙◌, length, arith, append-nil, Some, None}
 use Rattle.std.specs.Prelude.{IsTrue, IsCharBoundary, IsUtf8, IfOk, Result, Ok, Err}
 use Rattle.js_base.specs.declared.kind.Kind.{Kind}
-use Rattle.js_base.specs.declared.kind.Kind.TheVariants.{RAngle, RCurly}
+use Rattle.js_base.specs.declared.kind.Kind.TheVariants.{RAngle, RCurly, Undetermined}
 use Rattle.js_base.specs.declared.token.Token.{Token}
+use Rattle.js_base.specs.Kinds.{same_kind}
+use Rattle.js_base.specs.Spans.{LiesIn}
+use Rattle.std.proofs.lemmas.Bool.{false≢true}
 use Rattle.js_base.specs.declared.diagnostic.Diagnostic.{Diagnostic}
 use Rattle.part_words.specs.js_grammar.Grammar.{Lexeme}
 use Rattle.part_words.specs.js_grammar.Settings.{Goal}
@@ -19,7 +22,7 @@ use Rattle.js_lex.specs.declared.output.LexerOutput.{LexerOutput}
 use Rattle.part_words.specs.Places.{Word}
 use Rattle.part_words.specs.Scans.{IsScanned, IsStopped, Scans}
 use Rattle.js_lex.specs.States.{State, SameText}
-use Rattle.js_lex.specs.Reading.{is_right_angle, cut, Tells, LexemeBehind, GivesLexeme, GivesNone, WasGiven, GivesAgain, relexed}
+use Rattle.js_lex.specs.Reading.{is_right_angle, cut, Tells, LexemeBehind, GivesLexeme, GivesNone, GivesBehind, WasGiven, GivesAgain, relexed}
 use Rattle.js_lex.specs.Settling.{token_of, undetermined_of, diagnostic_of, Fits, SettledAgain, SettledBehind, ScanEnds}
 use Rattle.js_lex.proofs.ReadAgain.{unflagged}
 use Rattle.part_words.proofs.KindsOfLexemes.{determined, plain_end, brace_word}
@@ -214,3 +217,43 @@ unfolding gives_again
 ok_angle old new given (Ok sc) (Ok t) u g h same k = (gives_again old new given t (Ok sc) u g.lies.starts_whole h same k.0 (unflagged k.1)).1
 ok_angle old new given (Ok sc) (Err e) u g h same k = tt
 ok_angle old new given (Err f) r u g h same k = absurd (stands_again old given f u g h)
+
+-- ---- the whole punctuator of which the `>` behind a place is the beginning
+
+-- it is as if it had been given there
+pub angle_last : {text : List ℕ} {place : ℕ} {t : Token} (g : GivesBehind text place t) → t.kind ≡ RAngle → (w : WasGiven g.after t) × (w.before ≡ place)
+angle_last {place = place} {t = t} g k = go (same_kind Undetermined t.kind) (ap (same_kind Undetermined) k) g.next.outcome
+  where
+    e : g.before.text ≡ g.after.text
+    e = sym g.next.same.text
+
+    go : (r : Bool) → r ≡ false → elim r as (λ _. Type 0) [ true ↦ (d : Diagnostic) × (g.next.faults ≡ d ∷ []) × GivesNone division g.before.goal g.before.text g.before.place t d | false ↦ (g.next.faults ≡ []) × GivesLexeme division cut g.before.text g.before.place t ] → (w : WasGiven g.after t) × (w.before ≡ place)
+    go true q x = absurd (false≢true (sym q))
+    go false q x = (
+      record {
+        place = g.next.place;
+        lies = subst (LiesIn t.span) e g.next.lies;
+        before = g.before.place;
+        between = subst (λ (v : List ℕ). IsCharBoundary v g.before.place) e g.next.between;
+        lexeme = x.1.lexeme;
+        stands = subst (λ (v : List ℕ). LexemeBehind division v g.before.place x.1.lexeme) e x.1.stands;
+        tells = x.1.tells;
+      },
+      g.place_is,
+    )
+
+pub last_text : {text : List ℕ} {place : ℕ} {t : Token} (g : GivesBehind text place t) → text ≡ g.after.text
+last_text g = sym (g.next.same.text ∙ g.text_is)
+
+pub whole_given : {text : List ℕ} {place : ℕ} {t : Token} (g : GivesBehind text place t) → t.kind ≡ RAngle → IsUtf8 text → (sc : Scanned) → IsScanned division text t.span.start sc → GivesLexeme division (λ y. y) text place (token_of sc t.span.start t.is_on_new_line)
+whole_given {text} {place} {t} g k u sc h =
+    let x = angle_last g k in
+    let e = last_text g in
+    let u' : IsUtf8 g.after.text = subst IsUtf8 e u in
+    let y : GivesLexeme division (λ y. y) g.after.text x.0.before (token_of sc t.span.start t.is_on_new_line) = again_lexeme x.0.lexeme t sc x.0.between.0 (passed u' x.0.between x.0.stands) x.0.tells (subst (λ (v : List ℕ). IsScanned division v t.span.start sc) e h) in
+    subst (λ (v : List ℕ). GivesLexeme division (λ y. y) v place (token_of sc t.span.start t.is_on_new_line)) (sym e) (subst (λ (n : ℕ). GivesLexeme division (λ y. y) g.after.text n (token_of sc t.span.start t.is_on_new_line)) x.1 y)
+
+pub one_given : {text : List ℕ} {place : ℕ} {t : Token} (g : GivesBehind text place t) → t.kind ≡ RAngle → IsUtf8 text → (f : Fault) → IsStopped division text t.span.start f → ⊥
+one_given {text} {place} {t} g k u f h =
+    let e = last_text g in
+    stands_again g.after t f (subst IsUtf8 e u) (angle_last g k).0 (subst (λ (v : List ℕ). IsStopped division v t.span.start f) e h)

@@ -14,7 +14,7 @@ ghost use Rattle.part_words.specs.js_grammar.CommentMarks.{is_pure_comment, is_n
 ghost use Rattle.js_lex.specs.Comments.{has_before};
 ghost use Rattle.js_lex.specs.Kept.{IsEmpty, LieIn, lengths_of, first_kept, AreAtMost};
 ghost use Rattle.js_lex.specs.States.{State, goal_of, SameText};
-ghost use Rattle.js_lex.specs.Reading.{GivesNext, GivesFirst, GivesBehind, GivesAgain, WasGiven, FlagsStand};
+ghost use Rattle.js_lex.specs.Reading.{GivesNext, GivesFirst, GivesBehind, GivesLexeme, GivesAgain, WasGiven, FlagsStand};
 ghost use Rattle.js_lex.specs.Settling.{Fits, HasFlags, SettledBehind, ScanEnds};
 
 use crate::checkpoint::LexerCheckpoint;
@@ -151,6 +151,20 @@ impl<'a, C: LexerConfig> Lexer<'a, C> {
         let mut kept = LexerOutput::new(self.alloc);
         let at = place as usize;
         read_plain(self.source_text, self.source_type, false, at, &mut kept)
+    }
+
+    /// The whole punctuator behind a place of which `token_behind` tells the `>` that it begins with: `>`, `>=`, `>>`,
+    /// `>>>`, `>>=` or `>>>=`; nothing moves and nothing is kept.
+    pub fn whole_right_angle(&self, place: u32, token: Token) -> Token
+        requires given { GivesBehind self.now.text place token }
+        requires kind { token.kind ≡ RAngle }
+        ensures { GivesLexeme division (λ y. y) self.now.text place result }
+    {
+        let start = token.start() as usize;
+        match plain_at(self.source_text, start) {
+            Ok(scanned) => token_of(scanned, start, token.is_on_new_line()),
+            Err(_) => token,
+        }
     }
 
     /// Reads the slash or `/=` that was given last as a regular expression. The answer is its token and the place at
