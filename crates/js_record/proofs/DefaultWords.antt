@@ -1,5 +1,5 @@
 -- Where the word `default` stands behind `export`.
-use Rattle.std.proofs.Common.{◌≡◌, ℕ, ◌+◌, ◌≤◌, Bool, true, false, List, [], ◌∷◌, ◌++◌, Some, length, refl, ap, sym, ◌∙◌, subst, arith, length-append}
+use Rattle.std.proofs.Common.{◌≡◌, ℕ, ◌+◌, ◌≤◌, Bool, true, false, List, [], ◌∷◌, Some, length, refl, ap, sym, ◌∙◌, arith, length-append}
 use Rattle.std.specs.Prelude.{chars, encode_utf8, IsUtf8}
 use Rattle.std.specs.Char.{len_utf8}
 use Rattle.std.specs.declared.str.CharIndices.{CharIndices}
@@ -34,19 +34,19 @@ pub record Along (text : List ℕ) (s : CharIndices) (b : Between) : Type 0 wher
 
 module _ (text : List ℕ) (s t : CharIndices) (b : Between) (place c : ℕ) (l : Along text s b) (h : char_indices_steps s (Some (place, c)) t) where
   next_is : chars (char_indices_rest s) ≡ c ∷ chars (char_indices_rest t)
-  next_is = chars_past_char (char_indices_rest s) (char_indices_rest t) c l.utf8 h.1.0
+  next_is = chars_past_char (char_indices_rest s) (char_indices_rest t) c l.utf8 h.1
 
   pub along_next : (b' : Between) → begins (between b) c ≡ false → between b' ≡ next_of (between b) c → Along text t b'
   along_next b' n e = record {
-    utf8 = IsUtf8-past_char (char_indices_rest s) (char_indices_rest t) c l.utf8 h.1.0;
-    whole = (let w = l.whole in let x = ap length h.1.0 in let y = length-append (encode_utf8 c) (char_indices_rest t) in let z = h.1.1 in omega arith);
+    utf8 = IsUtf8-past_char (char_indices_rest s) (char_indices_rest t) c l.utf8 h.1;
+    whole = (let w = l.whole in let x = ap length h.1 in let y = length-append (encode_utf8 c) (char_indices_rest t) in let z = h.2 in omega arith);
     is = λ at.
-      l.is at
-      ∙ ap (default_from (between b) (at + char_indices_offset s)) next_is
-      ∙ word_behind (between b) (at + char_indices_offset s) c (chars (char_indices_rest t)) n
-      ∙ (let z = h.1.1 in let k = length-encode c in let m : (at + char_indices_offset s) + len_utf8 c ≡ at + char_indices_offset t = omega arith in
+        l.is at
+        ∙ ap (default_from (between b) (at + char_indices_offset s)) next_is
+        ∙ word_behind (between b) (at + char_indices_offset s) c (chars (char_indices_rest t)) n
+        ∙ (let z = h.2 in let k = length-encode c in let m : (at + char_indices_offset s) + len_utf8 c ≡ at + char_indices_offset t = omega arith in
         ap (λ (n : ℕ). default_from (next_of (between b) c) n (chars (char_indices_rest t))) m)
-      ∙ ap (λ (k : def.Between). default_from k (at + char_indices_offset t) (chars (char_indices_rest t))) (sym e);
+        ∙ ap (λ (k : def.Between). default_from k (at + char_indices_offset t) (chars (char_indices_rest t))) (sym e);
   }
 
   pub along_here : begins (between b) c ≡ true → (at : ℕ) → default_from outside at (chars text) ≡ at + place

@@ -1,16 +1,18 @@
 -- Nodes that were found, in the order of their ends, and what they add together.
-use Rattle.std.proofs.Common.{◌≡◌, ℕ, zero, suc, ◌+◌, ◌<◌, ◌≤◌, Bool, true, false, cond, List, [], ◌∷◌, ◌++◌, Option, Some, None, length, get_or, map, take, drop, nat_le, refl, ap, sym, ◌∙◌, subst, arith, append_assoc, append-nil}
+use Rattle.std.proofs.Common.{◌≡◌, ℕ, zero, suc, ◌+◌, ◌<◌, ◌≤◌, Bool, true, false, cond, List, [], ◌∷◌, ◌++◌, Option, length, get_or, map, take, drop, nat_le, refl, ap, sym, ◌∙◌, subst, arith, append_assoc, append-nil, inl, inr}
 use Rattle.std.specs.Prelude.{All}
 use Rattle.std.specs.List.{insert}
-use Rattle.std.proofs.lemmas.Bool.{le-leb, lt-leb}
+use Rattle.std.proofs.lemmas.Bool.{cases_lt, le-leb, lt-leb}
 use Rattle.std.proofs.lemmas.List.{map-append, take-append-drop, take_all, take_more}
 use Rattle.std.proofs.lemmas.List.Elements.{All-from_recursion}
 use Rattle.js_base.specs.declared.span.Span.{Span}
 use Rattle.js_grammar.specs.ModuleRecords.{Part}
-use Rattle.js_grammar.specs.Modules.{adds, itself, found_in, by_end, in_order_of_ends, part_of, visits}
-use Rattle.js_grammar.specs.NodeNames.{IsReadFrom, AreReadFrom}
-use Rattle.js_grammar.specs.Trees.{Label, Slots, end, hole, tree, Tree}
+use Rattle.js_grammar.specs.Modules.{adds, itself, found_in, by_end, in_order_of_ends, part_by, part_of, visits}
+use Rattle.js_grammar.specs.NodeNames.{span_of, AreReadFrom}
+use Rattle.js_grammar.specs.Trees.{NodeKind as SeenKind, Label, Slots, end, hole, tree, Tree}
 use Rattle.js_tree.specs.declared.id.NodeId.{NodeId}
+use Rattle.js_tree.specs.declared.kind.NodeKind.{NodeKind}
+use Rattle.js_tree.specs.Labels.{kind_of}
 use Rattle.js_tree.specs.Holding.{Stands, stands, StandsAll, no_slots, next_child, next_hole, program_tree}
 use Rattle.js_tree.specs.Nodes.{Node, label, node_at, empty_program}
 use Rattle.js_record.specs.Shown.{IsRead}
@@ -112,14 +114,34 @@ inserted {ns} {l} {cs} {rs} id found e at ts q p k s a =
     both
 
 -- a node that adds nothing
-pub not_kept : {ns : List Node} {l : Label} {cs : Slots} (found : List NodeId) (ts : List Tree) → adds l.kind ≡ false → AreFound ns found ts → AreFound ns found (kept_before l cs ts)
-not_kept {ns} {l} {cs} found ts k a = subst (AreFound ns found) (sym (ap (λ (b : Bool). cond b (by_end (record { label = l; slots = cs }) ts) ts) k)) a
+pub not_kept : {ns : List Node} (l : Label) (cs : Slots) (found : List NodeId) (ts : List Tree) → adds l.kind ≡ false → AreFound ns found ts → AreFound ns found (kept_before l cs ts)
+not_kept {ns} l cs found ts k a = subst (AreFound ns found) (sym (ap (λ (b : Bool). cond b (by_end (record { label = l; slots = cs }) ts) ts) k)) a
 
 pub adds_there : {ns : List Node} {id : NodeId} {l : Label} {cs : Slots} {rs : List ℕ} → Stands ns id.0 l cs rs → adds l.kind ≡ adds_at ns id
 adds_there {ns} {id} s = go s
   where
     go : {i : ℕ} {l : Label} {cs : Slots} {rs : List ℕ} → Stands ns i l cs rs → adds l.kind ≡ adds (label (get_or ns i empty_program)).kind
     go (stands i w all) = refl
+
+-- what a node adds, by its kind
+pub part_there : {ns : List Node} {id : NodeId} {l : Label} {cs : Slots} {rs : List ℕ} (text : List ℕ) (k : NodeKind) → k ≡ (node_at ns id).kind → Stands ns id.0 l cs rs → part_by text (kind_of k) l cs ≡ part_of text (record { label = l; slots = cs })
+part_there {ns} {id} {l} {cs} text k e s = ap (λ (j : SeenKind). part_by text j l cs) (ap kind_of e ∙ sym (go s))
+  where
+    go : {i : ℕ} {l : Label} {cs : Slots} {rs : List ℕ} → Stands ns i l cs rs → l.kind ≡ kind_of (get_or ns i empty_program).kind
+    go (stands i w all) = refl
+
+pub span_there : {ns : List Node} {id : NodeId} {l : Label} {cs : Slots} {rs : List ℕ} → Stands ns id.0 l cs rs → span_of l ≡ (node_at ns id).span
+span_there {ns} {id} s = go s
+  where
+    go : {i : ℕ} {l : Label} {cs : Slots} {rs : List ℕ} → Stands ns i l cs rs → span_of l ≡ (get_or ns i empty_program).span
+    go (stands i w all) = refl
+
+pub start_there : {ns : List Node} {id : NodeId} {l : Label} {cs : Slots} {rs : List ℕ} → Stands ns id.0 l cs rs → l.span.from ≡ (node_at ns id).span.start
+start_there s = ap (λ (v : Span). v.start) (span_there s)
+
+-- of the nodes so far none adds anything, and neither does the next
+pub none_more : (ns : List Node) (i : ℕ) → ((id : NodeId) → id.0 < i → adds_at ns id ≡ false) → adds_at ns (record { 0 = i }) ≡ false → (id : NodeId) → id.0 < i + 1 → adds_at ns id ≡ false
+none_more ns i h e id w = elim (cases_lt id.0 i) [ inl b ↦ h id b | inr b ↦ (let q : id.0 ≡ i = omega arith in ap (λ (n : ℕ). adds (label (get_or ns n empty_program)).kind) q ∙ e) ]
 
 -- ---- each is read from the text
 
@@ -153,11 +175,11 @@ module _ (text : List ℕ) where
 
   by_end_rightly : (t : Tree) (us : List Tree) → IsRightly t → Each IsRightly us → Each IsRightly (by_end t us)
   by_end_rightly t [] r h = (r, tt)
-  by_end_rightly t (u ∷ us) r h = go (nat_le t.label.span.to u.label.span.to)
+  by_end_rightly t (u ∷ us) r h = go (by_end_rightly t us r h.1) (nat_le t.label.span.to u.label.span.to)
     where
-      go : (b : Bool) → Each IsRightly (cond b (t ∷ u ∷ us) (u ∷ by_end t us))
-      go true = (r, h)
-      go false = (h.0, by_end_rightly t us r h.1)
+      go : Each IsRightly (by_end t us) → (b : Bool) → Each IsRightly (cond b (t ∷ u ∷ us) (u ∷ by_end t us))
+      go m true = (r, h)
+      go m false = (h.0, m)
 
   in_order_rightly : (ts : List Tree) → Each IsRightly ts → Each IsRightly (in_order_of_ends ts)
   in_order_rightly [] h = tt
@@ -199,9 +221,9 @@ visited_step {ns} text ids i k old now new ts e w h v =
       left = x.second;
       parts = v.parts ∙ ap (λ (u : List Tree). v.done ++ u) (x.whole ∙ ap (λ (u : List Tree). u ++ x.low) y.is) ∙ sym (append_assoc v.done (y.this ∷ []) x.low);
       added = h (sym (adds_there y.one.stands) ∙ y.one.adds) y.this.label y.this.slots y.one.numbers y.one.stands
-        ∙ ap (λ (u : List Part). u ++ part_of text y.this ∷ []) v.added
-        ∙ append_assoc old (map (part_of text) v.done) (part_of text y.this ∷ [])
-        ∙ ap (λ (u : List Part). old ++ u) (sym (map-append (part_of text) v.done (y.this ∷ [])));
+          ∙ ap (λ (u : List Part). u ++ part_of text y.this ∷ []) v.added
+          ∙ append_assoc old (map (part_of text) v.done) (part_of text y.this ∷ [])
+          ∙ ap (λ (u : List Part). old ++ u) (sym (map-append (part_of text) v.done (y.this ∷ [])));
     }
 
 pub visited_end : {ns : List Node} (text : List ℕ) (ids : List NodeId) (i : ℕ) (old now : List Part) (ts : List Tree) → i ≡ 0 → Visited ns text (take i ids) old now ts → now ≡ old ++ map (part_of text) ts

@@ -1,5 +1,5 @@
 -- How the word `default` is looked for behind `export`.
-use Rattle.std.specs.Prelude.{ℕ, ◌==◌, Bool, true, false, byte}
+use Rattle.std.specs.Prelude.{ℕ, ◌==◌, Bool, true, false}
 use Rattle.js_base.specs.part_text.Characters.{is_line_terminator}
 use Rattle.js_grammar.specs.Modules as def
 use Rattle.js_grammar.specs.Modules.{outside, slash, in_line, in_block, behind_star}

@@ -32,11 +32,26 @@ pub fn record_of_program(
     ensures { IfOk result (λ r. (s : Placed) (cs : Slots) → HoldsAll tree.now 1 (length tree.now) children.now cs → r ≡ (record_of source.now (program_tree s cs), record_errors source.now (program_tree s cs))) }
 {
     let mut builder = ModuleRecordBuilder::new(alloc, source_type);
-    if has_any(tree) {
-        let found = found_in(alloc, tree, children)?;
-        visit_each(&mut builder, tree, source, &found)?;
-    }
+    visit_all(&mut builder, alloc, tree, source, children)?;
     builder.build()
+}
+
+/// Visits each node in these slots that adds something, in the order of their ends.
+fn visit_all(
+    builder: &mut ModuleRecordBuilder,
+    alloc: Global,
+    tree: &ParserAstBuilder,
+    source: &str,
+    slots: &[Option<NodeId>],
+) -> Result<(), NoMemory>
+    requires { AreHeld tree.now source.now slots.now }
+    ensures { OnOk result ((cs : Slots) (rs : List ℕ) → StandsAll tree.now (length tree.now) slots.now cs rs → builder.new ≡ builder.old ++ map (part_of source.now) (in_order_of_ends (all_in cs))) }
+{
+    if !has_any(tree) {
+        return Ok(());
+    }
+    let found = found_in(alloc, tree, slots)?;
+    visit_each(builder, tree, source, &found)
 }
 
 /// Whether any node adds something, in the tree or not. A walk of the tree is due only then.

@@ -1,20 +1,14 @@
 -- The walk over a tree finds the nodes that add something, in the order of their ends.
-use Rattle.std.proofs.Common.{◌≡◌, ℕ, zero, suc, ◌+◌, ◌<◌, ◌≤◌, Bool, true, false, cond, List, [], ◌∷◌, ◌++◌, Option, Some, None, length, get_or, map, take, drop, nat_lt, nat_le, refl, ap, sym, ◌∙◌, subst, arith, append_assoc, append-nil, lt-ltb}
-use Rattle.std.specs.Prelude.{All}
-use Rattle.std.proofs.lemmas.List.Elements.{All-from_recursion}
-use Rattle.js_base.specs.declared.span.Span.{Span}
-use Rattle.js_grammar.specs.ModuleRecords.{Part}
-use Rattle.js_grammar.specs.Modules.{adds, itself, found_in, by_end, in_order_of_ends, part_of, visits}
-use Rattle.js_grammar.specs.NodeNames.{IsReadFrom, AreReadFrom}
-use Rattle.js_grammar.specs.Trees.{Label, Slots, end, hole, tree, Tree}
+use Rattle.std.proofs.Common.{◌≡◌, ℕ, ◌<◌, Bool, true, false, cond, List, [], ◌∷◌, ◌++◌, Option, Some, None, length, nat_lt, refl, ap, sym, ◌∙◌, subst, arith, append_assoc, append-nil, lt-ltb}
+use Rattle.js_grammar.specs.Modules.{adds, itself, found_in, by_end, in_order_of_ends}
+use Rattle.js_grammar.specs.Trees.{Label, Slots, Tree}
 use Rattle.js_tree.specs.declared.id.NodeId.{NodeId}
-use Rattle.js_tree.specs.Holding.{Stands, stands, StandsAll, no_slots, next_child, next_hole, program_tree}
-use Rattle.js_tree.specs.Nodes.{Node, label, node_at, empty_program}
+use Rattle.js_tree.specs.Holding.{Stands, stands, StandsAll, no_slots, next_child, next_hole}
+use Rattle.js_tree.specs.Nodes.{Node, node_at}
 use Rattle.js_tree.specs.Parts.{below_all}
 use Rattle.js_tree.proofs.WeightLemmas.{stack_weight, stack_weight-append}
 use Rattle.js_tree.proofs.CountLemmas.{children_lighter}
-use Rattle.js_record.specs.Shown.{IsRead}
-use Rattle.js_record.specs.Walked.{adds_at, end_at, forward, IsOne, AreFound, none_found, one_found, kept_before}
+use Rattle.js_record.specs.Walked.{forward, AreFound, none_found, kept_before}
 
 -- ---- the walk ends
 
