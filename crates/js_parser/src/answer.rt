@@ -18,7 +18,7 @@ use crate::early::early_errors;
 use js_base::{Diagnostic, DiagnosticKind, Diagnostics, NoMemory, SourceType, Span, Spans, Tokens};
 use js_core::{RuntimeParser, parse_program};
 use js_cursor::Comments;
-use js_record::{ModuleRecord, ModuleRecordBuilder, ModuleVisits};
+use js_record::{ModuleRecord, ModuleRecordBuilder, ModuleVisits, record_of_program};
 use js_tree::{NodeId, ParserAstBuilder, Tree};
 use std::alloc::Global;
 
@@ -69,9 +69,10 @@ pub fn taken(
     let span = Span::new(0, p.cur_token().end());
     let parts = p.into_parts();
     let kept = parts.lexer.finish();
+    let (module_record, _) =
+        record_of_program(alloc, source_type, &parts.ast, source, items.as_slice())?;
     let tree = parts.ast.finish(span, items)?;
     let diagnostics = told_of(alloc, &tree, source, kept.errors, parts.errors)?;
-    let (module_record, _) = parts.module_record_builder.build()?;
     Ok(ParserReturn {
         program: Program {
             tree,

@@ -7,4 +7,7 @@ pub mod LineLemmas
 pub mod KindLemmas
 pub mod ShownLemmas
 pub mod TreeLemmas
+pub mod WalkLemmas
+pub mod Finding
+pub mod DefaultWords
 mod RecordExamples

@@ -2,12 +2,14 @@
 #![tactic(auto)]
 
 mod builder;
+mod default_word;
 mod distinct;
 mod lines;
 mod placing;
 mod reading;
 mod record;
 mod visiting;
+mod walking;
 
 pub use builder::ModuleVisits;
 pub use part_visits::{
@@ -16,3 +18,4 @@ pub use part_visits::{
     RequestedModule, RequestedModules,
 };
 pub use record::ModuleRecord;
+pub use walking::record_of_program;
