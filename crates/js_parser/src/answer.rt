@@ -69,8 +69,13 @@ pub fn taken(
     let span = Span::new(0, p.cur_token().end());
     let parts = p.into_parts();
     let kept = parts.lexer.finish();
-    let (module_record, _) =
-        record_of_program(alloc, source_type, &parts.ast, source, items.as_slice())?;
+    let (module_record, _) = record_of_program(
+        alloc,
+        source_type,
+        &parts.ast,
+        source,
+        items.as_slice(),
+    )?;
     let tree = parts.ast.finish(span, items)?;
     let diagnostics = told_of(alloc, &tree, source, kept.errors, parts.errors)?;
     Ok(ParserReturn {
