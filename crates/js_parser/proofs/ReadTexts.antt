@@ -6,9 +6,9 @@ use Rattle.js_base.specs.Kinds.{same_kind}
 use Rattle.js_base.proofs.KindLemmas.{kind_of_same}
 use Rattle.js_grammar.specs.Characters.{width}
 use Rattle.js_grammar.specs.Grammar.{Lexeme, Lexemes, last, next}
-use Rattle.js_grammar.specs.Lexed.{Passing, Lexed, Lexes, NextLexeme, LexemeBehind, ends_once, passing_of}
+use Rattle.js_grammar.specs.Lexed.{Lexed, Lexes, NextLexeme, LexemeBehind, ends_once, passing_of}
 use Rattle.js_grammar.specs.Lexemes.{LexicalGoal, division, regular_expression, template_tail, hashbang, kind_in, may_begin}
-use Rattle.js_grammar.specs.ReadLexemes.{Faultless, is_read, is_read_kind}
+use Rattle.js_grammar.specs.ReadLexemes.{Faultless, is_read_kind}
 use Rattle.js_grammar.specs.Settings.{Goal}
 use Rattle.js_grammar.specs.TextReadings.{AreRead, from_text_start, behind_a_hashbang}
 use Rattle.std.proofs.lemmas.Bool.{and_parts, false≢true, not-true}
@@ -31,7 +31,7 @@ some_word regular_expression [] rest k h n = cc
 some_word template_tail [] rest k h n = cc
 some_word hashbang [] rest k h n = cc
 
-module _ {text : List ℕ} {goal : Goal} where
+module _ (text : List ℕ) (goal : Goal) where
   behind_start : {s : ℕ} {y : Lexeme} → NextLexeme (passing_of goal) text s y → same_kind Eof y.kind ≡ false → 0 < y.to
   behind_start {y = y} l n = let p = some_word l.goal l.word l.rest y.kind l.lexeme.kind n in let t = l.to in omega arith
 
@@ -64,4 +64,4 @@ module _ {text : List ℕ} {goal : Goal} where
       begun x ls l.0 (later ls (behind_start l.0 (not-true (same_kind Eof x.kind) q.0)) l.1 q.1) l.0.goal refl
 
 pub lexemes_read : (text : List ℕ) (goal : Goal) (ls : Lexemes) → Lexed goal text ls → AreRead text goal ls
-lexemes_read text goal ls d = all_read ls d.lexes d.ends
+lexemes_read text goal ls d = all_read text goal ls d.lexes d.ends
