@@ -1,3 +1,4 @@
+use Rattle.std.proofs.Common.{refl}
 use Rattle.js_base.specs.declared.kind.Kind.TheVariants.{RParen}
 use Rattle.parse_shared.proofs.laws_shared.Signs.{whole_sign}
 use Rattle.parse_primary.proofs.laws_primary.ImportCalls.{closing, unclosed}

@@ -12,11 +12,11 @@ returns-then-not-stands g c = end_at_once _ _ c.close_import.result (stands_so c
 pub advance-requires-clause-whole : goal.advance-requires-clause-whole
 advance-requires-clause-whole g c = whole_sign Comma c.requires.at (stands_so c.args.p.now Comma c.if-not-stands.false c.stands.ensures).0 refl refl
 
-pub close_import-requires-clause-at : goal.close_import-requires-clause-at
-close_import-requires-clause-at g c = standing (c.in_ok-advance.ensures _ _ c.requires.at).at
+pub close_import-requires-2-clause-at : goal.close_import-requires-2-clause-at
+close_import-requires-2-clause-at g c = standing (c.in_ok-advance.ensures _ _ c.requires.at).at
 
-pub close_import-requires-clause-behind : goal.close_import-requires-clause-behind
-close_import-requires-clause-behind g c = behind_moved c.requires.behind c.requires.at (c.in_ok-advance.ensures _ _ c.requires.at)
+pub close_import-requires-2-clause-behind : goal.close_import-requires-2-clause-behind
+close_import-requires-2-clause-behind g c = behind_moved c.requires.behind c.requires.at (c.in_ok-advance.ensures _ _ c.requires.at)
 
 pub returns : goal.returns
 returns g c = end_behind_comma _ _ _ c.close_import-2.result (stands_so c.args.p.now Comma c.if-not-stands.false c.stands.ensures) c.in_ok-advance.ensures c.close_import-2.ensures

@@ -21,7 +21,7 @@ pub refuse_empty-requires-clause-sign : goal.refuse_empty-requires-clause-sign
 refuse_empty-requires-clause-sign t c = stands_so c.advance.new.p RParen c.if-stands.true c.stands.ensures
 
 pub returns-then-stands : goal.returns-then-stands
-returns-then-stands t c = empty_stops _ _ c.requires.open c.in_ok-advance.ensures _ _ c.refuse_empty.result (stands_so c.advance.new.p RParen c.if-stands.true c.stands.ensures) c.refuse_empty.ensures
+returns-then-stands t c = empty_stops _ _ c.requires.open c.in_ok-advance.ensures c.args.start _ c.refuse_empty.result (stands_so c.advance.new.p RParen c.if-stands.true c.stands.ensures) c.refuse_empty.ensures
 
 pub parse_import_argument-requires-clause-at : goal.parse_import_argument-requires-clause-at
 parse_import_argument-requires-clause-at t c = standing (c.in_ok-advance.ensures _ _ c.requires.at).at
@@ -32,7 +32,7 @@ parse_import_argument-requires-clause-nests t c = nests_later c.requires.nests (
 pub returns-in_err-specifier : goal.returns-in_err-specifier
 returns-in_err-specifier t c =
     let p = err_from_is_err_and c.from_residual-in_err-specifier.result c.from_residual-in_err-specifier.ensures.1 in
-    rw (p.1, p.2) (specifier_stops _ _ c.requires.open c.in_ok-advance.ensures _ _ _ c.in_err-specifier.ensures)
+    rw (p.1, p.2) (specifier_stops _ _ c.requires.open c.in_ok-advance.ensures c.args.start _ _ c.in_err-specifier.ensures)
 
 pub parse_import_options-requires-clause-at : goal.parse_import_options-requires-clause-at
 parse_import_options-requires-clause-at t c = standing (c.in_ok-specifier.ensures _ _ (c.in_ok-advance.ensures _ _ c.requires.at).at).answer.at
@@ -49,7 +49,7 @@ parse_import_options-requires-clause-behind t c = let m = c.in_ok-advance.ensure
 pub returns-in_err-options : goal.returns-in_err-options
 returns-in_err-options t c =
     let p = err_from_is_err_and c.from_residual-in_err-options.result c.from_residual-in_err-options.ensures.1 in
-    rw (p.1, p.2) (rest_stops _ _ c.requires.open c.in_ok-advance.ensures _ _ c.in_ok-specifier.ensures _ _ _ c.in_err-options.ensures)
+    rw (p.1, p.2) (rest_stops _ _ c.requires.open c.in_ok-advance.ensures _ _ c.in_ok-specifier.ensures c.args.start _ _ c.in_err-options.ensures)
 
 pub end_span-span-requires : goal.end_span-span-requires
 end_span-span-requires t c = let m = c.in_ok-advance.ensures _ _ c.requires.at in behind_options (behind_answer c.requires.behind c.requires.at m (c.in_ok-specifier.ensures _ _ m.at)) (c.in_ok-specifier.ensures _ _ m.at).answer.at c.in_ok-options.ensures

@@ -26,7 +26,7 @@ pub advance-requires-then-stands-clause-whole : goal.advance-requires-then-stand
 advance-requires-then-stands-clause-whole t c = whole_sign RParen (c.in_ok-advance.ensures _ _ c.requires.at).at (stands_so c.advance.new.p RParen c.if-stands.true c.stands-2.ensures).0 refl refl
 
 pub returns-then-stands : goal.returns-then-stands
-returns-then-stands t c = options_ended _ _ _ (stands_so c.args.p.now Comma c.if-not-stands.false c.stands.ensures) c.in_ok-advance.ensures (stands_so c.advance.new.p RParen c.if-stands.true c.stands-2.ensures) c.in_ok-advance-then-stands.ensures
+returns-then-stands t c = options_ended _ _ _ (stands_so c.args.p.now Comma c.if-not-stands.false c.stands.ensures) c.in_ok-advance.ensures (stands_so c.advance.new.p RParen c.if-stands.true c.stands-2.ensures) c.in_ok-advance-2.ensures
 
 pub parse_import_argument-requires-clause-at : goal.parse_import_argument-requires-clause-at
 parse_import_argument-requires-clause-at t c = standing (c.in_ok-advance.ensures _ _ c.requires.at).at

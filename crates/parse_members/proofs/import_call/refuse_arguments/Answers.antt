@@ -3,12 +3,12 @@ use Rattle.js_base.specs.declared.diagnostic.Diagnostic.{Diagnostic}
 use Rattle.js_base.specs.declared.diagnostic.DiagnosticKind.TheVariants.{ImportArguments}
 use Rattle.js_grammar.specs.Marks.{Mark}
 use Rattle.parse_shared.specs.js_cursor.Places.{goal as goal_of}
-use Rattle.parse_primary.proofs.laws_primary.Classes.{lexeme_ends}
+use Rattle.parse_shared.proofs.laws_shared.Classes.{gives_up_by, unexpected_ends}
 use Rattle.parse_primary.proofs.laws_primary.ImportWords.{passed_marked, told_ends}
 use Rattle.parse_members.proofs.import_call.refuse_arguments.Goals as goal
 
 pub returns-then-at : goal.returns-then-at
-returns-then-at g c = lexeme_ends _ _ c.set_unexpected.result c.requires.at.at c.set_unexpected.ensures
+returns-then-at g c = gives_up_by _ _ c.set_unexpected.result c.set_unexpected.ensures (λ d u. unexpected_ends c.requires.at.at d u)
 
 pub end_span-span-requires : goal.end_span-span-requires
 end_span-span-requires g c = c.requires.behind.before

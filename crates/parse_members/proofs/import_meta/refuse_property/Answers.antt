@@ -1,4 +1,4 @@
-use Rattle.std.proofs.Common.{◌≡◌, true, ap, arith, subst, sym, ◌∙◌}
+use Rattle.std.proofs.Common.{◌≡◌, true, ap, arith, refl, subst, sym, ◌∙◌}
 use Rattle.std.proofs.lemmas.Bool.{false≢true}
 use Rattle.js_base.specs.KindSets.{identifier_name_kinds}
 use Rattle.js_base.specs.Kinds.{one_of_kinds}
@@ -7,12 +7,12 @@ use Rattle.js_base.specs.declared.diagnostic.DiagnosticKind.TheVariants.{Invalid
 use Rattle.js_base.specs.declared.span.Span.{Span}
 use Rattle.js_grammar.specs.Marks.{Mark}
 use Rattle.parse_shared.specs.js_cursor.Places.{goal as goal_of}
-use Rattle.parse_primary.proofs.laws_primary.Classes.{lexeme_ends}
+use Rattle.parse_shared.proofs.laws_shared.Classes.{gives_up_by, unexpected_ends}
 use Rattle.parse_primary.proofs.laws_primary.ImportWords.{before_here, here_marked, told_ends}
 use Rattle.parse_members.proofs.import_meta.refuse_property.Goals as goal
 
 pub returns-then-not-is_identifier_name : goal.returns-then-not-is_identifier_name
-returns-then-not-is_identifier_name g c = lexeme_ends _ _ c.set_unexpected.result c.requires.at.at c.set_unexpected.ensures
+returns-then-not-is_identifier_name g c = gives_up_by _ _ c.set_unexpected.result c.set_unexpected.ensures (λ d u. unexpected_ends c.requires.at.at d u)
 
 pub new-span-requires : goal.new-span-requires
 new-span-requires g c =
