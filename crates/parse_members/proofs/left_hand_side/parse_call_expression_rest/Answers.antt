@@ -16,13 +16,13 @@ returns-in_err-call t c = λ text f o a e i x n.
     rw (p.1, p.2) (call_first_stops a x i (stands_so c.args.p.now LParen c.if-not-stands.false c.stands.ensures) _ _ (c.in_err-call.ensures text f x.at))
 
 pub parse_call_links-requires-clause-at : goal.parse_call_links-requires-clause-at
-parse_call_links-requires-clause-at t c = (next_loop (start_loop c.requires.at c.requires.start) c.in_ok-call.ensures tt).at
+parse_call_links-requires-clause-at t c = (next_loop (start_loop c.requires.at c.requires.start) c.in_ok-call.ensures c.requires.start).at
 
 pub parse_call_links-requires-clause-nests : goal.parse_call_links-requires-clause-nests
-parse_call_links-requires-clause-nests t c = nests_later c.requires.nests (next_loop (start_loop c.requires.at c.requires.start) c.in_ok-call.ensures tt).later
+parse_call_links-requires-clause-nests t c = nests_later c.requires.nests (next_loop (start_loop c.requires.at c.requires.start) c.in_ok-call.ensures c.requires.start).later
 
 pub parse_call_links-requires-clause-start : goal.parse_call_links-requires-clause-start
-parse_call_links-requires-clause-start t c = (next_loop (start_loop c.requires.at c.requires.start) c.in_ok-call.ensures tt).before
+parse_call_links-requires-clause-start t c = (next_loop (start_loop c.requires.at c.requires.start) c.in_ok-call.ensures c.requires.start).before
 
 pub returns : goal.returns
 returns t c = λ text f o a e i x n. c.parse_call_links.ensures text f o e (call_first a x i (stands_so c.args.p.now LParen c.if-not-stands.false c.stands.ensures) e (c.in_ok-call.ensures text f x.at))
