@@ -13,3 +13,6 @@ returns-then-not-goes_on g c = looking_ends c.pass_lexeme.new.p c.in_ok-next.nex
 
 pub lexemes-preserved : goal.lexemes-preserved
 lexemes-preserved g c = looking_on c.pass_lexeme.new.p c.in_ok-next.next c.pass_lexeme.new.brackets.items (ap (λ (s : Span). s.end) c.span-place.ensures) c.lexemes.invariant (subst (λ (b : Bool). LexemePassed c.lexemes.p c.in_ok-next.next c.pass_lexeme.new.p c.pass_lexeme.new.brackets.items b) c.if-not-goes_on.false c.in_ok-goes_on.ensures) c.set_looked.ensures
+
+pub whole_behind-requires-clause-at : goal.whole_behind-requires-clause-at
+whole_behind-requires-clause-at g c = standing ((more_unmoved c.requires.at c.lexemes.invariant.more).at _ _ c.requires.at)

@@ -1,12 +1,29 @@
-use Rattle.std.proofs.Common.{◌∷◌, refl, sym, ap, ◌∙◌}
+use Rattle.std.proofs.Common.{ℕ, ◌≡◌, true, ◌∷◌, refl, sym, ap, subst, ◌∙◌}
+use Rattle.std.specs.Prelude.{IsCharBoundary}
+use Rattle.js_base.specs.declared.token.Token.{Token}
+use Rattle.parse_shared.specs.js_cursor.Parsers.{Parser}
+use Rattle.parse_shared.specs.laws_shared.States.{Standing}
 use Rattle.js_base.specs.declared.kind.Kind.{Kind}
 use Rattle.js_base.specs.declared.span.Span.{Span}
 use Rattle.js_grammar.specs.Brackets.{bracket, move}
 use Rattle.laws_operators.specs.declared.forms.OpenBracket.TheVariants.{Round, Square, Curly}
-use Rattle.laws_operators.specs.Closings.{tells_settled}
-use Rattle.laws_operators.proofs.Closings.{is_settled, no_bracket, closes_curly, closes_round, closes_square, curly_opened, round_opened, square_opened}
+use Rattle.laws_operators.specs.Closings.{WholeBehind, tells_settled}
+use Rattle.laws_operators.proofs.Closings.{is_settled, no_bracket, closes_curly, closes_round, closes_square, curly_opened, plain_between, round_opened, settled_behind, square_opened}
 use Rattle.laws_operators.proofs.NotedClosings.{end_closes_none, lexeme_closes, lexeme_opens, lexeme_plain, no_lexeme_closes}
 use Rattle.parse_arrows.proofs.closing.pass_lexeme.Goals as goal
+
+-- the lexeme ends between characters
+ends : {p : Parser} {behind : ℕ} {t : Token} → Standing p → IsCharBoundary p.text behind → (g : WholeBehind p.text behind t) → tells_settled t.kind ≡ true → IsCharBoundary p.text t.span.end
+ends {p} a b g w = let x = settled_behind g w in subst (λ (v : ℕ). IsCharBoundary p.text v) (sym x.2.end) (plain_between a.at.utf8 b x.1.0)
+
+pub close_bracket-requires-clause-between : goal.close_bracket-requires-clause-between
+close_bracket-requires-clause-between g c = subst (λ (v : Span). IsCharBoundary c.args.p.now.text v.end) (sym c.span.ensures) (ends c.requires.at c.requires.between c.requires.gives (ap tells_settled (sym c.kind.ensures ∙ c.in-RParen.is)))
+
+pub close_bracket-requires-in-RBrack-clause-between : goal.close_bracket-requires-in-RBrack-clause-between
+close_bracket-requires-in-RBrack-clause-between g c = subst (λ (v : Span). IsCharBoundary c.args.p.now.text v.end) (sym c.span-in-RBrack.ensures) (ends c.requires.at c.requires.between c.requires.gives (ap tells_settled (sym c.kind.ensures ∙ c.in-RBrack.is)))
+
+pub close_bracket-requires-in-RCurly-clause-between : goal.close_bracket-requires-in-RCurly-clause-between
+close_bracket-requires-in-RCurly-clause-between g c = subst (λ (v : Span). IsCharBoundary c.args.p.now.text v.end) (sym c.span-in-RCurly.ensures) (ends c.requires.at c.requires.between c.requires.gives (ap tells_settled (sym c.kind.ensures ∙ c.in-RCurly.is)))
 
 pub note_unclosed-requires : goal.note_unclosed-requires
 note_unclosed-requires g c = no_lexeme_closes c.requires.at c.requires.between c.requires.gives c.args.brackets.now.items (sym c.kind.ensures ∙ c.in-Undetermined.is) c.requires.stand

@@ -1,7 +1,10 @@
-use Rattle.std.proofs.Common.{List, ap, take, ◌∙◌}
+use Rattle.std.proofs.Common.{◌≡◌, List, ℕ, ap, take, ◌∙◌}
 use Rattle.parse_shared.specs.js_cursor.Parsers.{Parser}
 use Rattle.parse_shared.specs.js_tree.Nodes.{Node}
 use Rattle.parse_arrows.proofs.notes.drop_nodes.Goals as goal
 
+first_nodes : {p q : Parser} (n : ℕ) → p ≡ q → (ns : List Node) → ns ≡ take n p.nodes → record p { nodes = ns } ≡ record q { nodes = take n q.nodes }
+first_nodes {p} n v ns e = ap (λ (x : List Node). record p { nodes = x }) e ∙ ap (λ (z : Parser). record z { nodes = take n z.nodes }) v
+
 pub returns : goal.returns
-returns g c = ap (λ (ns : List Node). record c.p.inside { nodes = ns }) c.truncate.ensures ∙ ap (λ (z : Parser). record z { nodes = take c.args.nodes z.nodes }) c.p.view_is
+returns g c = first_nodes c.args.nodes c.p.view_is _ c.truncate.ensures
