@@ -91,8 +91,8 @@ unended q w k o e (inl h) = false≢true (sym e ∙ (sym (ap ends_statement k) �
 unended q w k o e (inr h) = false≢true (sym o ∙ h)
 
 -- what was found
-pub found_foreign : {q : Parser} {n m : ℕ} {o : Option DiagnosticKind} {k : DiagnosticKind} → o ≡ Some k → n ≡ m → FindsForeign n q o → FindsForeign m q (Some k)
-found_foreign {q} {n} {m} {o} {k} e i h = subst (λ (v : ℕ). FindsForeign v q (Some k)) i (subst (λ (v : Option DiagnosticKind). FindsForeign n q v) e h)
+pub found_foreign : (q : Parser) {n m : ℕ} {o : Option DiagnosticKind} {k : DiagnosticKind} → o ≡ Some k → n ≡ m → FindsForeign n q o → FindsForeign m q (Some k)
+found_foreign q {n} {m} {o} {k} e i h = subst (λ (v : ℕ). FindsForeign v q (Some k)) i (subst (λ (v : Option DiagnosticKind). FindsForeign n q v) e h)
 
 -- it has its mark
 pub foreign_marked : {text : List ℕ} {f : Flags} {p q : Parser} {id : NodeId} (k : DiagnosticKind) → At text f p → Numbered text f (at Expression f) p q id → FindsForeign (length p.errors) q (Some k) → Mark (goal q) q.text (unrelated_at k q.token.span)
