@@ -15,4 +15,7 @@ pub mod BuiltTrees
 pub mod Validity
 pub mod SameSource
 pub mod Starting
+pub mod OneTree
+pub mod NodesRead
+pub mod Records
 pub mod ToldExamples
