@@ -59,10 +59,12 @@ names_apart e = absurd cc
 -- a word is a name, and begins with no `#`
 word_parts : (w rest : List ℕ) (k : Kind) → kind_in division w rest ≡ Some k → is_word k ≡ true → IsSome (name_text w) × ((cs : List ℕ) → w ≡ 35 ∷ cs → ⊥)
 word_parts w rest k h p =
-    let o : opened k ≡ Some a_name = word_opened k (covered a_word a_name_kind words_are k false false p) in
-    (name_of_kind w rest k h o, λ cs e.
-      let s : opened k ≡ Some (opening 35 (begins is_decimal cs)) = opened_is 35 cs rest k (sym (ap (λ (v : List ℕ). kind_in division v rest) e) ∙ h) in
-      names_apart (same_opening a_name a_private_name (sym o ∙ s ∙ ap Some (opens_sign (begins is_decimal cs)))))
+    let o : opened k ≡ Some a_name = word_opened k (covered a_word a_name_kind words_are k false false p) in (
+      name_of_kind w rest k h o,
+      λ cs e.
+          let s : opened k ≡ Some (opening 35 (begins is_decimal cs)) = opened_is 35 cs rest k (sym (ap (λ (v : List ℕ). kind_in division v rest) e) ∙ h) in
+          names_apart (same_opening a_name a_private_name (sym o ∙ s ∙ ap Some (opens_sign (begins is_decimal cs)))),
+    )
 
 -- a private name is `#` and a name
 private_parts : (w rest : List ℕ) → kind_in division w rest ≡ Some PrivateIdentifier → (cs : List ℕ) × (w ≡ 35 ∷ cs) × IsSome (name_text cs)
