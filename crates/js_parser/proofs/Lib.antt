@@ -17,4 +17,7 @@ pub mod ScriptLines
 pub mod Validity
 pub mod SameSource
 pub mod Starting
+pub mod OneTree
+pub mod NodesRead
+pub mod Records
 pub mod ToldExamples

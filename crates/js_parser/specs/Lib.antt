@@ -2,6 +2,7 @@ pub mod FlagScans
 pub mod Broken
 pub mod MemberNodes
 pub mod Parsed
+pub mod Recorded
 pub mod NodeSpans
 pub mod CoreAnswers
 pub mod Leftover

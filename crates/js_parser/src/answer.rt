@@ -1,18 +1,24 @@
 //! What a parse answers.
 
-ghost use Rattle.std.specs.Prelude.{ℕ, ◌≡◌, ◌++◌, ◌↔◌, Bool, false, List, [], take, IfOk, IsTrue, OnOk};
+ghost use Rattle.std.specs.Prelude.{ℕ, ◌≡◌, ◌++◌, ◌↔◌, Bool, false, List, [], length, take, IfOk, IsTrue, OnOk};
 ghost use Rattle.js_base.specs.declared.diagnostic.Diagnostic.{Diagnostic};
 ghost use Rattle.js_base.specs.declared.options.ParseOptions.{ParseOptions};
 ghost use Rattle.js_base.specs.declared.source_type.SourceType.{SourceType};
+ghost use Rattle.js_base.specs.declared.span.Span.{Span as Placed};
 ghost use Rattle.js_cursor.specs.Places.{IsAt};
 ghost use Rattle.js_grammar.specs.ModuleRecords.{record_of_parts};
+ghost use Rattle.js_grammar.specs.Modules.{record_of};
+ghost use Rattle.js_grammar.specs.Trees.{Slots};
 ghost use Rattle.js_cursor.specs.js_lex.States.{goal_of};
 ghost use Rattle.js_core.specs.laws_shared.States.{NodesLie};
 ghost use Rattle.js_parser.specs.FaultsTold.{AreAlike, AreBesideFatal, last_of};
 ghost use Rattle.js_core.specs.Kept.{KeepsRight};
 ghost use Rattle.js_parser.specs.Leftover.{ToldOf, told_at, with_leftover};
 ghost use Rattle.js_parser.specs.Parsed.{options_of, IsAnswer, IsOverlong, output_of};
-ghost use Rattle.js_core.specs.Taken.{ProgramTaken, ProgramRefused};
+ghost use Rattle.js_core.specs.Taken.{FoundNothing, ProgramTaken, ProgramRefused};
+ghost use Rattle.js_parser.specs.Recorded.{HasRecord};
+ghost use Rattle.js_record.specs.Checked.{AreHeld};
+ghost use Rattle.js_tree.specs.Holding.{HoldsAll, program_tree};
 
 use crate::early::early_errors;
 use js_base::{Diagnostic, DiagnosticKind, Diagnostics, NoMemory, SourceType, Span, Spans, Tokens};
@@ -59,8 +65,10 @@ pub fn taken(
 ) -> Result<ParserReturn, NoMemory>
     requires at { IsAt p }
     requires lie { NodesLie p.text p.nodes }
+    requires held { FoundNothing p → AreHeld p.nodes p.text items.items }
     ensures answer { IfOk result (λ r. (text : List ℕ) (s : SourceType) (o : ParseOptions) (asks : Bool) → ProgramTaken text s o asks p.entry items.items → IsAnswer text (goal_of s) (options_of o) r.program.tree (output_of r) r.fatal_error) }
     ensures kept { IfOk result (λ r. (text : List ℕ) (s : SourceType) (o : ParseOptions) (asks : Bool) → ProgramTaken text s o asks p.entry items.items → KeepsRight text (goal_of s) (options_of o) asks (output_of r)) }
+    ensures recorded { IfOk result (λ r. (text : List ℕ) (s : SourceType) (o : ParseOptions) (asks : Bool) → ProgramTaken text s o asks p.entry items.items → HasRecord text r.program.tree r.diagnostics r.module_record) }
     ensures no_flow { IfOk result (λ r. r.is_flow_language ≡ false) }
     ensures source_type { IfOk result (λ r. r.program.source_type ≡ source_type) }
 {
@@ -69,9 +77,11 @@ pub fn taken(
     let span = Span::new(0, p.cur_token().end());
     let parts = p.into_parts();
     let kept = parts.lexer.finish();
-    let (module_record, _) = record_of_program(
+    let clean = found_nothing(&kept.errors, &parts.errors);
+    let module_record = record_for(
         alloc,
         source_type,
+        clean,
         &parts.ast,
         source,
         items.as_slice(),
@@ -91,6 +101,33 @@ pub fn taken(
         fatal_error: false,
         is_flow_language: false,
     })
+}
+
+/// Whether neither the lexer nor the parser found anything.
+fn found_nothing(faults: &Diagnostics, found: &Diagnostics) -> bool
+    ensures { IsTrue result ↔ ((faults.now ≡ []) × (found.now ≡ [])) }
+{
+    faults.is_empty() && found.is_empty()
+}
+
+/// The record of the module whose Program has these children, where nothing was found; else the record of no declaration.
+fn record_for(
+    alloc: Global,
+    source_type: SourceType,
+    clean: bool,
+    tree: &ParserAstBuilder,
+    source: &str,
+    children: &[Option<NodeId>],
+) -> Result<ModuleRecord, NoMemory>
+    requires { IsTrue clean → AreHeld tree.now source.now children.now }
+    ensures { IfOk result (λ r. IsTrue clean → (s : Placed) (cs : Slots) → HoldsAll tree.now 1 (length tree.now) children.now cs → r ≡ record_of source.now (program_tree s cs)) }
+{
+    if !clean {
+        let (record, _) = ModuleRecordBuilder::new(alloc, source_type).build()?;
+        return Ok(record);
+    }
+    let (record, _) = record_of_program(alloc, source_type, tree, source, children)?;
+    Ok(record)
 }
 
 /// What is told of a tree: faults of lexemes, what the parser found, and what is left to tell.

@@ -10,6 +10,7 @@ ghost use Rattle.js_cursor.specs.js_lex.States.{goal_of};
 ghost use Rattle.js_parser.specs.CoreAnswers.{IsCoreAnswer};
 ghost use Rattle.js_core.specs.Kept.{KeepsRight};
 ghost use Rattle.js_core.specs.Readings.{read_at};
+ghost use Rattle.js_parser.specs.Recorded.{HasRecord};
 ghost use Rattle.js_parser.specs.Parsed.{default_options, options_of, IsReturn, IsAnswer, output_of};
 
 use crate::answer::{ParserReturn, overlong, refused, taken};
@@ -86,6 +87,8 @@ impl<'a, C: ParserConfig> Parser<'a, C> {
         // where the config asks for them; where it doesn't, there are none.
         ensures kept { IfOk result (λ r. KeepsRight self.entry.source_text.now (read_at (goal_of self.entry.source_type)) (options_of self.entry.options) (C.asks_for_tokens self.entry.config) (output_of r)) }
         ensures answers { IfOk result (λ r. IsReturn self.entry.source_text.now self.entry.source_type r.program.source_type self.entry.options r.program.tree (output_of r) r.fatal_error) }
+        // Without diagnostics the record is that of the tree (16.2.1.7).
+        ensures recorded { IfOk result (λ r. HasRecord self.entry.source_text.now r.program.tree r.diagnostics r.module_record) }
         // Of a text that is too long no declaration of a module is read.
         ensures overlong_record { IfOk result (λ r. MAX_LEN < length self.entry.source_text.now → r.module_record ≡ record_of_parts []) }
         ensures no_flow { IfOk result (λ r. r.is_flow_language ≡ false) }
@@ -129,6 +132,7 @@ fn parse_as(
     requires named { is_goal source_type ≢ Unambiguous }
     ensures answer { IfOk result (λ r. IsAnswer source_text.now (goal_of source_type) (options_of options) r.program.tree (output_of r) r.fatal_error) }
     ensures kept { IfOk result (λ r. KeepsRight source_text.now (goal_of source_type) (options_of options) tokens (output_of r)) }
+    ensures recorded { IfOk result (λ r. HasRecord source_text.now r.program.tree r.diagnostics r.module_record) }
     ensures no_flow { IfOk result (λ r. r.is_flow_language ≡ false) }
     ensures source_type { IfOk result (λ r. r.program.source_type ≡ source_type) }
 {

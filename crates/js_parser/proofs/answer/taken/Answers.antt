@@ -13,6 +13,8 @@ use Rattle.js_parser.specs.Broken.{told_in}
 use Rattle.js_parser.specs.declared.early.Position.TheVariants.{Anywhere}
 use Rattle.js_parser.specs.Leftover.{ToldOf, with_leftover}
 use Rattle.js_parser.proofs.Answering.{nodes_lie, taken_answer, taken_kept}
+use Rattle.js_parser.proofs.Records.{record_right, told_nothing}
+use Rattle.js_record.specs.Checked.{AreHeld}
 use Rattle.js_parser.proofs.answer.taken.Goals as goal
 
 -- what is kept, with what is told in place of the faults
@@ -39,3 +41,24 @@ pub told_of-requires : goal.told_of-requires
 told_of-requires c =
     subst (λ (w : List ℕ). NodesLie w c.in_ok-tree.tree) (sym (ap (λ (q : Parser). q.text) c.p.view_is))
     (nodes_lie c.new-span.result c.in_ok-tree.tree c.new-span.ensures.start (c.new-span.ensures.end ∙ (c.end.ensures ∙ ap (λ (t : Token). t.span.end) c.cur_token.ensures)) (c.in_ok-tree.ensures.nodes ∙ ap (λ (ns : List Node). with_program (program_node c.new-span.result c.args.items.items) ns) c.into_parts-parts.ensures.ast) c.requires.at c.requires.lie)
+
+pub record_for-requires : goal.record_for-requires
+record_for-requires c = λ y.
+    let n = c.found_nothing-clean.ensures.0 y in
+    subst (λ (w : List ℕ). AreHeld c.into_parts-parts.result.ast w c.args.items.items) (sym (ap (λ (q : Parser). q.text) c.p.view_is))
+    (subst (λ (ns : List Node). AreHeld ns c.args.p.text c.args.items.items) (sym c.into_parts-parts.ensures.ast)
+    (c.requires.held (record {
+      faults = sym (ap (λ (k : LexerOutput). k.errors) (c.finish-kept.ensures.kept ∙ ap (λ (l : State). l.kept) c.into_parts-parts.ensures.lexer)) ∙ n.0;
+      errors = sym c.into_parts-parts.ensures.errors ∙ n.1;
+    })))
+
+pub returns-clause-recorded : goal.returns-clause-recorded
+returns-clause-recorded c = λ text s o asks h e t g.
+    let told = c.in_ok-diagnostics.ensures in
+    let clean = c.found_nothing-clean.ensures.1 (told_nothing c.finish-kept.result.errors c.into_parts-parts.result.errors told.early told.covers (sym told.is ∙ e)) in
+    record_right c.new-span.result h.slots
+    (subst (λ (ns : List Node). HoldsAll ns 1 (length ns) c.args.items.items h.slots) (sym c.into_parts-parts.ensures.ast) h.holds)
+    (c.in_ok-module_record.ensures clean)
+    c.in_ok-tree.ensures.tree
+    g
+    (ap (λ (q : Parser). q.text) c.p.view_is ∙ h.is_of.text_is)

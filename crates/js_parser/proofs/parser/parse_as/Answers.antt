@@ -1,5 +1,6 @@
 use Rattle.js_parser.proofs.Answering.{fatal_stop}
 use Rattle.js_core.proofs.Readings.{kept_for_start}
+use Rattle.js_parser.proofs.Records.{none_recorded, program_held, record_for_start}
 use Rattle.js_parser.proofs.Starting.{answer_for}
 use Rattle.js_parser.proofs.parser.parse_as.Goals as goal
 use Rattle.std.proofs.lemmas.Result.{IfOk-weaker}
@@ -15,3 +16,12 @@ returns-in-Ok-clause-kept c = IfOk-weaker c.taken.result _ _ (λ r h. kept_for_s
 
 pub returns-in-Err-Fatal-clause-kept : goal.returns-in-Err-Fatal-clause-kept
 returns-in-Err-Fatal-clause-kept c = IfOk-weaker c.refused.result _ _ (λ r h. kept_for_start c.new-config.ensures c.in_ok-p.ensures (h _ _ _ _ (fatal_stop _ c.in-Err-Fatal.field-0-is c.in-Err-Fatal.ensures))) c.refused.ensures.kept
+
+pub taken-requires-clause-held : goal.taken-requires-clause-held
+taken-requires-clause-held c = program_held c.in-Ok.ensures
+
+pub returns-in-Ok-clause-recorded : goal.returns-in-Ok-clause-recorded
+returns-in-Ok-clause-recorded c = IfOk-weaker c.taken.result _ _ (λ r h. record_for_start c.in_ok-p.ensures (h _ _ _ _ c.in-Ok.ensures)) c.taken.ensures.recorded
+
+pub returns-in-Err-Fatal-clause-recorded : goal.returns-in-Err-Fatal-clause-recorded
+returns-in-Err-Fatal-clause-recorded c = IfOk-weaker c.refused.result _ _ (λ r h. none_recorded (fatal_stop _ c.in-Err-Fatal.field-0-is c.in-Err-Fatal.ensures).some h.2) c.refused.ensures.told

@@ -22,3 +22,9 @@ returns-then-self-gt-MAX_LEN-clause-overlong_record g c = IfOk-weaker c.overlong
 
 pub returns-clause-overlong_record : goal.returns-clause-overlong_record
 returns-clause-overlong_record g c = IfOk-weaker c.parse_as.result _ _ (λ r h long. absurd (let short = c.if-self-gt-MAX_LEN.false in omega arith)) c.parse_as.ensures.no_flow
+
+pub returns-then-self-gt-MAX_LEN-clause-recorded : goal.returns-then-self-gt-MAX_LEN-clause-recorded
+returns-then-self-gt-MAX_LEN-clause-recorded g c = IfOk-weaker c.overlong.result _ _ (λ r h z. absurd (cons_some _ _ (sym h.found_is ∙ z))) c.overlong.ensures.answer
+
+pub returns-clause-recorded : goal.returns-clause-recorded
+returns-clause-recorded g c = c.parse_as.ensures.recorded
