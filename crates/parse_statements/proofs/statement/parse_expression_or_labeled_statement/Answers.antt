@@ -26,12 +26,12 @@ pub refuse_here-requires-clause-mark : goal.refuse_here-requires-clause-mark
 refuse_here-requires-clause-mark t c = foreign_marked c.in-Some.kind c.requires.at (c.in_ok-expression.ensures.answers _ _ c.requires.at) (found_foreign c.sequence.new.p c.in-Some.is c.kept_so_far-kept.ensures c.foreign_operator.ensures)
 
 pub refuse_here-requires-clause-ends : goal.refuse_here-requires-clause-ends
-refuse_here-requires-clause-ends t c = foreign_ends _ _ c.in-Some.kind _ (found_foreign c.sequence.new.p c.in-Some.is c.kept_so_far-kept.ensures c.foreign_operator.ensures)
+refuse_here-requires-clause-ends t c = foreign_ends c.sequence.new.p _ c.in-Some.kind c.sequence.new.p.token.span (found_foreign c.sequence.new.p c.in-Some.is c.kept_so_far-kept.ensures c.foreign_operator.ensures)
 
 pub returns-in-Some : goal.returns-in-Some
 returns-in-Some t c = λ b u text f a.
     let x = (c.in_ok-expression.ensures.answers text f a).answer in
-    let n = foreign_unended _ _ c.in-Some.kind (found_foreign c.sequence.new.p c.in-Some.is c.kept_so_far-kept.ensures c.foreign_operator.ensures) in
+    let n = foreign_unended c.sequence.new.p _ c.in-Some.kind (found_foreign c.sequence.new.p c.in-Some.is c.kept_so_far-kept.ensures c.foreign_operator.ensures) in
     stops_behind _ _ x.same (λ g. after x.verdict g) (λ m. statement_unended a c.requires.other (no_label a x (no_colon c.args.p.now c.sequence.new.p c.cur_token-first.ensures c.is_label.ensures c.if-is_label.false)) (async_named a c.requires.no_function) b (u text f a) x m) (gives_up EndsParse _ _ c.refuse_here.result x.at c.refuse_here.ensures (λ d v. v) n)
 
 pub end_statement-requires : goal.end_statement-requires
