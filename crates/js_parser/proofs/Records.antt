@@ -55,5 +55,5 @@ pub record_for_start : {source : List ℕ} {st : SourceType} {o : ParseOptions} 
 record_for_start {nodes = nodes} {found} {r} s h = subst (λ (w : List ℕ). HasRecord w nodes found r) s.text h
 
 -- where a fatal diagnostic was found, something is told
-pub none_recorded : {text : List ℕ} {nodes : List Node} {told found all : List Diagnostic} {r : ModuleRecord} → (found ≡ [] → ⊥) → all ≡ told ++ found → HasRecord text nodes all r
-none_recorded {told = told} some e z = absurd (some (ending told _ (sym e ∙ z)))
+pub none_recorded : (text : List ℕ) {nodes : List Node} (told : List Diagnostic) {found all : List Diagnostic} {r : ModuleRecord} → (found ≡ [] → ⊥) → all ≡ told ++ found → HasRecord text nodes all r
+none_recorded text told some e z = absurd (some (ending told _ (sym e ∙ z)))

@@ -81,6 +81,10 @@ module _ (text : List ℕ) (goal : Goal) where
 
 -- ---- trees
 
+by_lines : (goal : Goal) (o : Options) (t : Tree) {k : ℕ} {ls rest : Lexemes} → IsBuilt goal ls → Derives whole (at Program (parameters goal o)) t 0 ls k rest → Derives rule (at Program (parameters goal o)) t 0 ls k rest
+by_lines goal o t (inl e) d = by_built_in_script (at Program (parameters goal o)) t e d
+by_lines goal o t (inr c) d = by_built (at Program (parameters goal o)) t c d
+
 module _ {text : List ℕ} (goal : Goal) (o : Options) where
   fine : (t : Tree) → Reading text goal o t → without_pure t ≡ t
   fine t r = pure_fine t (derived_fine (at Program (parameters goal o)) t refl r.strict.derived)
@@ -105,14 +109,10 @@ module _ {text : List ℕ} (goal : Goal) (o : Options) where
         exports = exports_fine text t h;
       }
 
-  by_lines : (t : Tree) {k : ℕ} {ls rest : Lexemes} → IsBuilt goal ls → Derives whole (at Program (parameters goal o)) t 0 ls k rest → Derives rule (at Program (parameters goal o)) t 0 ls k rest
-  by_lines t (inl e) d = by_built_in_script (at Program (parameters goal o)) t e d
-  by_lines t (inr c) d = by_built (at Program (parameters goal o)) t c d
-
   reading : (t : Tree) (w : IsWhole Program text goal o t) → IsBuilt goal w.derived.lexemes → Reading text goal o (without_pure t)
   reading t w c =
       let d = w.derived in
-      let b = by_lines (without_pure t) c d.derived in
+      let b = by_lines goal o (without_pure t) c d.derived in
       record {
         strict = record {
           lexemes = d.lexemes;

@@ -1,9 +1,10 @@
-use Rattle.std.proofs.Common.{ℕ, ◌≡◌, List, length, ap, sym, subst, ◌++◌, ◌∙◌}
+use Rattle.std.proofs.Common.{ℕ, ◌≡◌, List, Option, length, ap, sym, subst, ◌++◌, ◌∙◌}
 use Rattle.js_base.specs.declared.token.Token.{Token}
 use Rattle.js_grammar.specs.Trees.{Slots, Tree}
 use Rattle.js_cursor.specs.js_lex.declared.output.LexerOutput.{LexerOutput}
 use Rattle.js_cursor.specs.js_lex.Kept.{LieIn}
 use Rattle.js_cursor.specs.js_lex.States.{State}
+use Rattle.js_tree.specs.declared.id.NodeId.{NodeId}
 use Rattle.js_tree.specs.Nodes.{Node, program_node}
 use Rattle.js_tree.specs.Holding.{HoldsAll, IsTree, program_tree, with_program}
 use Rattle.js_base.specs.declared.diagnostic.Diagnostic.{Diagnostic}
@@ -45,12 +46,13 @@ told_of-requires c =
 pub record_for-requires : goal.record_for-requires
 record_for-requires c = λ y.
     let n = c.found_nothing-clean.ensures.0 y in
-    subst (λ (w : List ℕ). AreHeld c.into_parts-parts.result.ast w c.args.items.items) (sym (ap (λ (q : Parser). q.text) c.p.view_is))
+    subst (λ (w : List ℕ). AreHeld c.into_parts-parts.result.ast w c.as_slice.result.now) (sym (ap (λ (q : Parser). q.text) c.p.view_is))
+    (subst (λ (ids : List (Option NodeId)). AreHeld c.into_parts-parts.result.ast c.args.p.text ids) (sym c.as_slice.ensures.value)
     (subst (λ (ns : List Node). AreHeld ns c.args.p.text c.args.items.items) (sym c.into_parts-parts.ensures.ast)
     (c.requires.held (record {
       faults = sym (ap (λ (k : LexerOutput). k.errors) (c.finish-kept.ensures.kept ∙ ap (λ (l : State). l.kept) c.into_parts-parts.ensures.lexer)) ∙ n.0;
       errors = sym c.into_parts-parts.ensures.errors ∙ n.1;
-    })))
+    }))))
 
 pub returns-clause-recorded : goal.returns-clause-recorded
 returns-clause-recorded c = λ text s o asks h e t g.
@@ -58,7 +60,7 @@ returns-clause-recorded c = λ text s o asks h e t g.
     let clean = c.found_nothing-clean.ensures.1 (told_nothing c.finish-kept.result.errors c.into_parts-parts.result.errors told.early told.covers (sym told.is ∙ e)) in
     record_right c.new-span.result h.slots
     (subst (λ (ns : List Node). HoldsAll ns 1 (length ns) c.args.items.items h.slots) (sym c.into_parts-parts.ensures.ast) h.holds)
-    (c.in_ok-module_record.ensures clean)
+    (λ s cs x. c.in_ok-module_record.ensures clean s cs (subst (λ (ids : List (Option NodeId)). HoldsAll c.into_parts-parts.result.ast 1 (length c.into_parts-parts.result.ast) ids cs) (sym c.as_slice.ensures.value) x))
     c.in_ok-tree.ensures.tree
     g
     (ap (λ (q : Parser). q.text) c.p.view_is ∙ h.is_of.text_is)

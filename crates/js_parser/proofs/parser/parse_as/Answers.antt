@@ -24,4 +24,4 @@ pub returns-in-Ok-clause-recorded : goal.returns-in-Ok-clause-recorded
 returns-in-Ok-clause-recorded c = IfOk-weaker c.taken.result _ _ (λ r h. record_for_start c.in_ok-p.ensures (h _ _ _ _ c.in-Ok.ensures)) c.taken.ensures.recorded
 
 pub returns-in-Err-Fatal-clause-recorded : goal.returns-in-Err-Fatal-clause-recorded
-returns-in-Err-Fatal-clause-recorded c = IfOk-weaker c.refused.result _ _ (λ r h. none_recorded (fatal_stop _ c.in-Err-Fatal.field-0-is c.in-Err-Fatal.ensures).some h.2) c.refused.ensures.told
+returns-in-Err-Fatal-clause-recorded c = IfOk-weaker c.refused.result _ _ (λ r h. none_recorded _ _ (fatal_stop _ c.in-Err-Fatal.field-0-is c.in-Err-Fatal.ensures).some h.2) c.refused.ensures.told
