@@ -15,12 +15,10 @@ use Rattle.js_tree.specs.declared.kind.NodeKind.{NodeKind}
 use Rattle.js_tree.specs.Labels.{kind_of}
 use Rattle.js_tree.specs.Holding.{Stands, stands, StandsAll, no_slots, next_child, next_hole, program_tree}
 use Rattle.js_tree.specs.Nodes.{Node, label, node_at, empty_program}
+use Rattle.js_tree.proofs.HoldingLemmas.{Stands-below}
 use Rattle.js_record.specs.Shown.{IsRead}
 use Rattle.js_record.specs.Walked.{adds_at, end_at, IsOne, AreFound, none_found, one_found, kept_before, none, IsPlace}
-
-abbrev Each : {A : Type 0} → (A → Type 0) → List A → Type 0
-Each P [] = Unit {0}
-Each P (x ∷ xs) = P x × Each P xs
+use Rattle.js_record.proofs.TreeLemmas.{Each}
 
 -- ---- parts of what was found
 
@@ -50,15 +48,12 @@ record One (ns : List Node) (id : NodeId) (ts : List Tree) : Type 0 where
 alone : {ns : List Node} {id : NodeId} (ts : List Tree) → AreFound ns (id ∷ []) ts → One ns id ts
 alone ts (one_found us t o (none_found z) e) = record { this = t; one = o; is = e ∙ ap (λ (v : List Tree). v ++ t ∷ []) z }
 
-below_one : {ns : List Node} {i : ℕ} {l : Label} {cs : Slots} {rs : List ℕ} → Stands ns i l cs rs → i < length ns
-below_one (stands i w all) = w
-
 end_is : {ns : List Node} {i : ℕ} {l : Label} {cs : Slots} {rs : List ℕ} → Stands ns i l cs rs → l.span.to ≡ (get_or ns i empty_program).span.end
 end_is (stands i w all) = refl
 
 below_each : {ns : List Node} (ids : List NodeId) (ts : List Tree) → AreFound ns ids ts → Each (λ id. id.0 < length ns) ids
 below_each [] ts a = tt
-below_each (id ∷ ids) ts (one_found us t o a e) = (below_one o.stands, below_each ids us a)
+below_each (id ∷ ids) ts (one_found us t o a e) = (Stands-below o.stands, below_each ids us a)
 
 pub found_below : {ns : List Node} (ids : List NodeId) (ts : List Tree) → AreFound ns ids ts → All (λ id. id.0 < length ns) ids
 found_below {ns} ids ts a = All-from_recursion (λ id. id.0 < length ns) ids (below_each ids ts a)

@@ -15,7 +15,7 @@ use Rattle.js_tree.specs.Holding.{Stands, stands, StandsAll, no_slots, next_chil
 use Rattle.js_tree.specs.Binding.{Binds, IsIn, AreIn}
 use Rattle.js_record.specs.Shown.{IsTree, IsRead, IsReadWhole, IsGood, OfTree, label_at, ids_of, rest_of, first_of, IsBelow, IsNear, IsDeep, first_shown, second_shown, optional_shown, import_shown, name_shown, own_shown, from_shown, import_part_shown, export_named_shown, export_from_shown, export_all_shown, export_default_shown, import_call_shown, export_all_by as shown_all}
 
-abbrev Each : {A : Type 0} → (A → Type 0) → List A → Type 0
+abbrev pub Each : {A : Type 0} → (A → Type 0) → List A → Type 0
 Each P [] = Unit {0}
 Each P (x ∷ xs) = P x × Each P xs
 
