@@ -222,22 +222,25 @@ ok_angle old new given (Err f) r u g h same k = absurd (stands_again old given f
 
 -- it is as if it had been given there
 pub angle_last : {text : List ℕ} {place : ℕ} {t : Token} (g : GivesBehind text place t) → t.kind ≡ RAngle → (w : WasGiven g.after t) × (w.before ≡ place)
-angle_last {t = t} g k = go (same_kind Undetermined t.kind) (ap (same_kind Undetermined) k) g.next.outcome
+angle_last {place = place} {t = t} g k = go (same_kind Undetermined t.kind) (ap (same_kind Undetermined) k) g.next.outcome
   where
     e : g.before.text ≡ g.after.text
     e = sym g.next.same.text
 
     go : (r : Bool) → r ≡ false → elim r as (λ _. Type 0) [ true ↦ (d : Diagnostic) × (g.next.faults ≡ d ∷ []) × GivesNone division g.before.goal g.before.text g.before.place t d | false ↦ (g.next.faults ≡ []) × GivesLexeme division cut g.before.text g.before.place t ] → (w : WasGiven g.after t) × (w.before ≡ place)
     go true q x = absurd (false≢true (sym q))
-    go false q x = (record {
-      place = g.next.place;
-      lies = subst (LiesIn t.span) e g.next.lies;
-      before = g.before.place;
-      between = subst (λ (v : List ℕ). IsCharBoundary v g.before.place) e g.next.between;
-      lexeme = x.1.lexeme;
-      stands = subst (λ (v : List ℕ). LexemeBehind division v g.before.place x.1.lexeme) e x.1.stands;
-      tells = x.1.tells;
-    }, g.place_is)
+    go false q x = (
+      record {
+        place = g.next.place;
+        lies = subst (LiesIn t.span) e g.next.lies;
+        before = g.before.place;
+        between = subst (λ (v : List ℕ). IsCharBoundary v g.before.place) e g.next.between;
+        lexeme = x.1.lexeme;
+        stands = subst (λ (v : List ℕ). LexemeBehind division v g.before.place x.1.lexeme) e x.1.stands;
+        tells = x.1.tells;
+      },
+      g.place_is,
+    )
 
 pub last_text : {text : List ℕ} {place : ℕ} {t : Token} (g : GivesBehind text place t) → text ≡ g.after.text
 last_text g = sym (g.next.same.text ∙ g.text_is)
