@@ -1,0 +1,8 @@
+pub mod KeptParts
+pub mod WellFormed
+pub mod NameLists
+pub mod WholeParts
+pub mod StringUnits
+pub mod ModuleNames
+pub mod ImportSpecifiers
+pub use Rattle.laws_primary.proofs as laws_primary

@@ -1,0 +1,4 @@
+pub mod NameLists
+pub mod ModuleNames
+pub mod ImportSpecifiers
+pub use Rattle.laws_primary.specs as laws_primary
