@@ -1,5 +1,5 @@
 -- What moves over lexemes do to a state.
-use Rattle.std.proofs.Common.{ℕ, ◌+◌, ◌≡◌, ◌<◌, ◌⊎◌, inl, inr, Bool, true, false, List, [], ◌∷◌, ◌++◌, cond, refl, sym, ap, subst, arith, ◌∙◌, append-nil}
+use Rattle.std.proofs.Common.{ℕ, ◌+◌, ◌≡◌, ◌<◌, ◌⊎◌, inl, inr, Bool, ◌||◌, true, false, List, [], ◌∷◌, ◌++◌, cond, refl, sym, ap, subst, arith, ◌∙◌, append-nil}
 use Rattle.std.specs.Prelude.{IsCharBoundary, Result, Ok, Err, MatchResult}
 use Rattle.js_base.specs.Contexts.{has_flag, in_flag}
 use Rattle.std.proofs.lemmas.Bool.{false≢true}
