@@ -56,7 +56,7 @@ use Rattle.laws_primary.proofs.Members.{word_signless}
 use Rattle.laws_primary.proofs.Properties.{kinds_apart}
 use Rattle.laws_primary.proofs.Wholes.{part_answers, part_under, whole_last, whole_part}
 use Rattle.laws_patterns.proofs.Bindings.{bound_path}
-use Rattle.laws_patterns.proofs.ObjectPatterns.{behind_ahead, key_first}
+use Rattle.laws_patterns.proofs.ObjectPatterns.{key_first}
 use Rattle.laws_modules.specs.ImportSpecifiers.{BindsSingle, StringBound, string_bound, word_bound, specifier_label}
 use Rattle.laws_modules.specs.ModuleNames.{NamesExport, TakesExportName, export_node}
 use Rattle.laws_modules.proofs.ModuleNames.{export_name_leaf, export_name_read, word_node}
@@ -88,6 +88,13 @@ word_names (is_such d c) = is_such (is_left (is_such d c)) refl
 any_between : {X : Test} {a b : G} {s : ℕ} → Between rule X (plain full) end a b s
 any_between = record { admits = λ ts us vs j k ls mid rest d d' e. (refl, refl) }
 
+-- what stands behind a lookahead fails
+behind_ahead : {text : List ℕ} {X X' : Test} {a b : G} {s : ℕ} → ((ts us : Slots) (y : Lexeme) → Admits X ts y → Admits X' us y) → Fails rule (Lex text) X' end b s → Fails rule (Lex text) X end (seq (ahead a) b) s
+behind_ahead {text} {X} {X'} {a} {b} {s} c n = record { no = λ ts vs k ls rest l d e. go ts vs k ls rest l d e }
+  where
+    go : (ts vs : Slots) (k : ℕ) (ls rest : Lexemes) → Lexes (Lex text) s ls → Takes rule (seq (ahead a) b) end ts s ls vs k rest → Admits X ts (here rest) → ⊥
+    go ts vs k ls rest l (is_seq {us = us} (is_ahead d) d') e = n.no us vs k ls rest l d' (c ts us (here rest) e)
+
 pub name_stops : {text : List ℕ} {f : Flags} {p : Parser} (q : Parser) (e : Stop) → At text f p → TakesExportName p q (Err e) → Stops p q e (Fails rule (Lex text) behind_item end (symbol Spec f) p.prev_token_end)
 name_stops {text} {f} {p} q e a n = stops_so p q e (λ m. no_forms (part_fails (fails_ahead (no_word m)) any_between) (part_fails m any_between)) (n text f a)
   where
@@ -97,8 +104,8 @@ name_stops {text} {f} {p} q e a n = stops_so p q e (λ m. no_forms (part_fails (
 -- ---- the lexeme of the first name
 
 signless : {p : Parser} → NamesExport p → one_of_kinds signs p.token.kind ≡ false
-signless (inl h) = word_signless _ h
-signless (inr (k, w)) = ap (one_of_kinds signs) k
+signless {p} (inl h) = word_signless p.token.kind h
+signless {p} (inr (k, w)) = ap (one_of_kinds signs) k
 
 is_read_name : {p : Parser} → NamesExport p → is_read_kind p.token.kind ≡ true
 unfolding covers words
@@ -170,14 +177,14 @@ module _ {text : List ℕ} {f : Flags} {p q : Parser} {imported : NodeId} (a : A
     single_stops r Fatal (h, g) = stops_behind r Fatal first_read.same (λ d. grown_behind first_read.verdict d) (λ m. m) (gives_up (λ d. d ≡ word_bound p.token.span) q r Fatal first_read.at g (λ d u. subst EndsParse (sym u) refl) (no_single h))
     single_stops r NoMemory x = tt
 
+    token_lies : (k : NodeKind) → LabelLies q.text (plain_label k op.None p.token.span)
+    token_lies k = subst (λ (v : Label). LabelLies q.text v) (sym (ap (λ (v : ℕ). record { kind = kind_of k; op = no_op; flags = 0; span = record { from = p.token.span.start; to = v } }) (leaf.moved.tells.end ∙ (leaf.moved.ends ∙ place))))
+        (from_start (label_here (kind_of k) no_op p q) first_read.same first_read.at.at (let g = first_read.further in omega arith) refl a.at.lies.starts_whole)
+
     -- the node of the name that is bound
     module _ {r : Parser} {local : NodeId} where
       lies_by : {v : Parser} {l : Label} → LabelLies q.text l → MadeHere l [] v r local → v.text ≡ q.text → NodesLie v.text v.nodes → NodesLie v.text r.nodes
       lies_by {v} {l} i d e h = one_lies d (subst (λ (t : List ℕ). LabelLies t l) (sym e) i) h
-
-      token_lies : (k : NodeKind) → LabelLies q.text (plain_label k op.None p.token.span)
-      token_lies k = subst (λ (v : Label). LabelLies q.text v) (sym (ap (λ (v : ℕ). record { kind = kind_of k; op = no_op; flags = 0; span = record { from = p.token.span.start; to = v } }) (leaf.moved.tells.end ∙ (leaf.moved.ends ∙ place))))
-          (from_start (label_here (kind_of k) no_op p q) first_read.same first_read.at.at (let g = first_read.further in omega arith) refl a.at.lies.starts_whole)
 
       module _ (h : may_name (has_flag yield_flag q.ctx) (has_flag await_flag q.ctx) p.token.kind ≡ true) (d : MadeHere (plain_label node.BindingIdentifier op.None p.token.span) [] q r local) where
         listed : one_of_kinds binding_identifier_kinds p.token.kind ≡ true

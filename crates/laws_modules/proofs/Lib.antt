@@ -5,4 +5,5 @@ pub mod WholeParts
 pub mod StringUnits
 pub mod ModuleNames
 pub mod ImportSpecifiers
+pub mod Attributes
 pub use Rattle.laws_primary.proofs as laws_primary

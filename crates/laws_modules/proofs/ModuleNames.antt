@@ -68,13 +68,13 @@ module _ {text : List ℕ} {f : Flags} {p : Parser} (a : At text f p) where
 
   -- ---- a name or a word
 
-  whole_name : (q : Parser) (r : Result NodeId Stop) → Outcome text f (at IdentifierName f) p q r → WholeOutcome text f (symbol IdentifierName f) p q r
+  pub whole_name : (q : Parser) (r : Result NodeId Stop) → Outcome text f (at IdentifierName f) p q r → WholeOutcome text f (symbol IdentifierName f) p q r
   whole_name q (Ok id) x = whole_of x (record { admits = λ ts vs k ls rest d e. (refl, refl) })
   whole_name q (Err e) x = stops_so p q e (λ n. weaken_fails_on n (record { admits = λ ts vs k ls rest d e. (refl, refl) })) x
 
   word_read : (q : Parser) (r : Result NodeId Stop) → one_of_kinds identifier_name_kinds p.token.kind ≡ true → Outcome text f (at IdentifierName f) p q r → WholeOutcome text f (symbol ExportName f) p q r
   unfolding rule rule_of
-  word_read q r h x = whole_symbol (at ExportName f) q r (whole_by q r (left (no_string (word_no_string p.token.kind h))) (whole_name q r x))
+  word_read q r h x = whole_symbol text f p (at ExportName f) q r (whole_by text f p q r (left (no_string (word_no_string p.token.kind h))) (whole_name q r x))
 
   -- ---- a string
 

@@ -1,5 +1,5 @@
 -- The code units of a string that stands at a parser's place, by its lexeme and by its node.
-use Rattle.std.proofs.Common.{ℕ, ◌≡◌, ◌<◌, List, [], ◌∷◌, length, length-append, sym, ap, ap₂, subst, arith, ◌∙◌}
+use Rattle.std.proofs.Common.{ℕ, ◌≡◌, ◌<◌, ◌+◌, ◌++◌, List, [], ◌∷◌, length, length-append, sym, ap, ap₂, subst, arith, ◌∙◌}
 use Rattle.std.specs.Prelude.{chars, get_or, slice_range, unwrap_or}
 use Rattle.std.proofs.lemmas.List.{get_or_at}
 use Rattle.js_base.specs.Kinds.{one_of_kinds}
@@ -9,7 +9,10 @@ use Rattle.js_base.specs.declared.kind.Kind.{Kind}
 use Rattle.js_base.specs.declared.kind.Kind.TheVariants.{Str}
 use Rattle.js_base.specs.declared.span.Span.{Span}
 use Rattle.js_base.specs.part_text.Decoding.{string_units}
+use Rattle.js_grammar.specs.Characters.{width}
 use Rattle.js_grammar.specs.Grammar.{Lexeme}
+use Rattle.js_grammar.specs.LexicalFaults.{behind}
+use Rattle.js_grammar.specs.Longest.{joined}
 use Rattle.js_grammar.specs.Lexemes.{division, units_of as units_of_lexeme}
 use Rattle.js_grammar.specs.Productions.{Flags}
 use Rattle.js_grammar.specs.Strings.{string_inside}
@@ -21,21 +24,35 @@ use Rattle.laws_shared.specs.js_tree.declared.kind.NodeKind.TheVariants as node
 use Rattle.laws_shared.specs.js_tree.declared.op.Op.TheVariants as op
 use Rattle.laws_shared.specs.js_cursor.Parsers.{Parser}
 use Rattle.laws_shared.specs.js_lex.Reading.{GivesLexeme}
+use Rattle.laws_shared.specs.part_words.Places.{Word}
 use Rattle.laws_shared.specs.Lexemes.{Lex, is_read_kind, signs}
 use Rattle.laws_shared.specs.Moves.{LeafTaken, TakesLeaf}
 use Rattle.laws_shared.specs.NodeTexts.{spelled_at}
 use Rattle.laws_shared.specs.States.{At, IsPlain, whole, sign, nothing as none}
-use Rattle.laws_shared.proofs.NodeTexts.{spelled_here, string_later}
+use Rattle.laws_shared.proofs.js_lex.Again.{cancel}
+use Rattle.laws_shared.proofs.NodeTexts.{string_later}
+use Rattle.laws_shared.proofs.part_scan.StringPlaces.{front_word}
+use Rattle.laws_shared.proofs.part_words.Flags.{spelled}
 use Rattle.laws_shared.proofs.Paths.{one_read}
 
 module _ {text : List ℕ} {f : Flags} {p : Parser} (a : At text f p) (k : p.token.kind ≡ Str) where
+  -- the characters of a lexeme that the token tells stand at the token
+  characters : (x : GivesLexeme division (λ y. y) p.text p.prev_token_end p.token) → spelled_at p.text p.token ≡ x.stands.lex.word
+  characters x =
+      let i = a.at in
+      let l = x.stands.lex in
+      let before : Word p.text p.prev_token_end x.lexeme.from (joined l.trivia) = subst (λ (n : ℕ). Word p.text p.prev_token_end n (joined l.trivia)) (sym l.from) (front_word p.text p.prev_token_end (joined l.trivia) (l.word ++ l.rest) i.utf8 i.between l.stands.splits) in
+      let here : behind p.text p.token.span.start ≡ l.word ++ l.rest = ap (behind p.text) x.tells.start ∙ cancel (joined l.trivia) (behind p.text x.lexeme.from) (l.word ++ l.rest) (sym before.splits ∙ l.stands.splits) in
+      let until : p.token.span.end ≡ p.token.span.start + width l.word = x.tells.end ∙ l.to ∙ ap (λ (n : ℕ). n + width l.word) (sym x.tells.start) in
+      spelled p.text p.token.span.start p.token.span.end l.word i.utf8 i.lies.starts_whole i.lies.ordered (subst (λ (n : ℕ). Word p.text p.token.span.start n l.word) (sym until) (front_word p.text p.token.span.start l.word l.rest i.utf8 i.lies.starts_whole here))
+
   -- those of its lexeme
   pub string_spelled : (y : Lexeme) → Lex text p.prev_token_end y → (y.kind ≡ Str) × (y.units ≡ unwrap_or (string_units (string_inside (spelled_at p.text p.token))) [])
   unfolding words
   string_spelled y l = by a.plain
     where
       units_are : (x : GivesLexeme division (λ y. y) p.text p.prev_token_end p.token) → x.lexeme.kind ≡ Str → x.lexeme.units ≡ unwrap_or (string_units (string_inside (spelled_at p.text p.token))) []
-      units_are x e = x.stands.lex.units ∙ ap (λ (v : Kind). units_of_lexeme v x.stands.lex.word) e ∙ ap (λ (v : List ℕ). unwrap_or (string_units (string_inside v)) []) (sym (spelled_here a.at x))
+      units_are x e = x.stands.lex.units ∙ ap (λ (v : Kind). units_of_lexeme v x.stands.lex.word) e ∙ ap (λ (v : List ℕ). unwrap_or (string_units (string_inside v)) []) (sym (characters x))
 
       by : IsPlain text p → (y.kind ≡ Str) × (y.units ≡ unwrap_or (string_units (string_inside (spelled_at p.text p.token))) [])
       by (whole c n x') =

@@ -1,4 +1,5 @@
 pub mod NameLists
 pub mod ModuleNames
 pub mod ImportSpecifiers
+pub mod Attributes
 pub use Rattle.laws_primary.specs as laws_primary

@@ -1,5 +1,5 @@
 -- Names of imports and exports (ECMA-262, 16.2.2): a name, a word, or a string in which no surrogate is alone.
-use Rattle.std.specs.Prelude.{ℕ, ◌≡◌, ◌⊎◌, Bool, true, not, List, Option, Some, None, Result, Ok, Err, chars, slice_range}
+use Rattle.std.specs.Prelude.{ℕ, ◌≡◌, ◌⊎◌, Bool, true, false, not, List, Option, Some, None, Result, Ok, Err, chars, slice_range}
 use Rattle.std.specs.Char.Utf16.{has_unpaired_surrogate}
 use Rattle.js_base.specs.KindSets.{identifier_name_kinds}
 use Rattle.js_base.specs.Kinds.{one_of_kinds}
