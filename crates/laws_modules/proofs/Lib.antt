@@ -6,4 +6,6 @@ pub mod StringUnits
 pub mod ModuleNames
 pub mod ImportSpecifiers
 pub mod Attributes
+pub mod Endings
+pub mod Sources
 pub use Rattle.laws_primary.proofs as laws_primary

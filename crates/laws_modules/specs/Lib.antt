@@ -2,4 +2,5 @@ pub mod NameLists
 pub mod ModuleNames
 pub mod ImportSpecifiers
 pub mod Attributes
+pub mod Sources
 pub use Rattle.laws_primary.specs as laws_primary
