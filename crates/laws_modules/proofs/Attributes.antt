@@ -1,27 +1,20 @@
 -- Attributes of imports and exports (ECMA-262, 16.2.2): one of them, and the clause.
-use Rattle.std.proofs.Common.{ℕ, ◌≡◌, ◌≤◌, inl, inr, max, List, [], ◌∷◌, length, Option, Some, None, Bool, true, false, not, refl, sym, ap, subst, arith, ◌∙◌}
+use Rattle.std.proofs.Common.{ℕ, ◌≡◌, ◌≤◌, List, [], ◌∷◌, length, Option, Some, None, true, not, refl, sym, ap, subst, arith, ◌∙◌}
 use Rattle.std.specs.Prelude.{Result, Ok, Err, MatchResult}
-use Rattle.std.proofs.lemmas.Bool.{false≢true}
-use Rattle.js_base.specs.KindSets.{identifier_name_kinds}
-use Rattle.js_base.specs.Kinds.{one_of_kinds, same_kind}
 use Rattle.js_base.specs.declared.diagnostic.Diagnostic.{Diagnostic}
 use Rattle.js_base.specs.declared.diagnostic.DiagnosticKind.TheVariants.{ExpectToken, ImportAttributeValueMustBeStringLiteral}
-use Rattle.js_base.specs.declared.kind.Kind.{Kind}
 use Rattle.js_base.specs.declared.kind.Kind.TheVariants.{Assert, Colon, Str, Undetermined, With}
 use Rattle.js_base.specs.declared.span.Span.{Span}
-use Rattle.js_base.specs.declared.token.Token.{Token}
-use Rattle.js_grammar.specs.Grammar.{exact, next, nothing, seq}
+use Rattle.js_grammar.specs.Grammar.{exact, nothing, seq}
 use Rattle.js_grammar.specs.Marks.{Mark, the_start, the_end}
 use Rattle.js_grammar.specs.Parsing.{Test, plain, full, still, Goes, Fails}
 use Rattle.js_grammar.specs.Productions.{G, Flags, at, op, tok, Attr, Attrs, IdentifierName}
 use Rattle.js_grammar.specs.Productions.{sym as symbol}
 use Rattle.js_grammar.specs.Table.{rule, rule_of, string}
-use Rattle.js_grammar.specs.Trees.{Label, end, tree, import_attribute, no_op, of, string_literal, with_clause}
+use Rattle.js_grammar.specs.Trees.{Label, end, import_attribute, no_op, of, with_clause}
 use Rattle.js_grammar.proofs.Looks.{apart, covers}
-use Rattle.js_grammar.proofs.Calculus.{Between, Inside, ◌▹◌, ◌▹✗◌, fails_alt, fails_node, fails_rule, inside_full, left, looks, part_fails, weaken_fails, weaken_fails_on}
-use Rattle.laws_shared.specs.js_tree.Holding.{Holds}
+use Rattle.js_grammar.proofs.Calculus.{Between, Inside, ◌▹◌, fails_node, fails_rule, inside_full, left, looks, part_fails}
 use Rattle.laws_shared.specs.js_tree.Labels.{clause_kind}
-use Rattle.laws_shared.specs.js_tree.Nodes.{Node}
 use Rattle.laws_shared.specs.js_tree.declared.id.NodeId.{NodeId}
 use Rattle.laws_shared.specs.js_tree.declared.kind.NodeKind.TheVariants as node
 use Rattle.laws_shared.specs.js_tree.declared.op.ClauseWord.{ClauseWord}
@@ -39,10 +32,9 @@ use Rattle.laws_shared.specs.Arguments.{PartTaken, Partway, behind_item}
 use Rattle.laws_shared.specs.Classes.{EndsParse}
 use Rattle.laws_shared.specs.Lexemes.{Lex, is_read_kind}
 use Rattle.laws_shared.specs.Methods.{WholeOutcome, WholeTaken}
-use Rattle.laws_shared.specs.Moves.{MadeHere, Moved, TakesLeaf, plain_label, unpassable}
+use Rattle.laws_shared.specs.Moves.{MadeHere, Moved, TakesLeaf, plain_label}
 use Rattle.laws_shared.specs.Stands.{StandsHere}
 use Rattle.laws_shared.specs.States.{At}
-use Rattle.laws_shared.specs.Told.{unrelated_at}
 use Rattle.laws_shared.proofs.Ahead.{pass_over}
 use Rattle.laws_shared.proofs.Classes.{gives_up_by, unexpected_ends}
 use Rattle.laws_shared.proofs.Expected.{expected, not_due, unexpected}
@@ -51,16 +43,16 @@ use Rattle.laws_shared.proofs.Here.{newline_here}
 use Rattle.laws_shared.proofs.MadeNodes.{held_label, node_held, one_lies}
 use Rattle.laws_shared.proofs.Moving.{stops_behind, stops_so}
 use Rattle.laws_shared.proofs.Parts.{part_path, part_path_fails, part_sign, parts}
-use Rattle.laws_shared.proofs.Paths.{Path, at_kind, by_symbol_as, fails_at, label_here, last_token, noded, noded_by}
-use Rattle.laws_shared.proofs.Signs.{other_kind, plain_sign}
+use Rattle.laws_shared.proofs.Paths.{at_kind, by_symbol_as, fails_at, label_here, last_token, noded, noded_by}
+use Rattle.laws_shared.proofs.Signs.{other_kind}
 use Rattle.laws_shared.proofs.Verdicts.{after as grown_behind}
 use Rattle.laws_primary.proofs.DecoratedNodes.{made_kind}
 use Rattle.laws_primary.proofs.PropertyNames.{string_plain}
-use Rattle.laws_primary.proofs.Wholes.{part_answers, part_under, whole_answers, whole_last, whole_part}
+use Rattle.laws_primary.proofs.Wholes.{part_answers, whole_answers, whole_last, whole_part}
 use Rattle.laws_modules.specs.declared.forms.NameList.TheVariants.{Attributes}
-use Rattle.laws_modules.specs.Attributes.{BeginsClause, ClauseTaken, NoClause, attribute_label, ill_valued, key_part, with_line}
+use Rattle.laws_modules.specs.Attributes.{BeginsClause, ClauseTaken, ill_valued, key_part, with_line}
 use Rattle.laws_modules.specs.NameLists.{ListTaken, list_of}
-use Rattle.laws_modules.proofs.ModuleNames.{whole_name, word_no_string}
+use Rattle.laws_modules.proofs.ModuleNames.{whole_name}
 use Rattle.laws_modules.proofs.WholeParts.{leaf_whole, whole_behind, whole_by, whole_symbol}
 
 -- ---- the key

@@ -1,19 +1,16 @@
 -- One imported name (ECMA-262, 16.2.2): a name that is bound, or one that is imported and, behind `as`, the one that is bound.
-use Rattle.std.proofs.Common.{ℕ, ◌≡◌, ◌<◌, ◌≤◌, inl, inr, List, [], ◌∷◌, length, Option, Some, Bool, true, false, ◌||◌, refl, sym, ap, subst, arith, ◌∙◌}
-use Rattle.std.specs.Prelude.{Result, Ok, Err, IsCharBoundary, IsTrue}
+use Rattle.std.proofs.Common.{ℕ, ◌≡◌, ◌<◌, ◌≤◌, inl, inr, List, [], ◌∷◌, length, Some, Bool, true, false, refl, sym, ap, subst, arith, ◌∙◌}
+use Rattle.std.specs.Prelude.{Ok, Err}
 use Rattle.std.proofs.lemmas.Bool.{false≢true}
 use Rattle.js_base.specs.Contexts.{has_flag, yield_flag, await_flag}
 use Rattle.js_base.specs.KindSets.{binding_identifier_kinds, identifier_name_kinds}
 use Rattle.js_base.specs.Kinds.{one_of_kinds}
 use Rattle.js_base.specs.Texts.{words}
-use Rattle.js_base.specs.declared.diagnostic.Diagnostic.{Diagnostic}
-use Rattle.js_base.specs.declared.kind.Kind.{Kind}
 use Rattle.js_base.specs.declared.kind.Kind.TheVariants.{As, Comma, RBrack, RCurly, RParen}
-use Rattle.js_base.specs.declared.span.Span.{Span}
 use Rattle.js_grammar.specs.Grammar.{Lexeme, Lexemes, ahead, exact, here, nothing, seq, alt, Takes, is_lexeme, is_left, is_node, is_seq, is_ahead, is_such}
 use Rattle.js_grammar.specs.Lexed.{Lexes}
 use Rattle.js_grammar.specs.Parsing.{Test, plain, full, Admits, Fails}
-use Rattle.js_grammar.specs.Productions.{G, Flags, at, mk, tok, BindingIdentifier, ExportName, IdentifierName, Spec}
+use Rattle.js_grammar.specs.Productions.{G, Flags, tok, BindingIdentifier, ExportName, IdentifierName, Spec}
 use Rattle.js_grammar.specs.Productions.{sym as symbol}
 use Rattle.js_grammar.specs.Table.{rule, rule_of}
 use Rattle.js_grammar.specs.Trees.{Label, Slots, end, tree, import_specifier, identifier_name, binding_identifier, no_op}
@@ -27,7 +24,7 @@ use Rattle.laws_shared.specs.js_tree.declared.kind.NodeKind.{NodeKind}
 use Rattle.laws_shared.specs.js_tree.declared.kind.NodeKind.TheVariants as node
 use Rattle.laws_shared.specs.js_tree.declared.op.Op.TheVariants as op
 use Rattle.laws_shared.proofs.js_tree.HoldingLemmas.{HoldsAll-none, Keeps-refl, Keeps-trans, Keeps-made}
-use Rattle.laws_shared.specs.js_cursor.Moves.{GivesUp, IsKind, KeepsDiagnostic, MovesOn}
+use Rattle.laws_shared.specs.js_cursor.Moves.{IsKind, MovesOn}
 use Rattle.laws_shared.specs.js_cursor.Parsers.{Parser}
 use Rattle.laws_shared.specs.js_cursor.declared.stop.Stop.{Stop}
 use Rattle.laws_shared.specs.js_cursor.declared.stop.Stop.TheVariants.{Fatal, NoMemory}
@@ -36,28 +33,27 @@ use Rattle.laws_shared.specs.Answers.{Grown, Stops, unclean}
 use Rattle.laws_shared.specs.Arguments.{PartTaken, Partway, behind_item}
 use Rattle.laws_shared.specs.Lexemes.{Lex, is_read_kind, may_name, signs, spot}
 use Rattle.laws_shared.specs.Methods.{WholeTaken}
-use Rattle.laws_shared.specs.Moves.{LeafTaken, MadeHere, Moved, TakesLeaf, plain_label}
-use Rattle.laws_shared.specs.Stands.{NameHere, NameUnder, StandsHere}
+use Rattle.laws_shared.specs.Moves.{LeafTaken, MadeHere, Moved, plain_label}
+use Rattle.laws_shared.specs.Stands.{StandsHere}
 use Rattle.laws_shared.specs.States.{At, NodesLie, Same}
 use Rattle.laws_shared.proofs.Escapes.{read_as}
 use Rattle.laws_shared.proofs.Expected.{expected, not_due}
 use Rattle.laws_shared.proofs.Giving.{gives_up, kept_one}
 use Rattle.laws_shared.proofs.MadeNodes.{from_start, leaf_held, node_held, one_lies, two_held, LabelLies}
 use Rattle.laws_shared.proofs.Moving.{beside_nodes, same_both, same_with, stops_behind, stops_so}
-use Rattle.laws_shared.proofs.NameKinds.{listed_name, name_at}
+use Rattle.laws_shared.proofs.NameKinds.{listed_name}
 use Rattle.laws_shared.proofs.NodeTexts.{name_word}
 use Rattle.laws_shared.proofs.Parts.{part_path_fails, part_sign, parts}
-use Rattle.laws_shared.proofs.Paths.{Path, ◌⟼◌, by_symbol_as, label_here, noded_by, one_read, read_of, walked_to}
+use Rattle.laws_shared.proofs.Paths.{Path, ◌⟼◌, by_symbol_as, label_here, noded_by, one_read, walked_to}
 use Rattle.laws_shared.proofs.Signs.{word_there}
 use Rattle.laws_shared.proofs.Told.{told_at, told_same}
 use Rattle.laws_shared.proofs.Verdicts.{after as grown_behind}
 use Rattle.laws_primary.proofs.Functions.{no_name_part}
 use Rattle.laws_primary.proofs.Members.{word_signless}
-use Rattle.laws_primary.proofs.Properties.{kinds_apart}
 use Rattle.laws_primary.proofs.Wholes.{part_answers, part_under, whole_last, whole_part}
 use Rattle.laws_patterns.proofs.Bindings.{bound_path}
 use Rattle.laws_patterns.proofs.ObjectPatterns.{key_first}
-use Rattle.laws_modules.specs.ImportSpecifiers.{BindsSingle, StringBound, string_bound, word_bound, specifier_label}
+use Rattle.laws_modules.specs.ImportSpecifiers.{BindsSingle, StringBound, word_bound, specifier_label}
 use Rattle.laws_modules.specs.ModuleNames.{NamesExport, TakesExportName, export_node}
 use Rattle.laws_modules.proofs.ModuleNames.{export_name_leaf, export_name_read, word_node}
 use Rattle.laws_modules.proofs.WholeParts.{leaf_kept, leaf_label, renoded}

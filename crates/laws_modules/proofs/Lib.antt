@@ -8,4 +8,6 @@ pub mod ImportSpecifiers
 pub mod Attributes
 pub mod Endings
 pub mod Sources
+pub mod ImportClauses
+pub mod ImportDeclarations
 pub use Rattle.laws_primary.proofs as laws_primary

@@ -1,16 +1,15 @@
 -- Names of imports and exports (ECMA-262, 16.2.2).
-use Rattle.std.proofs.Common.{ℕ, ◌≡◌, inl, inr, List, [], ◌∷◌, Option, Some, None, Bool, true, false, refl, sym, ap, subst, arith, ◌∙◌}
+use Rattle.std.proofs.Common.{ℕ, ◌≡◌, inl, inr, List, [], ◌∷◌, Option, Some, None, Bool, true, false, refl, sym, ap, subst, ◌∙◌}
 use Rattle.std.specs.Prelude.{Result, Ok, Err, unwrap_or}
 use Rattle.std.proofs.lemmas.Bool.{false≢true}
 use Rattle.js_base.specs.KindSets.{identifier_name_kinds}
 use Rattle.js_base.specs.Kinds.{one_of_kinds}
 use Rattle.js_base.specs.Texts.{words}
-use Rattle.js_base.specs.declared.diagnostic.Diagnostic.{Diagnostic}
 use Rattle.js_base.specs.declared.kind.Kind.{Kind}
 use Rattle.js_base.specs.declared.kind.Kind.TheVariants.{Str}
 use Rattle.js_base.specs.part_text.Decoding.{string_units}
 use Rattle.js_grammar.specs.Conditions.{well_formed}
-use Rattle.js_grammar.specs.Grammar.{Lexeme, nothing, seq, text as spelled}
+use Rattle.js_grammar.specs.Grammar.{nothing, seq, text as spelled}
 use Rattle.js_grammar.specs.Parsing.{plain, full, still, Goes, Fails}
 use Rattle.js_grammar.specs.Productions.{G, Flags, at, ExportName, IdentifierName}
 use Rattle.js_grammar.specs.Productions.{sym as symbol}
@@ -41,7 +40,7 @@ use Rattle.laws_primary.proofs.Members.{name_taken, no_name}
 use Rattle.laws_primary.proofs.Properties.{kinds_apart}
 use Rattle.laws_primary.proofs.PropertyNames.{string_plain}
 use Rattle.laws_primary.proofs.Wholes.{whole_of}
-use Rattle.laws_modules.specs.ModuleNames.{NamesExport, NoExportName, PairedHere, TakesExportName, export_node, is_paired}
+use Rattle.laws_modules.specs.ModuleNames.{NoExportName, PairedHere, TakesExportName, export_node, is_paired}
 use Rattle.laws_modules.proofs.StringUnits.{string_spelled, string_units_are}
 use Rattle.laws_modules.proofs.WellFormed.{well_formed_as}
 use Rattle.laws_modules.proofs.WholeParts.{leaf_whole, whole_by, whole_symbol}

@@ -1,6 +1,6 @@
 -- Lists of names and of attributes (ECMA-262, 16.2.2, 16.2.3): what is left of the list behind each of its items.
 use Rattle.std.proofs.Common.{ℕ, ◌≡◌, ◌≤◌, ◌<◌, inl, inr, max, true, List, [], ◌∷◌, ◌++◌, length, Option, Some, false, refl, sym, ap, subst, arith, ◌∙◌}
-use Rattle.std.specs.Prelude.{None, Result, Ok, Err}
+use Rattle.std.specs.Prelude.{None, Ok, Err}
 use Rattle.std.proofs.lemmas.Bool.{false≢true}
 use Rattle.js_base.specs.declared.diagnostic.Diagnostic.{Diagnostic}
 use Rattle.js_base.specs.declared.diagnostic.DiagnosticKind.TheVariants.{ExpectClosingOrSeparator, ExpectToken}
@@ -41,7 +41,6 @@ use Rattle.laws_shared.proofs.Here.{uncut}
 use Rattle.laws_shared.proofs.Moving.{moves, standing, stops_behind, stops_so}
 use Rattle.laws_shared.proofs.Nesting.{nested_room, later_room}
 use Rattle.laws_shared.proofs.Parts.{part_from, part_goes, part_path_fails, parts, part_sign, part_last}
-use Rattle.laws_shared.proofs.Paths.{fails_at}
 use Rattle.laws_shared.proofs.PlainSigns.{comma_plain, brace_plain, closing_brace_plain}
 use Rattle.laws_shared.proofs.Signs.{AllClose, NoneIs, closing_there, none_seen, plain_sign, stands_not, stands_there}
 use Rattle.laws_shared.proofs.Verdicts.{verdict_of}

@@ -1,25 +1,23 @@
 -- Where imports and exports come from (ECMA-262, 16.2.2): a string, attributes or none, and a semicolon, which may be left out (12.10).
-use Rattle.std.proofs.Common.{ℕ, ◌≡◌, ◌⊎◌, inl, inr, max, List, [], ◌∷◌, ◌++◌, length, Option, Some, None, Bool, true, false, not, ◌&&◌, ◌||◌, IsTrue, refl, sym, ap, subst, arith, ◌∙◌}
-use Rattle.std.specs.Prelude.{Result, Ok, Err, cond}
+use Rattle.std.proofs.Common.{ℕ, ◌≡◌, ◌⊎◌, inl, inr, max, List, [], ◌∷◌, ◌++◌, length, Option, Some, None, Bool, true, false, not, ◌&&◌, IsTrue, refl, sym, ap, subst, arith, ◌∙◌}
+use Rattle.std.specs.Prelude.{Ok, Err, cond}
 use Rattle.std.proofs.lemmas.Bool.{and_from, and_parts, false≢true}
-use Rattle.js_base.specs.Kinds.{one_of_kinds, same_kind}
+use Rattle.js_base.specs.Kinds.{same_kind}
 use Rattle.js_base.specs.declared.diagnostic.DiagnosticKind.TheVariants.{ExpectToken}
-use Rattle.js_base.specs.declared.kind.Kind.{Kind}
 use Rattle.js_base.specs.declared.kind.Kind.TheVariants.{Assert, Semicolon, Str, With}
 use Rattle.js_grammar.specs.Grammar.{Lexeme, Look, empty_slot, ended, is, may_omit, nothing, seen, semicolon, seq}
 use Rattle.js_grammar.specs.Insertion.{after_word, by_edge, edge, edge_is_last, empty_row, goes_on, only_by, own_row}
-use Rattle.js_grammar.specs.Parsing.{Test, plain, full, still, Goes, Fails}
-use Rattle.js_grammar.specs.Productions.{G, Flags, at, no_newline, tok, Attrs}
+use Rattle.js_grammar.specs.Parsing.{Test, plain, full, Fails}
+use Rattle.js_grammar.specs.Productions.{G, Flags, no_newline, tok, Attrs}
 use Rattle.js_grammar.specs.Productions.{sym as symbol}
 use Rattle.js_grammar.specs.Table.{rule, rule_of, source, string}
-use Rattle.js_grammar.specs.Trees.{Label, NodeKind, Slots, end, hole, tree, append, with_clause}
-use Rattle.js_grammar.proofs.Looks.{apart, covers, covered, not_both}
+use Rattle.js_grammar.specs.Trees.{NodeKind, Slots, end, hole, tree}
+use Rattle.js_grammar.proofs.Looks.{apart, covers, not_both}
 use Rattle.js_grammar.proofs.Calculus.{Between, ◌▹◌, ◌▹✗◌, by_omission, ends_by, fails_alt, fails_ended, fails_look, fails_rule, fails_semicolon, left, part_fails, reads_empty_slot, right, then_by}
 use Rattle.js_grammar.proofs.FirstClaims.{firsts}
 use Rattle.js_grammar.proofs.FirstRules.{fails_here}
 use Rattle.js_grammar.proofs.Frame.{append_assoc}
 use Rattle.laws_shared.specs.js_tree.Holding.{HoldsAll}
-use Rattle.laws_shared.specs.js_tree.Nodes.{Node}
 use Rattle.laws_shared.specs.js_tree.declared.id.NodeId.{NodeId}
 use Rattle.laws_shared.specs.js_tree.declared.kind.NodeKind.TheVariants as node
 use Rattle.laws_shared.specs.js_tree.declared.op.ClauseWord.{ClauseWord}
@@ -34,7 +32,7 @@ use Rattle.laws_shared.specs.Answers.{Stops}
 use Rattle.laws_shared.specs.Arguments.{Partway}
 use Rattle.laws_shared.specs.Lexemes.{Lex}
 use Rattle.laws_shared.specs.Methods.{WholeTaken}
-use Rattle.laws_shared.specs.Moves.{Moved, TakesLeaf}
+use Rattle.laws_shared.specs.Moves.{TakesLeaf}
 use Rattle.laws_shared.specs.Stands.{StandsHere}
 use Rattle.laws_shared.specs.States.{At}
 use Rattle.laws_shared.proofs.Classes.{here_ends}
@@ -48,10 +46,9 @@ use Rattle.laws_shared.proofs.Signs.{AllAre, none_seen, other_kind, plain_sign, 
 use Rattle.laws_shared.proofs.Verdicts.{and_then, verdict_of}
 use Rattle.laws_shared.proofs.Stretches.{stretches}
 use Rattle.laws_shared.proofs.Verdicts.{after as grown_behind}
-use Rattle.laws_primary.proofs.Wholes.{whole_last, whole_part}
-use Rattle.laws_modules.specs.declared.forms.ModuleSource.{ModuleSource}
+use Rattle.laws_primary.proofs.Wholes.{whole_part}
 use Rattle.laws_modules.specs.Attributes.{BeginsClause, ClauseTaken, NoClause, TakesAttributes}
-use Rattle.laws_modules.specs.Sources.{NoSource, ReadsSource}
+use Rattle.laws_modules.specs.Sources.{NoSource}
 use Rattle.laws_modules.proofs.Attributes.{string_read}
 use Rattle.laws_modules.proofs.Endings.{omits, unended, whole_semicolon}
 

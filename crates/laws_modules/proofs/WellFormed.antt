@@ -1,5 +1,5 @@
 -- Strings in which no surrogate is alone (ECMA-262, 7.2.9): as the grammar tests it, and as it is read.
-use Rattle.std.proofs.Common.{ℕ, List, [], ◌∷◌, ◌≡◌, Bool, true, false, not, ◌&&◌, refl, ap, ap₂, sym, ◌∙◌, arith}
+use Rattle.std.proofs.Common.{ℕ, List, [], ◌∷◌, ◌≡◌, Bool, true, false, not, ◌&&◌, refl, ap, ap₂, ◌∙◌, arith}
 use Rattle.std.specs.Char.Utf16.{has_unpaired_surrogate, is_high_surrogate, is_low_surrogate}
 use Rattle.std.proofs.lemmas.Bool.Decides.{nat_tests}
 use Rattle.js_base.proofs.part_text.SurrogateLemmas.{paired_after, paired_step, paired-unpaired}

@@ -1,5 +1,5 @@
 -- Parts that anything may follow: by a choice, by the rule of a nonterminal, and of one lexeme.
-use Rattle.std.proofs.Common.{ℕ, ◌≡◌, max, List, [], length, true, refl, sym, ap, subst, arith, ◌∙◌}
+use Rattle.std.proofs.Common.{ℕ, ◌≡◌, max, List, length, true, refl, sym, ap, subst, arith, ◌∙◌}
 use Rattle.std.specs.Prelude.{Result, Ok, Err}
 use Rattle.js_base.specs.declared.kind.Kind.{Kind}
 use Rattle.js_grammar.specs.Trees.{Label, Slots, end, tree}

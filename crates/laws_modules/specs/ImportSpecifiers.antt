@@ -9,7 +9,7 @@ use Rattle.js_base.specs.declared.kind.Kind.TheVariants.{Str}
 use Rattle.js_base.specs.declared.span.Span.{Span}
 use Rattle.js_base.specs.declared.token.Token.{Token}
 use Rattle.js_grammar.specs.Marks.{Mark}
-use Rattle.js_grammar.specs.Productions.{G, Flags, BindingIdentifier}
+use Rattle.js_grammar.specs.Productions.{BindingIdentifier}
 use Rattle.js_grammar.specs.Productions.{sym as symbol}
 use Rattle.js_grammar.specs.Trees.{Label, import_specifier, no_op}
 use Rattle.laws_shared.specs.js_tree.declared.id.NodeId.{NodeId}
