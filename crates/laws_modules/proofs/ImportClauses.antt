@@ -3,8 +3,8 @@ use Rattle.std.proofs.Common.{ℕ, ◌≡◌, ◌≤◌, List, [], ◌∷◌, �
 use Rattle.std.specs.Prelude.{Err}
 use Rattle.std.proofs.lemmas.Bool.{false≢true, and_parts}
 use Rattle.js_base.specs.Kinds.{one_of_kinds, same_kind}
-use Rattle.js_base.specs.declared.diagnostic.DiagnosticKind.TheVariants.{ExpectToken}
-use Rattle.js_base.specs.declared.kind.Kind.TheVariants.{As, Comma, Eq, From, LCurly, Star}
+use Rattle.js_base.specs.declared.diagnostic.DiagnosticKind.TheVariants.{ExpectToken, ImportEqualsInTs}
+use Rattle.js_base.specs.declared.kind.Kind.TheVariants.{As, Comma, Eq, From, LCurly, Star, Undetermined}
 use Rattle.js_base.specs.declared.span.Span.{Span}
 use Rattle.js_grammar.specs.Grammar.{Lexeme, nothing, seq}
 use Rattle.js_grammar.specs.Parsing.{Test, plain, full, still, Goes, Fails}
@@ -18,7 +18,7 @@ use Rattle.laws_shared.specs.js_tree.declared.id.NodeId.{NodeId}
 use Rattle.laws_shared.specs.js_tree.declared.kind.NodeKind.TheVariants as node
 use Rattle.laws_shared.specs.js_tree.declared.op.Op.TheVariants as op
 use Rattle.laws_shared.proofs.js_tree.HoldingLemmas.{HoldsAll-none, Keeps-trans, Keeps-made}
-use Rattle.laws_shared.specs.js_cursor.Moves.{Expects, GivesUp, IsKind, IsUnexpected, MovesOn}
+use Rattle.laws_shared.specs.js_cursor.Moves.{Expects, GivesUp, IsKind, IsUnexpected, MovesOn, at_lexeme}
 use Rattle.laws_shared.specs.js_cursor.Parsers.{Parser}
 use Rattle.laws_shared.specs.js_cursor.declared.stop.Stop.{Stop}
 use Rattle.laws_shared.specs.Answers.{Stops}
@@ -28,7 +28,7 @@ use Rattle.laws_shared.specs.Lexemes.{Lex}
 use Rattle.laws_shared.specs.Methods.{WholeTaken}
 use Rattle.laws_shared.specs.Moves.{MadeHere, Moved, plain_label}
 use Rattle.laws_shared.specs.Stands.{NameHere, StandsHere}
-use Rattle.laws_shared.specs.States.{At}
+use Rattle.laws_shared.specs.States.{At, Standing}
 use Rattle.laws_shared.proofs.Expected.{expected, not_due, unexpected}
 use Rattle.laws_shared.proofs.Giving.{gives_up, gives_up_here}
 use Rattle.laws_shared.proofs.MadeNodes.{node_held, one_held, one_lies}
@@ -36,13 +36,18 @@ use Rattle.laws_shared.proofs.Moving.{stops_behind, stops_so}
 use Rattle.laws_shared.proofs.NameKinds.{listed_name, name_apart, name_at}
 use Rattle.laws_shared.proofs.Parts.{part_from, part_path, part_path_fails, part_sign, parts}
 use Rattle.laws_shared.proofs.Paths.{Path, ◌⟼◌, ◌⟶✗◌, at_kind, fails_at, label_here, noded}
-use Rattle.laws_shared.proofs.PlainSigns.{star_plain}
+use Rattle.laws_shared.proofs.PlainSigns.{eq_plain, star_plain}
 use Rattle.laws_shared.proofs.Signs.{plain_sign, stands_there}
 use Rattle.laws_shared.proofs.Verdicts.{after as grown_behind}
 use Rattle.laws_primary.proofs.Functions.{no_name_part}
 use Rattle.laws_primary.proofs.Wholes.{part_under, whole_answers, whole_last, whole_part}
+use Rattle.js_base.specs.declared.diagnostic.Diagnostic.{Diagnostic}
+use Rattle.js_grammar.specs.Marks.{Mark}
+use Rattle.laws_shared.specs.js_cursor.Places.{goal}
+use Rattle.laws_shared.proofs.Classes.{gives_up_by}
+use Rattle.laws_primary.proofs.Members.{kind_marked}
 use Rattle.laws_modules.specs.declared.forms.NameList.TheVariants.{Imports}
-use Rattle.laws_modules.specs.ImportClauses.{ImportsRead, NoImports, NoOthers, OthersTaken, default_part, ends_clause, namespace_part, other_parts}
+use Rattle.laws_modules.specs.ImportClauses.{ImportsRead, NoImports, NoOthers, OthersTaken, default_part, ends_clause, import_equals, namespace_part, other_parts}
 use Rattle.laws_modules.specs.NameLists.{ListTaken, NoList, list_of}
 
 any_between : {X : Test} {a b : G} {s : ℕ} → Between rule X (plain full) end a b s
@@ -185,3 +190,11 @@ module _ {text : List ℕ} {f : Flags} {p : Parser} (a : At text f p) where
 
         pub both_stop : (t : Parser) (z : Stop) → NoOthers r t z → Stops p t z (NoImports text f p.prev_token_end)
         both_stop t z s = stops_behind t z to_rest.same (λ d. grown_behind to_rest.verdict d) (λ n. to_both ▹✗ weaken_fails (part_path_fails to_rest n) (λ ts y d. (refl, refl))) (s text f to_rest.at)
+
+-- what is told of an import of TypeScript
+
+pub equals_marked : (p : Parser) {d : Diagnostic} → Standing p → p.token.kind ≡ Eq → d ≡ import_equals p.token.span → Mark (goal p) p.text d
+equals_marked p a k e = subst (λ (v : Diagnostic). Mark (goal p) p.text v) (sym e) (kind_marked Eq refl refl ImportEqualsInTs p.token.span (λ s x. (x, (refl, refl))) a (k, plain_sign Eq a k refl refl eq_plain) refl)
+
+pub equals_ends : (p q : Parser) (d : Diagnostic) (e : Stop) → d ≡ import_equals p.token.span → GivesUp (λ v. v ≡ d) p q e → GivesUp EndsParse p q e
+equals_ends p q d e i g = gives_up_by p q e g (λ v u. subst EndsParse (sym (u ∙ i)) refl)

@@ -6,7 +6,7 @@ use Rattle.js_base.specs.Contexts.{has_flag, yield_flag, await_flag}
 use Rattle.js_base.specs.KindSets.{binding_identifier_kinds, identifier_name_kinds}
 use Rattle.js_base.specs.Kinds.{one_of_kinds}
 use Rattle.js_base.specs.Texts.{words}
-use Rattle.js_base.specs.declared.kind.Kind.TheVariants.{As, Comma, RBrack, RCurly, RParen}
+use Rattle.js_base.specs.declared.kind.Kind.TheVariants.{As, Comma, RBrack, RCurly, RParen, Str, Undetermined}
 use Rattle.js_grammar.specs.Grammar.{Lexeme, Lexemes, ahead, exact, here, nothing, seq, alt, Takes, is_lexeme, is_left, is_node, is_seq, is_ahead, is_such}
 use Rattle.js_grammar.specs.Lexed.{Lexes}
 use Rattle.js_grammar.specs.Parsing.{Test, plain, full, Admits, Fails}
@@ -24,38 +24,47 @@ use Rattle.laws_shared.specs.js_tree.declared.kind.NodeKind.{NodeKind}
 use Rattle.laws_shared.specs.js_tree.declared.kind.NodeKind.TheVariants as node
 use Rattle.laws_shared.specs.js_tree.declared.op.Op.TheVariants as op
 use Rattle.laws_shared.proofs.js_tree.HoldingLemmas.{HoldsAll-none, Keeps-refl, Keeps-trans, Keeps-made}
-use Rattle.laws_shared.specs.js_cursor.Moves.{IsKind, MovesOn}
+use Rattle.laws_shared.specs.js_cursor.Moves.{GivesUp, IsKind, IsUnexpected, MovesOn, OnlyMemory}
 use Rattle.laws_shared.specs.js_cursor.Parsers.{Parser}
+use Rattle.laws_shared.specs.js_cursor.Places.{IsAt}
 use Rattle.laws_shared.specs.js_cursor.declared.stop.Stop.{Stop}
 use Rattle.laws_shared.specs.js_cursor.declared.stop.Stop.TheVariants.{Fatal, NoMemory}
 use Rattle.laws_shared.specs.Classes.{EndsParse}
 use Rattle.laws_shared.specs.Answers.{Grown, Stops, unclean}
 use Rattle.laws_shared.specs.Arguments.{PartTaken, Partway, behind_item}
 use Rattle.laws_shared.specs.Lexemes.{Lex, is_read_kind, may_name, signs, spot}
-use Rattle.laws_shared.specs.Methods.{WholeTaken}
+use Rattle.laws_shared.specs.Methods.{WholeOutcome, WholeTaken}
 use Rattle.laws_shared.specs.Moves.{LeafTaken, MadeHere, Moved, plain_label}
-use Rattle.laws_shared.specs.Stands.{StandsHere}
-use Rattle.laws_shared.specs.States.{At, NodesLie, Same}
+use Rattle.laws_shared.specs.Stands.{NameHere, StandsHere}
+use Rattle.laws_shared.specs.States.{At, NodesLie, Same, Standing}
 use Rattle.laws_shared.proofs.Escapes.{read_as}
 use Rattle.laws_shared.proofs.Expected.{expected, not_due}
-use Rattle.laws_shared.proofs.Giving.{gives_up, kept_one}
+use Rattle.laws_shared.proofs.Giving.{gives_up, gives_up_here, kept_one}
 use Rattle.laws_shared.proofs.MadeNodes.{from_start, leaf_held, node_held, one_lies, two_held, LabelLies}
 use Rattle.laws_shared.proofs.Moving.{beside_nodes, same_both, same_with, stops_behind, stops_so}
-use Rattle.laws_shared.proofs.NameKinds.{listed_name}
-use Rattle.laws_shared.proofs.NodeTexts.{name_word}
+use Rattle.laws_shared.proofs.NameKinds.{listed_name, name_at}
+use Rattle.laws_shared.proofs.NodeTexts.{name_word, spells_later, string_later}
 use Rattle.laws_shared.proofs.Parts.{part_path_fails, part_sign, parts}
-use Rattle.laws_shared.proofs.Paths.{Path, ◌⟼◌, by_symbol_as, label_here, noded_by, one_read, walked_to}
+use Rattle.laws_shared.proofs.Paths.{Path, ◌⟼◌, by_symbol_as, label_here, noded_by, one_read, walked_from, walked_to}
 use Rattle.laws_shared.proofs.Signs.{word_there}
 use Rattle.laws_shared.proofs.Told.{told_at, told_same}
+use Rattle.laws_shared.proofs.Verdicts.{grown_on}
 use Rattle.laws_shared.proofs.Verdicts.{after as grown_behind}
-use Rattle.laws_primary.proofs.Functions.{no_name_part}
+use Rattle.laws_primary.proofs.Functions.{name_numbered, no_name_part}
 use Rattle.laws_primary.proofs.Members.{word_signless}
-use Rattle.laws_primary.proofs.Wholes.{part_answers, part_under, whole_last, whole_part}
+use Rattle.laws_primary.proofs.Wholes.{part_answers, part_under, whole_last, whole_of, whole_part}
 use Rattle.laws_patterns.proofs.Bindings.{bound_path}
 use Rattle.laws_patterns.proofs.ObjectPatterns.{key_first}
-use Rattle.laws_modules.specs.ImportSpecifiers.{BindsSingle, StringBound, word_bound, specifier_label}
-use Rattle.laws_modules.specs.ModuleNames.{NamesExport, TakesExportName, export_node}
-use Rattle.laws_modules.proofs.ModuleNames.{export_name_leaf, export_name_read, word_node}
+use Rattle.std.specs.Prelude.{MatchResult, Result}
+use Rattle.js_base.specs.declared.diagnostic.DiagnosticKind.TheVariants.{IdentifierExpected, IdentifierReservedWord}
+use Rattle.js_base.specs.declared.span.Span.{Span}
+use Rattle.js_base.specs.declared.token.Token.{Token}
+use Rattle.laws_shared.specs.Moves.{TakesLeaf}
+use Rattle.laws_shared.specs.js_cursor.Moves.{KeepsDiagnostic}
+use Rattle.laws_modules.specs.ImportSpecifiers.{BindsSingle, BoundMarked, IsExportName, StringBound, specifier_label, string_bound, word_bound}
+use Rattle.laws_modules.specs.ModuleNames.{NamesExport, SpellsExport, TakesExportName, export_node}
+use Rattle.laws_modules.proofs.TokenMarks.{marked_later, token_marked}
+use Rattle.laws_modules.proofs.ModuleNames.{no_undetermined, string_taken, export_name_leaf, export_name_read, word_node}
 use Rattle.laws_modules.proofs.WholeParts.{leaf_kept, leaf_label, renoded}
 
 -- the two forms
@@ -250,3 +259,68 @@ module _ {text : List ℕ} {f : Flags} {p q : Parser} {imported : NodeId} (a : A
           go : BindsSingle p.token q r (Ok local) → MadeHere (specifier_label p.token.span.start r.prev_token_end) (Some imported ∷ Some local ∷ []) r w id → PartTaken text f (symbol Spec f) p w id
           go (inl (h, z)) made = bound_answers h z made
           go (inr (h, z)) made = string_answers h z made
+
+-- ---- what is bound
+
+module _ (text : List ℕ) (f : Flags) (p q : Parser) (a : At text f p) where
+  -- a name
+  pub binding_read : (r : Result NodeId Stop) → NameHere p true → MatchResult r (λ id. TakesLeaf node.BindingIdentifier op.None p q id) OnlyMemory → WholeOutcome text f (symbol BindingIdentifier f) p q r
+  binding_read (Ok id) h t = whole_of (name_numbered a (name_at true a h) (t text f a)) (record { admits = λ ts vs k ls rest d e. (refl, refl) })
+  binding_read (Err Fatal) h t = absurd t
+  binding_read (Err NoMemory) h t = tt
+
+  pub word_refused : (e : Stop) → NameHere p false → GivesUp (λ d. d ≡ word_bound p.token.span) p q e → Stops p q e (Fails rule (Lex text) (plain full) end (symbol BindingIdentifier f) p.prev_token_end)
+  word_refused e h g = gives_up (λ d. d ≡ word_bound p.token.span) p q e a g (λ d u. subst EndsParse (sym u) refl) (no_name_part a f (name_at false a h))
+
+  pub other_refused : (e : Stop) → NameHere p false → GivesUp (IsUnexpected p) p q e → Stops p q e (Fails rule (Lex text) (plain full) end (symbol BindingIdentifier f) p.prev_token_end)
+  other_refused e h g = gives_up_here p q e a g (no_name_part a f (name_at false a h))
+
+  -- a string: that was told
+  pub string_bound_read : (s : Parser) (r : Result NodeId Stop) → p.token.kind ≡ Str → KeepsDiagnostic (string_bound p.token.span) p s → MatchResult r (λ id. TakesLeaf node.StringLiteral op.None s q id) OnlyMemory → WholeOutcome text f (symbol BindingIdentifier f) p q r
+  unfolding words
+  string_bound_read s (Ok id) k t l =
+      let b : At text f s = told_at t a in
+      let j : s.token.kind ≡ Str = ap (λ (v : Parser). v.token.kind) t.is ∙ k in
+      let x = string_taken b j l in
+      let n : s.nodes ≡ p.nodes = ap (λ (v : Parser). v.nodes) t.is in
+      record {
+        at = x.at;
+        same = same_both (told_same t refl) x.same;
+        further = subst (λ (v : ℕ). v < q.prev_token_end) (ap (λ (v : Parser). v.token.span.start) t.is) x.further;
+        label = x.label;
+        slots = x.slots;
+        pass = x.pass;
+        walked = walked_from (ap spot t.is) x.walked;
+        verdict = unclean (grown_on (kept_one t) x.verdict) (no_name_part a f (ap (may_name f.yield_ f.await_) k));
+        holds = subst (λ (ns : List Node). Holds q.nodes (length ns) (length q.nodes) id.0 x.label x.slots) n x.holds;
+        keeps = subst (λ (ns : List Node). Keeps ns q.nodes) n x.keeps;
+      }
+  string_bound_read s (Err Fatal) k t l = absurd l
+  string_bound_read s (Err NoMemory) k t l = tt
+
+-- ---- marks
+
+pub bound_marked : {p : Parser} → IsAt p → (p.token.kind ≡ Undetermined → ⊥) → BoundMarked p p.token.span
+bound_marked {p} a n = (token_marked p IdentifierExpected a n (λ p s x y. ((x, y), (refl, refl))), token_marked p IdentifierReservedWord a n (λ p s x y. ((x, y), (refl, refl))))
+
+pub bound_marked_later : {p q : Parser} {s : Span} → Same p q → BoundMarked p s → BoundMarked q s
+bound_marked_later s m = (marked_later s m.0, marked_later s m.1)
+
+-- the first name's token, where it was passed
+pub first_marked : {p q : Parser} {id : NodeId} {t : Token} → Standing p → TakesExportName p q (Ok id) → t ≡ p.token → BoundMarked q t.span
+unfolding words
+first_marked {p} {q} a n e = subst (λ (v : Token). BoundMarked q v.span) (sym e) (bound_marked_later (first_read a n).same (bound_marked a.at (determined n.0)))
+  where
+    determined : NamesExport p → p.token.kind ≡ Undetermined → ⊥
+    determined (inl h) u = false≢true (sym (ap (one_of_kinds identifier_name_kinds) u) ∙ h)
+    determined (inr (k, w)) u = no_undetermined p k u
+
+pub first_name : {p q : Parser} {id : NodeId} {t : Token} → TakesExportName p q (Ok id) → t ≡ p.token → IsExportName t
+first_name {p} n e = subst (λ (v : Token). IsExportName v) (sym e) (go n.0)
+  where
+    go : NamesExport p → IsExportName p.token
+    go (inl h) = inl h
+    go (inr (k, w)) = inr k
+
+pub first_spells : {p q : Parser} {id : NodeId} {t : Token} → Standing p → TakesExportName p q (Ok id) → t ≡ p.token → SpellsExport q.text t
+first_spells {p} {q} a n e = subst (λ (v : Token). SpellsExport q.text v) (sym e) (λ k. string_later q.text a k refl (first_read a n).same.follows.text, λ h. spells_later a h refl (first_read a n).same.follows.text)

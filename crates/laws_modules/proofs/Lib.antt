@@ -2,6 +2,7 @@ pub mod KeptParts
 pub mod WellFormed
 pub mod NameLists
 pub mod WholeParts
+pub mod TokenMarks
 pub mod StringUnits
 pub mod ModuleNames
 pub mod ImportSpecifiers

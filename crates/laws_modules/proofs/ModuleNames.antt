@@ -1,12 +1,14 @@
 -- Names of imports and exports (ECMA-262, 16.2.2).
 use Rattle.std.proofs.Common.{ℕ, ◌≡◌, inl, inr, List, [], ◌∷◌, Option, Some, None, Bool, true, false, refl, sym, ap, subst, ◌∙◌}
-use Rattle.std.specs.Prelude.{Result, Ok, Err, unwrap_or}
+use Rattle.std.specs.Prelude.{MatchResult, Result, Ok, Err, unwrap_or}
 use Rattle.std.proofs.lemmas.Bool.{false≢true}
 use Rattle.js_base.specs.KindSets.{identifier_name_kinds}
 use Rattle.js_base.specs.Kinds.{one_of_kinds}
 use Rattle.js_base.specs.Texts.{words}
+use Rattle.js_base.specs.declared.diagnostic.DiagnosticKind.TheVariants.{ExportLoneSurrogate}
 use Rattle.js_base.specs.declared.kind.Kind.{Kind}
-use Rattle.js_base.specs.declared.kind.Kind.TheVariants.{Str}
+use Rattle.js_base.specs.declared.kind.Kind.TheVariants.{Str, Undetermined}
+use Rattle.js_base.specs.declared.span.Span.{Span}
 use Rattle.js_base.specs.part_text.Decoding.{string_units}
 use Rattle.js_grammar.specs.Conditions.{well_formed}
 use Rattle.js_grammar.specs.Grammar.{nothing, seq, text as spelled}
@@ -24,23 +26,31 @@ use Rattle.laws_shared.specs.js_tree.declared.id.NodeId.{NodeId}
 use Rattle.laws_shared.specs.js_tree.declared.kind.NodeKind.{NodeKind}
 use Rattle.laws_shared.specs.js_tree.declared.kind.NodeKind.TheVariants as node
 use Rattle.laws_shared.specs.js_tree.declared.op.Op.TheVariants as op
+use Rattle.js_grammar.specs.Marks.{Mark}
+use Rattle.laws_shared.specs.js_cursor.Moves.{GivesUp, OnlyMemory}
 use Rattle.laws_shared.specs.js_cursor.Parsers.{Parser}
+use Rattle.laws_shared.specs.js_cursor.Places.{goal}
+use Rattle.laws_shared.specs.js_cursor.declared.stop.Stop.TheVariants.{Fatal, NoMemory}
+use Rattle.laws_shared.specs.Classes.{EndsParse}
+use Rattle.laws_shared.proofs.Giving.{gives_up}
+use Rattle.laws_shared.proofs.Verdicts.{after as grown_behind}
+use Rattle.laws_modules.proofs.TokenMarks.{marked_later, token_marked}
 use Rattle.laws_shared.specs.js_cursor.declared.stop.Stop.{Stop}
-use Rattle.laws_shared.specs.Answers.{Outcome}
+use Rattle.laws_shared.specs.Answers.{Outcome, Stops}
 use Rattle.laws_shared.specs.Lexemes.{Lex}
 use Rattle.laws_shared.specs.Methods.{WholeOutcome, WholeTaken}
 use Rattle.laws_shared.specs.Moves.{LeafTaken, Moved, TakesLeaf}
 use Rattle.laws_shared.specs.NodeTexts.{spelled_at}
-use Rattle.laws_shared.specs.States.{At}
+use Rattle.laws_shared.specs.States.{At, Standing}
 use Rattle.laws_shared.proofs.Ahead.{pass_over}
-use Rattle.laws_shared.proofs.Moving.{stops_so}
+use Rattle.laws_shared.proofs.Moving.{stops_behind, stops_so}
 use Rattle.laws_shared.proofs.Paths.{Path, ◌⟼◌, at_kind, by_symbol_as, fails_at, label_here, last_token, noded}
 use Rattle.laws_shared.proofs.Signs.{other_kind}
 use Rattle.laws_primary.proofs.Members.{name_taken, no_name}
 use Rattle.laws_primary.proofs.Properties.{kinds_apart}
 use Rattle.laws_primary.proofs.PropertyNames.{string_plain}
 use Rattle.laws_primary.proofs.Wholes.{whole_of}
-use Rattle.laws_modules.specs.ModuleNames.{NoExportName, PairedHere, TakesExportName, export_node, is_paired}
+use Rattle.laws_modules.specs.ModuleNames.{NoExportName, PairedHere, TakesExportName, export_node, is_paired, lone_surrogate}
 use Rattle.laws_modules.proofs.StringUnits.{string_spelled, string_units_are}
 use Rattle.laws_modules.proofs.WellFormed.{well_formed_as}
 use Rattle.laws_modules.proofs.WholeParts.{leaf_whole, whole_by, whole_symbol}
@@ -116,3 +126,32 @@ paired_as None = refl
 pub paired_here : {p q : Parser} {id : NodeId} (b : Bool) → p.token.kind ≡ Str → TakesLeaf node.StringLiteral op.None p q id → b ≡ is_paired (units_of (node_at q.nodes id) q.text) → PairedHere p b
 paired_here {p} {q} {id} b k t e text f a y l =
     ap (well_formed false) (string_spelled a k y l).1 ∙ (sym (paired_as (string_units (string_inside (spelled_at p.text p.token)))) ∙ (ap is_paired (sym (string_units_are a k t)) ∙ sym e))
+
+-- ---- what is told of a string in which a surrogate is alone
+
+pub no_undetermined : (p : Parser) → p.token.kind ≡ Str → p.token.kind ≡ Undetermined → ⊥
+no_undetermined p k e = let z : Str ≡ Undetermined = sym k ∙ e in cc
+
+pub string_taken : {text : List ℕ} {f : Flags} {p q : Parser} {id : NodeId} (a : At text f p) → p.token.kind ≡ Str → TakesLeaf node.StringLiteral op.None p q id → WholeTaken text f string p q id
+string_taken a k t = leaf_whole node.StringLiteral op.None (t _ _ a) (noded a (last_token Str a k (string_plain a k) refl (t _ _ a).moved))
+
+pub lone_marked : {p q : Parser} {id : NodeId} {s : Span} → Standing p → p.token.kind ≡ Str → TakesLeaf node.StringLiteral op.None p q id → s ≡ p.token.span → Mark (goal q) q.text (lone_surrogate s)
+lone_marked {p} {q} {s = s} a k t e = subst (λ (v : Span). Mark (goal q) q.text (lone_surrogate v)) (sym e) (marked_later (string_taken a k t).same (token_marked p ExportLoneSurrogate a.at (no_undetermined p k) (λ p s x y. ((x, y), (refl, refl)))))
+
+pub lone_stops : {text : List ℕ} {f : Flags} {p q : Parser} {id : NodeId} (s : Span) (r : Parser) (e : Stop) → (a : At text f p) → p.token.kind ≡ Str → TakesLeaf node.StringLiteral op.None p q id → PairedHere p false → GivesUp (λ d. d ≡ lone_surrogate s) q r e → Stops p r e (NoExportName text f p.prev_token_end)
+lone_stops {q = q} s r e a k t w g = let x = string_taken a k t in stops_behind r e x.same (λ d. grown_behind x.verdict d) (λ z. z) (gives_up (λ d. d ≡ lone_surrogate s) q r e x.at g (λ d u. subst EndsParse (sym u) refl) (lone_fails a k w))
+
+pub memory_name : (p q : Parser) (r : Result NodeId Stop) → MatchResult r (λ id. TakesExportName p q (Ok id)) OnlyMemory → TakesExportName p q r
+memory_name p q (Ok id) x = x
+memory_name p q (Err Fatal) x = absurd x
+memory_name p q (Err NoMemory) x = λ text f a. tt
+
+-- a name or a word was passed
+pub word_taken : (p q : Parser) (r : Result NodeId Stop) → one_of_kinds identifier_name_kinds p.token.kind ≡ true → MatchResult r (λ id. TakesLeaf node.IdentifierName op.None p q id) OnlyMemory → TakesExportName p q r
+word_taken p q (Ok id) h t = (inl h, subst (λ (v : NodeKind). TakesLeaf v op.None p q id) (sym (word_node p.token.kind h)) t)
+word_taken p q (Err Fatal) h t = absurd t
+word_taken p q (Err NoMemory) h t = λ text f a. tt
+
+-- a string was
+pub string_name : {p q : Parser} {id : NodeId} → p.token.kind ≡ Str → TakesLeaf node.StringLiteral op.None p q id → PairedHere p true → TakesExportName p q (Ok id)
+string_name {p} {q} {id} k t w = (inr (k, w), subst (λ (v : NodeKind). TakesLeaf v op.None p q id) (sym (ap export_node k)) t)

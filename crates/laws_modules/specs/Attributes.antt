@@ -64,3 +64,10 @@ TakesAttributes old new (Ok (Some id)) = ((w : ClauseWord) × BeginsClause w old
 TakesAttributes old new (Ok None) = NoClause old × (new ≡ old)
 TakesAttributes old new (Err Fatal) = ((w : ClauseWord) × BeginsClause w old) × ((text : List ℕ) (f : Flags) → At text f old → Stops old new Fatal (Fails rule (Lex text) (plain full) end (symbol Attrs f) old.prev_token_end))
 TakesAttributes old new (Err NoMemory) = Unit {0}
+
+-- what the parse function of a clause answers
+abbrev pub ClauseOf : Parser → Parser → NodeId → Type 0
+ClauseOf p q id = (text : List ℕ) (f : Flags) → At text f p → ClauseTaken text f p q id
+
+abbrev pub NoClauseOf : Parser → Parser → Stop → Type 0
+NoClauseOf p q e = (text : List ℕ) (f : Flags) → At text f p → Stops p q e (Fails rule (Lex text) (plain full) end (symbol Attrs f) p.prev_token_end)

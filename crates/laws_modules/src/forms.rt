@@ -7,10 +7,6 @@ use laws_shared::NodeId;
 pub enum NameList {
     /// The names of an import (ECMA-262, section 16.2.2).
     Imports,
-    /// The names of an export with `from` behind it (section 16.2.3).
-    Named,
-    /// The names of an export without `from`, of which the local ones are references (section 16.2.3).
-    Referenced,
     /// The entries of a WithClause (section 16.2.2).
     Attributes,
 }

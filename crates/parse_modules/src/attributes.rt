@@ -1,5 +1,8 @@
 //! Attributes of imports and exports (ECMA-262, section 16.2.2).
 
+ghost use Rattle.std.specs.Prelude.{MatchResult};
+ghost use Rattle.parse_modules.specs.Prelude.{Attributes, BeginsClause, ClauseOf, EndsParse, FindsClause, GivesUp, key_part, NoClauseOf, ReadsNamed, ReadsWhole, Standing, TakesAttributes};
+
 use crate::name_list::parse_name_list;
 use js_base::{DiagnosticKind, Kind};
 use laws_modules::forms::NameList;
@@ -9,12 +12,13 @@ use parse_shared::lexemes::{advance, keyword_of};
 use parse_shared::nodes::{make_list, make_two};
 use parse_shared::{ClauseWord, NodeId, NodeKind, Op, ParserConfig, ParserImpl, Stop};
 
-/// A WithClause (ECMA-262, section 16.2.2), or its older form with `assert` on the line of what stands before it; none where neither
+/// A WithClause (ECMA-262, section 16.2.2), or its older form with `assert` on the line of what stands before; none where neither
 /// word stands here.
-pub fn parse_attributes<C: ParserConfig>(
-    p: &mut ParserImpl<'_, C>,
-) -> Result<Option<NodeId>, Stop> {
-    let Some(word) = attributes_word(p) else {
+pub fn parse_attributes<C: ParserConfig>(p: &mut ParserImpl<'_, C>) -> Result<Option<NodeId>, Stop>
+    requires { Standing p.old }
+    ensures { TakesAttributes p.old p.new result }
+{
+    let Some(word) = clause_word(p) else {
         return Ok(None);
     };
     let clause = parse_with_clause(p, word)?;
@@ -22,7 +26,9 @@ pub fn parse_attributes<C: ParserConfig>(
 }
 
 /// Which of the two words stands here.
-fn attributes_word<C: ParserConfig>(p: &ParserImpl<'_, C>) -> Option<ClauseWord> {
+fn clause_word<C: ParserConfig>(p: &ParserImpl<'_, C>) -> Option<ClauseWord>
+    ensures { FindsClause p.now result }
+{
     let token = p.cur_token();
     match keyword_of(token) {
         Kind::With => Some(ClauseWord::With),
@@ -41,7 +47,11 @@ fn attributes_word<C: ParserConfig>(p: &ParserImpl<'_, C>) -> Option<ClauseWord>
 fn parse_with_clause<C: ParserConfig>(
     p: &mut ParserImpl<'_, C>,
     word: ClauseWord,
-) -> Result<NodeId, Stop> {
+) -> Result<NodeId, Stop>
+    requires at { Standing p.old }
+    requires begins { BeginsClause word p.old }
+    ensures { MatchResult result (λ id. ClauseOf p.old p.new id) (λ e. NoClauseOf p.old p.new e) }
+{
     advance(p)?;
     let start = p.cur_start();
     let none = Vec::new(p.alloc);
@@ -53,7 +63,10 @@ fn parse_with_clause<C: ParserConfig>(
 
 /// An entry of a WithClause: a key, a colon and a string (ECMA-262, section 16.2.2).
 /// Reads: Attr.
-pub(crate) fn parse_attribute<C: ParserConfig>(p: &mut ParserImpl<'_, C>) -> Result<NodeId, Stop> {
+pub(crate) fn parse_attribute<C: ParserConfig>(p: &mut ParserImpl<'_, C>) -> Result<NodeId, Stop>
+    requires { Standing p.old }
+    ensures { ReadsNamed Attributes p.old p.new result }
+{
     let start = p.cur_start();
     let key = parse_key(p)?;
     p.expect(Kind::Colon)?;
@@ -67,7 +80,10 @@ pub(crate) fn parse_attribute<C: ParserConfig>(p: &mut ParserImpl<'_, C>) -> Res
 }
 
 /// The key of an entry: a name or a word, or a string.
-fn parse_key<C: ParserConfig>(p: &mut ParserImpl<'_, C>) -> Result<NodeId, Stop> {
+fn parse_key<C: ParserConfig>(p: &mut ParserImpl<'_, C>) -> Result<NodeId, Stop>
+    requires { Standing p.old }
+    ensures { ReadsWhole (λ f. key_part f) p.old p.new result }
+{
     if p.at(Kind::Str) {
         return parse_string(p);
     }
@@ -76,13 +92,13 @@ fn parse_key<C: ParserConfig>(p: &mut ParserImpl<'_, C>) -> Result<NodeId, Stop>
 
 /// Gives up where the value of an entry is no string.
 #[inline(never)]
-fn refuse_value<C: ParserConfig>(p: &mut ParserImpl<'_, C>) -> Stop {
+fn refuse_value<C: ParserConfig>(p: &mut ParserImpl<'_, C>) -> Stop
+    requires { Standing p.old }
+    ensures { GivesUp EndsParse p.old p.new result }
+{
     if p.at(Kind::Undetermined) {
         return p.set_unexpected();
     }
     let span = p.cur_token().span();
-    p.set_fatal_error(diagnostic_at(
-        DiagnosticKind::ImportAttributeValueMustBeStringLiteral,
-        span,
-    ))
+    p.set_fatal_error(diagnostic_at(DiagnosticKind::ImportAttributeValueMustBeStringLiteral, span))
 }

@@ -2,14 +2,9 @@
 #![tactic(auto)]
 
 pub mod attributes;
-pub mod export_declaration;
-pub mod export_default;
-pub mod export_specifier;
-pub mod exported_class;
 pub mod import_clause;
 pub mod import_declaration;
 pub mod import_specifier;
-pub mod module_item;
 pub mod module_name;
 pub mod name_list;
 pub mod source;

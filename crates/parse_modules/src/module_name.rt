@@ -1,37 +1,65 @@
 //! Names of imports and exports (ECMA-262, section 16.2.2).
 
-use js_base::{DiagnosticKind, Kind, NoMemory, Token, decode_string};
-use parse_primary::leaf::{parse_identifier_name, parse_string};
+ghost use Rattle.std.specs.Prelude.{◌≡◌, ◌<◌, [], IfOk, length};
+ghost use Rattle.parse_modules.specs.Prelude.{export_node, goal, GivesUp, is_paired, IsExportName, IsString, LiesIn, lone_surrogate, MadeHere, Mark, node_at, plain_label, SpellsExport, Standing, Str, TakesExportName, units_of};
+ghost use Rattle.laws_modules.specs.laws_primary.js_tree.declared.op.Op.TheVariants as op;
+
+use js_base::{DiagnosticKind, Kind, NoMemory, Span, Token};
+use parse_primary::leaf::{parse_name, parse_string};
 use parse_shared::diagnostics::diagnostic_at;
 use parse_shared::nodes::{make_name, make_string};
 use parse_shared::{NodeId, NodeKind, ParserConfig, ParserImpl, Stop};
 
 /// A ModuleExportName (ECMA-262, section 16.2.2): a name or a word, or a string in which no surrogate is alone.
 /// Reads: ExportName.
-pub fn parse_module_export_name<C: ParserConfig>(
-    p: &mut ParserImpl<'_, C>,
-) -> Result<NodeId, Stop> {
-    if !p.at(Kind::Str) {
-        return parse_identifier_name(p);
+pub fn parse_module_export_name<C: ParserConfig>(p: &mut ParserImpl<'_, C>) -> Result<NodeId, Stop>
+    requires { Standing p.old }
+    ensures { TakesExportName p.old p.new result }
+{
+    if p.at(Kind::Str) {
+        return parse_module_string(p);
     }
-    if !is_well_formed(p)? {
-        return Err(refuse_lone_surrogate(p));
+    if !p.cur_kind().is_identifier_name() {
+        return Err(p.set_unexpected());
     }
-    parse_string(p)
+    parse_name(p, NodeKind::IdentifierName)
 }
 
-/// Whether each surrogate of the string that stands here is half of a pair (ECMA-262, section 7.2.9).
-pub(crate) fn is_well_formed<C: ParserConfig>(p: &ParserImpl<'_, C>) -> Result<bool, NoMemory> {
-    let token = p.cur_token();
-    let inside = &p.source_text[token.start() as usize + 1..token.end() as usize - 1];
-    let units = decode_string(p.alloc, inside)?;
+/// The string that stands here, as such a name.
+fn parse_module_string<C: ParserConfig>(p: &mut ParserImpl<'_, C>) -> Result<NodeId, Stop>
+    requires at { Standing p.old }
+    requires string { p.old.token.kind ≡ Str }
+    ensures { TakesExportName p.old p.new result }
+{
+    let span = p.cur_token().span();
+    let string = parse_string(p)?;
+    if !is_well_formed(p, string)? {
+        return Err(refuse_lone_surrogate(p, span));
+    }
+    Ok(string)
+}
+
+/// Whether each surrogate of the string of a node is half of a pair (ECMA-262, section 7.2.9).
+fn is_well_formed<C: ParserConfig>(
+    p: &ParserImpl<'_, C>,
+    string: NodeId,
+) -> Result<bool, NoMemory>
+    requires contained { string.0 < length p.now.nodes }
+    requires lies { LiesIn (node_at p.now.nodes string).span p.now.text }
+    requires string { IsString (node_at p.now.nodes string) p.now.text }
+    ensures { IfOk result (λ b. b ≡ is_paired (units_of (node_at p.now.nodes string) p.now.text)) }
+{
+    let units = p.ast.string_value(p.alloc, string, p.source_text)?;
     Ok(units.is_well_formed())
 }
 
 /// Gives up at a string in which a surrogate is alone.
 #[inline(never)]
-fn refuse_lone_surrogate<C: ParserConfig>(p: &mut ParserImpl<'_, C>) -> Stop {
-    let span = p.cur_token().span();
+fn refuse_lone_surrogate<C: ParserConfig>(p: &mut ParserImpl<'_, C>, span: Span) -> Stop
+    requires at { Standing p.old }
+    requires mark { Mark (goal p.old) p.old.text (lone_surrogate span) }
+    ensures { GivesUp (λ d. d ≡ lone_surrogate span) p.old p.new result }
+{
     p.set_fatal_error(diagnostic_at(DiagnosticKind::ExportLoneSurrogate, span))
 }
 
@@ -39,7 +67,11 @@ fn refuse_lone_surrogate<C: ParserConfig>(p: &mut ParserImpl<'_, C>) -> Stop {
 pub(crate) fn make_export_name<C: ParserConfig>(
     p: &mut ParserImpl<'_, C>,
     token: Token,
-) -> Result<NodeId, NoMemory> {
+) -> Result<NodeId, NoMemory>
+    requires spells { SpellsExport p.old.text token }
+    requires name { IsExportName token }
+    ensures { IfOk result (λ id. MadeHere (plain_label (export_node token.kind) op.None token.span) [] p.old p.new id) }
+{
     match token.kind() {
         Kind::Str => make_string(p, token.span()),
         _ => make_name(p, NodeKind::IdentifierName, token),
