@@ -4,7 +4,7 @@
 //   node bench/nesting.mjs PROGRAM [KILOBYTES OF STACK [COUNT [SEED]]]
 import { spawnSync } from 'node:child_process'
 
-const [program, stack = '7680', count = '300', seed = '1'] = process.argv.slice(2)
+const [program, stack = '8192', count = '300', seed = '1'] = process.argv.slice(2)
 
 // A form stands where its first letter says and leaves room for its second: an expression, a statement, a list of statements in
 // a function's body or elsewhere, a pattern. What stands before the room and what behind it.
