@@ -4,7 +4,7 @@ use Rattle.std.specs.Prelude.{Err}
 use Rattle.std.proofs.lemmas.Bool.{false≢true, and_parts}
 use Rattle.js_base.specs.Kinds.{one_of_kinds, same_kind}
 use Rattle.js_base.specs.declared.diagnostic.DiagnosticKind.TheVariants.{ExpectToken, ImportEqualsInTs}
-use Rattle.js_base.specs.declared.kind.Kind.TheVariants.{As, Comma, Eq, From, LCurly, Star, Undetermined}
+use Rattle.js_base.specs.declared.kind.Kind.TheVariants.{As, Comma, Eq, From, LCurly, Star}
 use Rattle.js_base.specs.declared.span.Span.{Span}
 use Rattle.js_grammar.specs.Grammar.{Lexeme, nothing, seq}
 use Rattle.js_grammar.specs.Parsing.{Test, plain, full, still, Goes, Fails}
@@ -18,7 +18,7 @@ use Rattle.laws_shared.specs.js_tree.declared.id.NodeId.{NodeId}
 use Rattle.laws_shared.specs.js_tree.declared.kind.NodeKind.TheVariants as node
 use Rattle.laws_shared.specs.js_tree.declared.op.Op.TheVariants as op
 use Rattle.laws_shared.proofs.js_tree.HoldingLemmas.{HoldsAll-none, Keeps-trans, Keeps-made}
-use Rattle.laws_shared.specs.js_cursor.Moves.{Expects, GivesUp, IsKind, IsUnexpected, MovesOn, at_lexeme}
+use Rattle.laws_shared.specs.js_cursor.Moves.{Expects, GivesUp, IsKind, IsUnexpected, MovesOn}
 use Rattle.laws_shared.specs.js_cursor.Parsers.{Parser}
 use Rattle.laws_shared.specs.js_cursor.declared.stop.Stop.{Stop}
 use Rattle.laws_shared.specs.Answers.{Stops}

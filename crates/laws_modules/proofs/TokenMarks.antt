@@ -1,13 +1,11 @@
 -- The marks of what is told of a lexeme, where it stands and where it was passed last.
-use Rattle.std.proofs.Common.{ℕ, ◌≡◌, List, None, refl, sym, ap, subst, arith, ◌∙◌}
-use Rattle.std.specs.Prelude.{IsCharBoundary}
+use Rattle.std.proofs.Common.{ℕ, ◌≡◌, List, None, refl, sym, subst}
 use Rattle.js_base.specs.declared.diagnostic.Diagnostic.{Diagnostic}
 use Rattle.js_base.specs.declared.diagnostic.DiagnosticKind.{DiagnosticKind}
 use Rattle.js_base.specs.declared.kind.Kind.TheVariants.{Undetermined}
 use Rattle.js_base.specs.declared.source_type.SourceType.{SourceType}
 use Rattle.js_base.specs.declared.span.Span.{Span}
 use Rattle.js_grammar.specs.Marks.{EdgeOf, Mark, StandsAt, the_end, the_start}
-use Rattle.js_grammar.specs.Productions.{Flags}
 use Rattle.laws_shared.specs.js_lex.States.{goal_of}
 use Rattle.laws_shared.specs.js_cursor.Moves.{at_lexeme}
 use Rattle.laws_shared.specs.js_cursor.Parsers.{Parser}
