@@ -1,13 +1,11 @@
 //! Names of imports and exports (ECMA-262, section 16.2.2).
 
-ghost use Rattle.std.specs.Prelude.{◌≡◌, ◌<◌, [], IfOk, length};
-ghost use Rattle.parse_modules.specs.Prelude.{export_node, goal, GivesUp, is_paired, IsExportName, IsString, LiesIn, lone_surrogate, MadeHere, Mark, node_at, plain_label, SpellsExport, Standing, Str, TakesExportName, units_of};
-ghost use Rattle.laws_modules.specs.laws_primary.js_tree.declared.op.Op.TheVariants as op;
+ghost use Rattle.std.specs.Prelude.{◌≡◌, ◌<◌, IfOk, length};
+ghost use Rattle.parse_modules.specs.Prelude.{goal, GivesUp, is_paired, IsString, LiesIn, lone_surrogate, Mark, node_at, Standing, Str, TakesExportName, units_of};
 
-use js_base::{DiagnosticKind, Kind, NoMemory, Span, Token};
+use js_base::{DiagnosticKind, Kind, NoMemory, Span};
 use parse_primary::leaf::{parse_name, parse_string};
 use parse_shared::diagnostics::diagnostic_at;
-use parse_shared::nodes::{make_name, make_string};
 use parse_shared::{NodeId, NodeKind, ParserConfig, ParserImpl, Stop};
 
 /// A ModuleExportName (ECMA-262, section 16.2.2): a name or a word, or a string in which no surrogate is alone.
@@ -61,19 +59,4 @@ fn refuse_lone_surrogate<C: ParserConfig>(p: &mut ParserImpl<'_, C>, span: Span)
     ensures { GivesUp (λ d. d ≡ lone_surrogate span) p.old p.new result }
 {
     p.set_fatal_error(diagnostic_at(DiagnosticKind::ExportLoneSurrogate, span))
-}
-
-/// The node of a ModuleExportName, by its token.
-pub(crate) fn make_export_name<C: ParserConfig>(
-    p: &mut ParserImpl<'_, C>,
-    token: Token,
-) -> Result<NodeId, NoMemory>
-    requires spells { SpellsExport p.old.text token }
-    requires name { IsExportName token }
-    ensures { IfOk result (λ id. MadeHere (plain_label (export_node token.kind) op.None token.span) [] p.old p.new id) }
-{
-    match token.kind() {
-        Kind::Str => make_string(p, token.span()),
-        _ => make_name(p, NodeKind::IdentifierName, token),
-    }
 }
