@@ -100,5 +100,8 @@ fn refuse_value<C: ParserConfig>(p: &mut ParserImpl<'_, C>) -> Stop
         return p.set_unexpected();
     }
     let span = p.cur_token().span();
-    p.set_fatal_error(diagnostic_at(DiagnosticKind::ImportAttributeValueMustBeStringLiteral, span))
+    p.set_fatal_error(diagnostic_at(
+        DiagnosticKind::ImportAttributeValueMustBeStringLiteral,
+        span,
+    ))
 }

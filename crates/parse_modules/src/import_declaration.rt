@@ -54,8 +54,14 @@ fn make_import<C: ParserConfig>(
     children.push(Some(source.specifier))?;
     children.push(source.attributes)?;
     children.extend_from_slice(specifiers.as_slice())?;
-    p.ast
-        .node(NodeKind::ImportDeclaration, span, Op::None, flags, None, children)
+    p.ast.node(
+        NodeKind::ImportDeclaration,
+        span,
+        Op::None,
+        flags,
+        None,
+        children,
+    )
 }
 
 /// The flags of an ImportDeclaration, which imports names or none.

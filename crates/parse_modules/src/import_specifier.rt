@@ -42,7 +42,14 @@ fn make_specifier<C: ParserConfig>(
     ensures { IfOk result (λ id. MadeHere (specifier_label start p.old.prev_token_end) (Some imported ∷ Some local ∷ []) p.old p.new id) }
 {
     let span = p.end_span(start);
-    make_two(p, NodeKind::ImportSpecifier, Op::None, span, imported, local)
+    make_two(
+        p,
+        NodeKind::ImportSpecifier,
+        Op::None,
+        span,
+        imported,
+        local,
+    )
 }
 
 /// The BindingIdentifier behind `as`. That a string stands there is told, and reading goes on.

@@ -38,10 +38,7 @@ fn parse_module_string<C: ParserConfig>(p: &mut ParserImpl<'_, C>) -> Result<Nod
 }
 
 /// Whether each surrogate of the string of a node is half of a pair (ECMA-262, section 7.2.9).
-fn is_well_formed<C: ParserConfig>(
-    p: &ParserImpl<'_, C>,
-    string: NodeId,
-) -> Result<bool, NoMemory>
+fn is_well_formed<C: ParserConfig>(p: &ParserImpl<'_, C>, string: NodeId) -> Result<bool, NoMemory>
     requires contained { string.0 < length p.now.nodes }
     requires lies { LiesIn (node_at p.now.nodes string).span p.now.text }
     requires string { IsString (node_at p.now.nodes string) p.now.text }

@@ -47,10 +47,7 @@ fn parse_listed_item<C: ParserConfig>(
 }
 
 /// An item of such a list.
-fn parse_item<C: ParserConfig>(
-    p: &mut ParserImpl<'_, C>,
-    list: NameList,
-) -> Result<NodeId, Stop>
+fn parse_item<C: ParserConfig>(p: &mut ParserImpl<'_, C>, list: NameList) -> Result<NodeId, Stop>
     requires { Standing p.old }
     ensures { ReadsNamed list p.old p.new result }
 {

@@ -1,4 +1,4 @@
-use Rattle.std.proofs.Common.{[], ap, arith, subst, ◌∙◌, List, Option}
+use Rattle.std.proofs.Common.{ap, arith, subst, ◌∙◌, List, Option}
 use Rattle.std.proofs.lemmas.Result.{err_from_is_err_and}
 use Rattle.js_base.specs.KindSets.{identifier_name_kinds}
 use Rattle.js_base.specs.Kinds.{one_of_kinds}

@@ -1,4 +1,4 @@
-use Rattle.std.proofs.Common.{◌≡◌, inl, inr, Bool, true, false, refl, ap, subst, sym, arith, ◌∙◌}
+use Rattle.std.proofs.Common.{◌≡◌, inl, inr, Bool, true, false, ap, subst, sym, arith, ◌∙◌}
 use Rattle.std.specs.Prelude.{Ok, Err}
 use Rattle.std.proofs.lemmas.Result.{err_from_is_err_and}
 use Rattle.js_base.specs.declared.kind.Kind.TheVariants.{As}
@@ -6,10 +6,9 @@ use Rattle.js_base.specs.declared.token.Token.{Token}
 use Rattle.laws_modules.specs.laws_primary.js_tree.declared.id.NodeId.{NodeId}
 use Rattle.laws_modules.specs.laws_primary.js_cursor.Moves.{Eats, IsKind, MovesOn}
 use Rattle.laws_modules.specs.laws_primary.js_cursor.Parsers.{Parser}
-use Rattle.laws_modules.specs.laws_primary.js_cursor.declared.stop.Stop.{Stop}
 use Rattle.laws_modules.proofs.laws_primary.laws_shared.Moving.{standing}
 use Rattle.laws_modules.proofs.ImportSpecifiers.{as_moved, bound_stops, double_answers, double_start, first_marked, first_read, first_spells, name_stops, single_answers, single_stops}
-use Rattle.parse_modules.specs.Prelude.{BindsSingle, BoundMarked, MadeHere, SpellsExport, Standing, StandsHere}
+use Rattle.parse_modules.specs.Prelude.{BindsSingle, BoundMarked, SpellsExport, Standing, StandsHere}
 use Rattle.parse_modules.proofs.import_specifier.parse_import_specifier.Goals as goal
 
 -- what `eat` answers

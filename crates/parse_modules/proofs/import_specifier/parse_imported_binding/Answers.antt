@@ -2,7 +2,6 @@ use Rattle.std.proofs.Common.{◌≡◌, true, ap, subst, sym, ◌∙◌}
 use Rattle.std.proofs.lemmas.Bool.{false≢true}
 use Rattle.js_base.specs.Kinds.{one_of_kinds}
 use Rattle.js_base.specs.Texts.{reserved_words}
-use Rattle.js_base.specs.declared.kind.Kind.{Kind}
 use Rattle.js_base.specs.declared.token.Token.{Token}
 use Rattle.parse_modules.specs.Prelude.{GivesUp, Mark, word_bound}
 use Rattle.parse_modules.specs.Prelude.{goal as goal_of}

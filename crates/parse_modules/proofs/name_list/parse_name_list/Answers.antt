@@ -1,7 +1,7 @@
 use Rattle.std.proofs.Common.{ap, ◌∙◌}
 use Rattle.js_base.specs.declared.token.Token.{Token}
 use Rattle.std.proofs.lemmas.Result.{err_from_is_err_and}
-use Rattle.laws_modules.proofs.NameLists.{ending_stops, item_less, list_unopened, loop_end, loop_item, loop_start, loop_stops}
+use Rattle.laws_modules.proofs.NameLists.{item_less, list_unopened, loop_end, loop_item, loop_start, loop_stops}
 use Rattle.parse_modules.proofs.name_list.parse_name_list.Goals as goal
 
 pub returns-in_err-expect : goal.returns-in_err-expect
