@@ -1,0 +1,8 @@
+pub mod NameLists
+pub mod ModuleNames
+pub mod ImportSpecifiers
+pub mod Attributes
+pub mod Sources
+pub mod ImportClauses
+pub mod ImportDeclarations
+pub use Rattle.laws_primary.specs as laws_primary

@@ -1,0 +1,1 @@
+pub use Rattle.laws_modules.proofs as laws_modules

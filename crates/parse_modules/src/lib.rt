@@ -1,0 +1,12 @@
+//! Import and export declarations (ECMA-262, section 16.2).
+#![tactic(auto)]
+
+pub mod attributes;
+pub mod import_clause;
+pub mod import_declaration;
+pub mod import_specifier;
+pub mod module_name;
+pub mod name_list;
+pub mod source;
+
+pub use laws_modules::forms;
