@@ -2,7 +2,6 @@
 use Rattle.std.proofs.Common.{ℕ, ◌≡◌, ◌≤◌, ◌<◌, inl, inr, max, true, List, [], ◌∷◌, ◌++◌, length, Option, Some, false, refl, sym, ap, subst, arith, ◌∙◌}
 use Rattle.std.specs.Prelude.{None, Ok, Err}
 use Rattle.std.proofs.lemmas.Bool.{false≢true}
-use Rattle.js_base.specs.declared.diagnostic.Diagnostic.{Diagnostic}
 use Rattle.js_base.specs.declared.diagnostic.DiagnosticKind.TheVariants.{ExpectClosingOrSeparator, ExpectToken}
 use Rattle.js_base.specs.declared.kind.Kind.TheVariants.{RCurly, RAngle, LParen, LBrack, RBrack, RParen, LCurly, Comma}
 use Rattle.js_base.specs.declared.span.Span.{Span}
@@ -219,8 +218,3 @@ loop_stops {text = text} {f} r e z a d = let y = z.goes text f a in stops_behind
 
 pub loop_end : {l : NameList} {s : Span} {is ids : List (Option NodeId)} {p q r : Parser} → NameLoop l s is ids p q → q.token.kind ≡ RCurly → MovesOn q r → ListTaken l is ids p r
 loop_end {l = l} {ids = ids} z k v text f a = let y = z.goes text f a in parts y (items_end l y.at k ids (moves (uncut y.at (ap (same_kind RAngle) k), ap unpassable k) v y.at))
-
--- where the closing brace stands, nothing but want of memory keeps it from being passed
-pub ending_stops : (o p q : Parser) (e : Stop) (F : Type 0) (P : Diagnostic → Type 0) → p.token.kind ≡ RCurly → (e ≡ Fatal → p.token.kind ≡ RCurly → ⊥) × GivesUp P p q e → Stops o q e F
-ending_stops o p q Fatal F P k z = absurd (z.0 refl k)
-ending_stops o p q NoMemory F P k z = tt

@@ -50,7 +50,8 @@ use Rattle.laws_primary.proofs.Wholes.{whole_part}
 use Rattle.laws_modules.specs.Attributes.{BeginsClause, ClauseTaken, NoClause, TakesAttributes}
 use Rattle.laws_modules.specs.Sources.{NoSource}
 use Rattle.laws_modules.proofs.Attributes.{string_read}
-use Rattle.laws_modules.proofs.Endings.{omits, unended, whole_semicolon}
+use Rattle.laws_modules.proofs.Endings.{omits, unended}
+use Rattle.laws_statements.proofs.Statements.{whole_semicolon}
 
 any_between : {X : Test} {a b : G} {s : ℕ} → Between rule X (plain full) end a b s
 any_between = record { admits = λ ts us vs j k ls mid rest d d' e. (refl, refl) }
