@@ -2,8 +2,7 @@
 use Rattle.std.proofs.Common.{ℕ, ◌≡◌, true, not, IsTrue, refl}
 use Rattle.js_grammar.specs.Trees.{Slots, Tree, Label, end, tree}
 use Rattle.js_grammar.specs.Grammar.{Lexemes, last, next, here, Look, seen, alt, Takes, Derives, is_nothing, is_lexeme, is_look, is_text, is_ahead, is_empty_slot, is_seq, is_left, is_right, is_when, is_many, is_commas, is_such, is_marked, is_node, is_ended, is_keep, is_kept}
-use Rattle.js_grammar.specs.Productions.{G, Flags, Name, Symbol, Item, ExportDecl, ImportDecl}
-use Rattle.js_grammar.specs.Productions.{sym as symbol}
+use Rattle.js_grammar.specs.Productions.{G, Flags, Name, Symbol, Item, ExportDecl}
 use Rattle.js_grammar.specs.Table.{rule, rule_of, unbuilt_of, whole}
 use Rattle.js_grammar.specs.FirstSets.{first}
 use Rattle.js_grammar.specs.TableLaws.{begins_unbuilt, BeginNoUnbuilt, BuiltInWhole}
@@ -61,8 +60,7 @@ no_export f (is_right (is_right (is_right (is_right (is_right (is_right (is_keep
 
 no_module_item : (f : Flags) {ks ts us : Slots} {i j : ℕ} {ls rest : Lexemes} → Takes rule (unbuilt_of Item f) ks ts i ls us j rest → BeginNoUnbuilt ls → ⊥
 unfolding rule unbuilt_of apart
-no_module_item f (is_when q (is_left d)) c = away (symbol ImportDecl f) refl d c
-no_module_item f (is_when q (is_right (is_such d t))) c = no_export f d c
+no_module_item f (is_when q (is_such d t)) c = no_export f d c
 
 -- so with each nonterminal, by computing
 unbuilt_away : (n : Name) (f : Flags) {ks ts us : Slots} {i j : ℕ} {ls rest : Lexemes} → Takes rule (unbuilt_of n f) ks ts i ls us j rest → BeginNoUnbuilt ls → ⊥

@@ -61,7 +61,7 @@ alone : {t : Label} {cs : Slots} {i e : ℕ} {ls : Lexemes} → IsTrue (seen (ot
 unfolding rule rule_of
 alone a b c s d =
     is_node (is_seq (is_right is_nothing) (is_seq (is_many (is_right is_nothing)) (is_left (is_seq
-    (is_such (is_such (is_right (is_left (is_seq (is_left (is_look c)) (is_such (is_node (is_seq (is_look a) (is_seq (is_left (is_look b)) (is_seq (is_left (is_look c)) (is_ended refl (is_such d refl) (is_right (is_look refl))))))) refl)))) refl) s)
+    (is_such (is_left (is_such (is_right (is_left (is_seq (is_left (is_look c)) (is_such (is_node (is_seq (is_look a) (is_seq (is_left (is_look b)) (is_seq (is_left (is_look c)) (is_ended refl (is_such d refl) (is_right (is_look refl))))))) refl)))) refl)) s)
     (is_many (is_right is_nothing))))))
 
 -- Brackets.

@@ -207,10 +207,11 @@ pub record EarlyOk (text : List ℕ) (t : Tree) : Type 0 where
   pub no_static_prototype : IsTrue (everywhere (no_static_prototype text) (tree t.label t.slots end))
   pub plain_constructor : IsTrue (everywhere (plain_constructor text) (tree t.label t.slots end))
 
--- Those that a tree may break that the productions derive which are built: not that of `default` and that of `try`, which the table leaves out, and not that of attributes, which no such tree has.
+-- Those that a tree may break that the productions derive which are built: not that of `default` and that of `try`, which the table leaves out.
 pub record MeetsEarlyRules (text : List ℕ) (t : Tree) : Type 0 where
   pub not_u_and_v : IsTrue (everywhere (not_u_and_v text) (tree t.label t.slots end))
   pub cooked : IsTrue (templates_cooked text (tree t.label t.slots end))
+  pub attribute_keys_differ : IsTrue (everywhere (attribute_keys_differ text) (tree t.label t.slots end))
   pub no_private_constructor : IsTrue (everywhere (no_private_constructor text) (tree t.label t.slots end))
   pub no_field_constructor : IsTrue (everywhere (no_field_constructor text) (tree t.label t.slots end))
   pub no_static_prototype : IsTrue (everywhere (no_static_prototype text) (tree t.label t.slots end))

@@ -158,7 +158,7 @@ rule_of Program f = node (record { kind = program; op = no_op; flags = 0; extent
 -- a Directive Prologue (11.2.1)
 rule_of Directive f = mk directive (ended by_edge string)
 -- ScriptBody (16.1), ModuleItem (16.2)
-rule_of Item f = sym ListItem f
+rule_of Item f = sym ListItem f ◇ when f.module_goal (sym ImportDecl f)
 -- StatementListItem (14.2); an expression statement here does not begin with `let` and a name or `{`
 rule_of ListItem f = sym Statement f ◇ not_then (is 'let') (word_or (LCurly ∷ [])) ▸ sym ExprStmt f ◇ sym Function f ◇ sym Class f ◇ sym Lexical f
 -- a Statement as the body of another; function declarations there (B.3.1, B.3.3)
@@ -391,9 +391,9 @@ rule_of ExportDecl f = mk export_all_declaration (tok 'export' ▸ tok Star ▸ 
 -- The head of an arrow function with its parameters in parentheses, before what stands behind `=>` is looked at (CoverParenthesizedExpressionAndArrowParameterList, 13.2; CoverCallExpressionAndAsyncArrowHead, 13.3): a newline may stand before `=>`.
 rule_of LooseHead f = each (λ a. only a (tok 'async' ▸ no_newline) ▸ sym Params (record f { await_ = f.await_ || a }) ▸ tok Arrow)
 
--- The lines of the language that no parse function reads yet, beside those above: import and export declarations.
+-- The lines of the language that no parse function reads yet, beside those above: export declarations.
 unfoldable pub unbuilt_of : Name → Flags → G
-unbuilt_of Item f = when f.module_goal (sym ImportDecl f ◇ sym ExportDecl f)  -- ModuleItem (16.2)
+unbuilt_of Item f = when f.module_goal (sym ExportDecl f)  -- ModuleItem (16.2)
 unbuilt_of _ f = never
 
 -- The productions that are built.

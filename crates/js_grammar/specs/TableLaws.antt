@@ -2,8 +2,8 @@
 use Rattle.std.specs.Prelude.{ℕ, List, [], ◌∷◌, Bool, not, ◌≡◌, IsTrue}
 use Rattle.js_base.specs.declared.kind.Kind.{Kind}
 use Rattle.js_base.specs.declared.kind.Kind.TheVariants.{RCurly, Slash, RegExp, TemplateMiddle, TemplateTail}
-use Rattle.js_base.specs.Kinds.{one_of_kinds}
-use Rattle.js_grammar.specs.Words.{'import', 'export'}
+use Rattle.js_base.specs.Kinds.{same_kind}
+use Rattle.js_grammar.specs.Words.{'export'}
 use Rattle.js_grammar.specs.Trees.{Tree, end, put}
 use Rattle.js_grammar.specs.Grammar.{Lexemes, last, next, here, seen, may_omit, Derives}
 use Rattle.js_grammar.specs.Insertion.{by_edge}
@@ -42,7 +42,7 @@ OmissionEnds = (f : Flags) (t : Tree) (i j : ℕ) (ls rest : Lexemes) → Derive
 
 -- with what each line begins that isn't built
 abbrev pub begins_unbuilt : Kind → Bool
-begins_unbuilt k = one_of_kinds ('import' ∷ 'export' ∷ []) k
+begins_unbuilt k = same_kind 'export' k
 
 -- none of these lexemes begins such a line
 abbrev pub BeginNoUnbuilt : Lexemes → Type 0
