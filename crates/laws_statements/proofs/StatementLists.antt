@@ -143,9 +143,9 @@ no_item Body i n = n
 no_item Clause i n = n
 
 -- an item of a list, as one of a text
-pub as_item : {text : List ℕ} {f : Flags} {p : Parser} (q : Parser) (r : Result NodeId Stop) → NoImport text f p.prev_token_end → StatementOutcome text f (at ListItem f) p q r → StatementOutcome text f (at Item f) p q r
-as_item q (Ok id) n x = record { at = x.at; same = x.same; further = x.further; label = x.label; slots = x.slots; closed = x.closed; pass = x.pass; walked = x.walked; verdict = verdict_of x.verdict (λ y. item_stretch Text n y) (λ m. no_item Text n m); holds = x.holds; keeps = x.keeps }
-as_item {p = p} q (Err e) n x = stops_so p q e (λ m. no_item Text n m) x
+pub as_item : {text : List ℕ} {f : Flags} (p q : Parser) (r : Result NodeId Stop) → NoImport text f p.prev_token_end → StatementOutcome text f (at ListItem f) p q r → StatementOutcome text f (at Item f) p q r
+as_item p q (Ok id) n x = record { at = x.at; same = x.same; further = x.further; label = x.label; slots = x.slots; closed = x.closed; pass = x.pass; walked = x.walked; verdict = verdict_of x.verdict (λ y. item_stretch Text n y) (λ m. no_item Text n m); holds = x.holds; keeps = x.keeps }
+as_item p q (Err e) n x = stops_so p q e (λ m. no_item Text n m) x
 
 -- the items of another list than that of a text
 pub listed : (n : StatementList) → (n ≡ Text → ⊥) → item_of n ≡ ListItem
