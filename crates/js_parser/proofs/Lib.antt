@@ -7,6 +7,8 @@ pub mod Broken
 pub mod Cooked
 pub mod KeyNames
 pub mod MemberNames
+pub mod AttributeKeys
+pub mod ClauseKeys
 mod NameExamples
 pub mod EarlyErrors
 pub mod EarlyMarks

@@ -1,5 +1,5 @@
 -- Keys that stand again in their WithClause (ECMA-262, 16.2.2.1), and what is told of them.
-use Rattle.std.specs.Prelude.{ℕ, Bool, cond, ◌&&◌, List, [], ◌∷◌, ◌++◌, Option, Some, None, ◌≡◌, bytes_eq, length, nat_lt, option_map}
+use Rattle.std.specs.Prelude.{ℕ, Bool, true, false, ◌&&◌, List, [], ◌∷◌, ◌++◌, Option, Some, None, ◌≡◌, bytes_eq, length, nat_lt, option_map}
 use Rattle.std.specs.List.{find}
 use Rattle.std.specs.Map.{lookup}
 use Rattle.js_base.specs.declared.diagnostic.Diagnostic.{Diagnostic}
@@ -54,13 +54,13 @@ abbrev pub key_at : List Node → Option NodeId → Option NodeId
 key_at ns None = None
 key_at ns (Some id) = child_at ns id 0
 
-abbrev pub label_at : List Node → Option NodeId → List Label
-label_at ns None = []
-label_at ns (Some k) = label (node_at ns k) ∷ []
+abbrev pub key_label : List Node → Option NodeId → List Label
+key_label ns None = []
+key_label ns (Some k) = label (node_at ns k) ∷ []
 
 abbrev pub keys_at : List Node → List (Option NodeId) → List Label
 keys_at ns [] = []
-keys_at ns (id ∷ ids) = label_at ns (key_at ns (with_node ns (Some id))) ++ keys_at ns ids
+keys_at ns (id ∷ ids) = key_label ns (key_at ns (with_node ns (Some id))) ++ keys_at ns ids
 
 -- what is told of the keys of a node
 abbrev pub told_keys_at : List ℕ → List Node → NodeId → List Diagnostic

@@ -28,7 +28,7 @@ pub fn has_keys(tree: &Tree, id: NodeId) -> bool
     requires { id.0 < length tree.now }
     ensures { result ≡ keys.has_keys tree.now id }
 {
-    tree.kind(id) == NodeKind::WithClause && tree.child_count(id) > 1
+    matches!(tree.kind(id), NodeKind::WithClause) && tree.child_count(id) > 1
 }
 
 /// Tells each key of a WithClause that stands again in it, in order; of any other node nothing. The only error is want of
