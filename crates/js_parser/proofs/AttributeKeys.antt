@@ -131,6 +131,26 @@ both_parts false n v d h = absurd (false≢true h)
 parts : (text : List ℕ) (m : Label) (ds us : Slots) (b : Label) → Apart text (tree m ds us) b → (not (same_value (key_units text b) (value_in text ds)) ≡ true) × Apart text us b
 parts text m ds us b h = both_parts (not (same_value (key_units text b) (value_in text ds))) (none_has text (key_units text b) us) (none_has text (value_in text ds) us) (differ text us) h
 
+-- of two attributes and others: each two of the three
+three_parts : (s n v d : Bool) → ((s && n) && (v && d)) ≡ true → (((s && true) && true) ≡ true) × ((n && d) ≡ true) × ((v && d) ≡ true)
+three_parts true true true true h = (refl, refl, refl)
+three_parts true true true false h = absurd (false≢true h)
+three_parts true true false d h = absurd (false≢true h)
+three_parts true false v d h = absurd (false≢true h)
+three_parts false n v d h = absurd (false≢true h)
+
+from_three : (s n v d : Bool) → ((s && true) && true) ≡ true → (n && d) ≡ true → (v && d) ≡ true → ((s && n) && (v && d)) ≡ true
+from_three true true v d a b c = c
+from_three true false v d a b c = absurd (false≢true b)
+from_three false n v d a b c = absurd (false≢true a)
+
+module _ (text : List ℕ) (l m : Label) (ds es us : Slots) where
+  pub each_two : differ text (tree l ds (tree m es us)) ≡ true → (differ text (tree l ds (tree m es end)) ≡ true) × (differ text (tree l ds us) ≡ true) × (differ text (tree m es us) ≡ true)
+  each_two h = three_parts (not (same_value (value_in text ds) (value_in text es))) (none_has text (value_in text ds) us) (none_has text (value_in text es) us) (differ text us) h
+
+  pub from_each_two : differ text (tree l ds (tree m es end)) ≡ true → differ text (tree l ds us) ≡ true → differ text (tree m es us) ≡ true → differ text (tree l ds (tree m es us)) ≡ true
+  from_each_two a b c = from_three (not (same_value (value_in text ds) (value_in text es))) (none_has text (value_in text ds) us) (none_has text (value_in text es) us) (differ text us) a b c
+
 -- nothing is told where the keys differ from each other and from those before
 nothing_again : (text : List ℕ) (before : List Label) (us : Slots) → Each (Apart text us) before → differ text us ≡ true → told_keys text before (keys_in us) ≡ []
 nothing_again text before end a d = refl
