@@ -124,7 +124,7 @@ append_no_case (tree l cs a) b h k = let x = and_parts (not (is_switch_case l.ki
 not_so : (b : Bool) → b ≡ false → not b ≡ true
 not_so b e = ap not e
 
-pife_kind : (l : Label) → (with_pife l).kind ≡ l.kind
+pub pife_kind : (l : Label) → (with_pife l).kind ≡ l.kind
 pife_kind l = go l.kind l.op l.flags l.span
   where
     go : (k : NodeKind) (o : Op) (n : ℕ) (s : Span) → (with_pife (record { kind = k; op = o; flags = n; span = s })).kind ≡ k

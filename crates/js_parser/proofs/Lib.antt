@@ -11,6 +11,9 @@ pub mod AttributeKeys
 pub mod ClauseKeys
 mod NameExamples
 pub mod EarlyErrors
+pub mod PlainKinds
+pub mod KeyUnits
+pub mod KeyMarks
 pub mod EarlyMarks
 pub mod Leftovers
 pub mod BuiltTrees
