@@ -1,13 +1,11 @@
 -- Of a WithClause nothing is told exactly where its keys differ (ECMA-262, 16.2.2.1).
-use Rattle.std.proofs.Common.{ℕ, ◌≡◌, Bool, true, false, not, ◌&&◌, cond, List, [], ◌∷◌, ◌++◌, Option, Some, None, refl, sym, ap, ◌∙◌, true≢false}
-use Rattle.std.specs.List.{find}
+use Rattle.std.proofs.Common.{ℕ, ◌≡◌, Bool, true, false, not, ◌&&◌, cond, List, [], ◌∷◌, ◌++◌, Option, Some, None, refl, sym, ap, ◌∙◌}
 use Rattle.std.proofs.lemmas.Bool.{false≢true, not-true, and_parts, and_from}
-use Rattle.js_base.specs.declared.diagnostic.Diagnostic.{Diagnostic}
 use Rattle.js_grammar.specs.EarlyRules.{Rule, key_units, same_value, attribute_keys_differ}
 use Rattle.js_grammar.specs.Trees.{NodeKind, with_clause, identifier_name, string_literal, Op, no_op, Label, Span, Slots, end, hole, tree}
 use Rattle.js_core.proofs.Lists.{first_empty}
 use Rattle.js_core.proofs.laws_shared.Verdicts.{ending}
-use Rattle.js_parser.specs.AttributeKeys.{value_of, same_before, told_again, told_keys, told_of_keys, key_in, keys_in}
+use Rattle.js_parser.specs.AttributeKeys.{value_of, same_before, told_again, told_keys, told_of_keys, keys_in}
 
 -- ---- the rule, of slots
 

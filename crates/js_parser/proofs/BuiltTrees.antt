@@ -2,9 +2,9 @@
 use Rattle.std.proofs.Common.{ℕ, ◌≡◌, ◌+◌, ◌/◌, ◌%◌, ◌-◌, Bool, true, false, not, cond, ◌&&◌, ◌||◌, List, [], ◌++◌, refl, sym, subst, ap, ◌∙◌, rules, IsTrue, arith, eqb-true}
 use Rattle.std.specs.Prelude.{codes, nat_eq}
 use Rattle.std.proofs.lemmas.Bool.{false≢true, not-true, and_parts, and_from}
-use Rattle.js_grammar.specs.Trees.{NodeKind, switch_statement, switch_case, try_statement, template_literal, with_clause, import_declaration, export_all_declaration, export_from_declaration, export_named_declaration, export_declaration, export_default_declaration, function_expression, arrow_function_expression, Op, no_op, Label, Span, Slots, end, hole, tree, Tree, append, identifier_name, private_identifier, string_literal, method_op, constructor_op}
+use Rattle.js_grammar.specs.Trees.{NodeKind, switch_statement, switch_case, try_statement, template_literal, with_clause, export_all_declaration, export_from_declaration, export_named_declaration, export_declaration, export_default_declaration, function_expression, arrow_function_expression, Op, no_op, Label, Span, Slots, end, hole, tree, Tree, append, identifier_name, private_identifier, string_literal, method_op, constructor_op}
 use Rattle.js_grammar.specs.Grammar.{Make, Lexemes, ◌▸◌, ◌◇◌, empty_slot, ahead, seq, alt, when, many, commas, such, marked, node, ended, keep, label_of, Takes, Derives, is_nothing, is_lexeme, is_look, is_text, is_ahead, is_empty_slot, is_seq, is_left, is_right, is_when, is_many, is_commas, is_such, is_marked, is_node, is_ended, is_keep, is_kept}
-use Rattle.js_grammar.specs.Productions.{Flags, Name, Symbol, G, at, tok, opt, mk, parens, braces, slot, Program, Case, Switch, Try, Expression, Block, Catch, ListItem, ImportDecl, Spec, ExportName, Attrs, Attr, ExportDecl, pure_flag, has_flag, with_pife, async_flag, computed_flag, generator_flag, static_flag, without_flag}
+use Rattle.js_grammar.specs.Productions.{Flags, Name, Symbol, G, at, tok, opt, mk, parens, braces, slot, Program, Case, Switch, Try, Expression, Block, Catch, ListItem, Attrs, Attr, ExportDecl, pure_flag, has_flag, with_pife, async_flag, computed_flag, generator_flag, static_flag, without_flag}
 use Rattle.js_grammar.specs.Productions.{sym as symbol}
 use Rattle.js_base.specs.declared.kind.Kind.TheVariants.{Colon}
 use Rattle.js_grammar.specs.Words.{'default', 'finally', 'switch', 'try'}

@@ -1,5 +1,5 @@
 -- The keys of a WithClause as nodes by number, and the walk over them (ECMA-262, 16.2.2.1).
-use Rattle.std.proofs.Common.{ℕ, zero, suc, ◌≡◌, ◌<◌, ◌≤◌, ◌+◌, Bool, true, false, not, ◌&&◌, cond, List, [], ◌∷◌, ◌++◌, length, drop, take, slice_get, get_or, nat_lt, Option, Some, None, refl, sym, ap, ◌∙◌, subst, arith, append_assoc, append-nil, lt-ltb}
+use Rattle.std.proofs.Common.{ℕ, zero, suc, ◌≡◌, ◌<◌, ◌≤◌, ◌+◌, Bool, true, false, ◌&&◌, cond, List, [], ◌∷◌, ◌++◌, length, drop, take, slice_get, nat_lt, Option, Some, None, refl, sym, ap, ◌∙◌, arith, append_assoc, append-nil, lt-ltb}
 use Rattle.std.specs.Prelude.{bytes_eq, option_map}
 use Rattle.std.specs.List.{find}
 use Rattle.std.specs.Map.{lookup}
@@ -145,14 +145,14 @@ module _ {text : List ℕ} {ns : List Node} {ids : List (Option NodeId)} {entrie
       → ((before : List Label) → AreLast text entries before → more ≡ told ++ told_again (label (node_at ns key)) (same_before text before (label (node_at ns key))))
       → ((before : List Label) → AreLast text entries before → AreLast text news (label (node_at ns key) ∷ before)) → Telling text ns ids (i + 1) news more whole
   telling_key key news more e f g =
-    let k = label (node_at ns key) in
-    record {
-      before = k ∷ w.before;
-      last = g w.before w.last;
-      parts = w.parts
-          ∙ (ap (λ (ks : List Label). told ++ told_keys text w.before ks) (one_slot ns ids i h ∙ (λ j. key_label ns (sym e j) ++ keys_at ns (drop (suc i) ids)) ∙ ap (λ (n : ℕ). k ∷ keys_at ns (drop n ids)) (next_slot i))
-          ∙ (sym (append_assoc told (told_again k (same_before text w.before k)) (told_keys text (k ∷ w.before) (keys_at ns (drop (i + 1) ids)))) ∙ ap (λ (v : List Diagnostic). v ++ told_keys text (k ∷ w.before) (keys_at ns (drop (i + 1) ids))) (sym (f w.before w.last))));
-    }
+      let k = label (node_at ns key) in
+      record {
+        before = k ∷ w.before;
+        last = g w.before w.last;
+        parts = w.parts
+            ∙ (ap (λ (ks : List Label). told ++ told_keys text w.before ks) (one_slot ns ids i h ∙ (λ j. key_label ns (sym e j) ++ keys_at ns (drop (suc i) ids)) ∙ ap (λ (n : ℕ). k ∷ keys_at ns (drop n ids)) (next_slot i))
+            ∙ (sym (append_assoc told (told_again k (same_before text w.before k)) (told_keys text (k ∷ w.before) (keys_at ns (drop (i + 1) ids)))) ∙ ap (λ (v : List Diagnostic). v ++ told_keys text (k ∷ w.before) (keys_at ns (drop (i + 1) ids))) (sym (f w.before w.last))));
+      }
 
 pub telling_end : {text : List ℕ} {ns : List Node} {ids : List (Option NodeId)} {entries : List (List ℕ × Span)} {told whole : List Diagnostic} (i : ℕ) → length ids ≤ i → Telling text ns ids i entries told whole → told ≡ whole
 telling_end {text} {ns} {ids} {told = told} i h w = sym (w.parts ∙ ap (λ (v : List (Option NodeId)). told ++ told_keys text w.before (keys_at ns v)) (all_dropped ids i h) ∙ append-nil told)

@@ -1,33 +1,33 @@
 -- A WithClause stands behind the string that names a module, and its keys stand in its entries. So what is told of them has its mark (ECMA-262, 16.2.2).
-use Rattle.std.proofs.Common.{ℕ, ◌≡◌, Bool, true, false, not, cond, ◌&&◌, ◌||◌, List, [], ◌∷◌, ◌++◌, Option, Some, None, refl, sym, ap, subst, ◌∙◌}
-use Rattle.std.specs.List.{All, find}
-use Rattle.std.specs.Prelude.{bytes_eq, IsUtf8}
+use Rattle.std.proofs.Common.{ℕ, ◌≡◌, Bool, true, false, not, cond, ◌&&◌, ◌||◌, List, [], ◌∷◌, Option, Some, None, refl, sym, ap, subst, ◌∙◌}
+use Rattle.std.specs.List.{All}
+use Rattle.std.specs.Prelude.{IsUtf8}
 use Rattle.std.proofs.lemmas.Str.{IsCharBoundary-start}
 use Rattle.std.proofs.lemmas.Bool.{false≢true, not-true, and_parts, and_from, or_left, or_right}
 use Rattle.std.proofs.lemmas.List.Elements.{All-nil, All-cons, All-append}
 use Rattle.std.proofs.lemmas.Slice.Eq.{bytes_eq-Decides}
-use Rattle.js_base.specs.Kinds.{same_kind, one_of_kinds}
+use Rattle.js_base.specs.Kinds.{same_kind}
 use Rattle.js_base.specs.declared.diagnostic.DiagnosticKind.TheVariants.{Redeclaration}
 use Rattle.js_base.specs.declared.kind.Kind.{Kind}
-use Rattle.js_base.specs.declared.kind.Kind.TheVariants.{Str, LCurly, RCurly, Colon, Comma}
+use Rattle.js_base.specs.declared.kind.Kind.TheVariants.{Str, LCurly, Colon, Comma}
 use Rattle.js_grammar.specs.EarlyRules.{same_value}
-use Rattle.js_grammar.specs.Grammar.{Look, seen, Lexeme, Lexemes, last, next, here, is, lexeme, ahead, seq, alt, when, many, commas, such, marked, node, ended, keep, nothing, never, look, text as text_look, empty_slot, kept, label_of, commas_once, Takes, Derives, is_nothing, is_lexeme, is_look, is_text, is_ahead, is_empty_slot, is_seq, is_left, is_right, is_when, is_many, is_commas, is_such, is_marked, is_node, is_ended, is_keep, is_kept}
+use Rattle.js_grammar.specs.Grammar.{Lexeme, Lexemes, last, next, here, is, lexeme, ahead, seq, alt, when, many, commas, such, marked, node, ended, keep, commas_once, Takes, Derives, is_nothing, is_lexeme, is_look, is_text, is_ahead, is_empty_slot, is_seq, is_left, is_right, is_when, is_many, is_commas, is_such, is_marked, is_node, is_ended, is_keep, is_kept}
 use Rattle.js_grammar.specs.Lexed.{Lexes, NextLexeme, all_faults}
 use Rattle.js_grammar.specs.LexicalFaults.{Reached}
 use Rattle.js_grammar.specs.Lexemes.{is_word}
-use Rattle.js_grammar.specs.Marks.{of_kinds, EntriesLead, none, one_more, Part, KeyAgain, Mark}
-use Rattle.js_grammar.specs.Productions.{G, Flags, Name, Symbol, at, Program, Attrs, Attr, braces, opt, with_pife}
+use Rattle.js_grammar.specs.Marks.{of_kinds, EntriesLead, none, one_more, Part, Mark}
+use Rattle.js_grammar.specs.Productions.{G, Flags, Name, Symbol, at, Program, Attrs, Attr, opt, with_pife}
 use Rattle.js_grammar.specs.Productions.{sym as symbol}
 use Rattle.js_grammar.specs.Settings.{Goal}
 use Rattle.js_grammar.specs.Table.{rule, rule_of}
-use Rattle.js_grammar.specs.Trees.{NodeKind, with_clause, identifier_name, string_literal, no_op, Label, Op, Span, Slots, end, hole, tree, Tree, append}
+use Rattle.js_grammar.specs.Trees.{identifier_name, string_literal, no_op, Label, Op, Slots, end, hole, tree, Tree, append}
 use Rattle.js_grammar.specs.Words.{'with', 'assert'}
 use Rattle.js_grammar.proofs.Behind.{lexed_behind}
 use Rattle.js_grammar.proofs.CoverInitialisers.{line_marked, Led}
 use Rattle.js_grammar.proofs.Looks.{covers, covered}
 use Rattle.js_grammar.proofs.Renamed.{remarked, first_of, second_of, mark_of}
 use Rattle.js_tree.specs.Covering.{placed}
-use Rattle.js_parser.specs.AttributeKeys.{value_of, same_before, told_again, told_keys, told_of_keys, keys_in, is_clause}
+use Rattle.js_parser.specs.AttributeKeys.{value_of, same_before, told_again, told_keys, keys_in, is_clause}
 use Rattle.js_parser.specs.NodeSpans.{NodeLies, SlotsLie}
 use Rattle.js_parser.proofs.BuiltTrees.{pife_kind}
 use Rattle.js_parser.proofs.KeyUnits.{Spelt, all_spelt, word_units, string_key_units}

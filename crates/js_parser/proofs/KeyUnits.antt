@@ -1,11 +1,11 @@
 -- What a lexeme that is a key stands for is the value of its node (ECMA-262, 12.7.1 and 12.9.4.2).
-use Rattle.std.proofs.Common.{ℕ, ◌≡◌, ◌≤◌, ◌+◌, ◌++◌, Bool, true, false, List, [], ◌∷◌, Option, Some, None, refl, sym, ap, subst, arith, ◌∙◌}
+use Rattle.std.proofs.Common.{ℕ, ◌≡◌, ◌++◌, Bool, true, false, List, [], ◌∷◌, Option, Some, None, refl, sym, ap, subst, arith, ◌∙◌}
 use Rattle.std.specs.Prelude.{slice_range, unwrap_or, option_map, IsUtf8, IsCharBoundary}
 use Rattle.std.specs.Str.{chars}
 use Rattle.std.proofs.lemmas.Bool.{false≢true}
 use Rattle.js_base.specs.Kinds.{same_kind}
 use Rattle.js_base.specs.declared.kind.Kind.{Kind}
-use Rattle.js_base.specs.declared.kind.Kind.TheVariants.{Eof, Str}
+use Rattle.js_base.specs.declared.kind.Kind.TheVariants.{Str}
 use Rattle.js_base.proofs.KindLemmas.{kind_of_same}
 use Rattle.js_base.specs.part_text.Characters.{is_decimal}
 use Rattle.js_base.specs.part_text.Decoding.{name_points, string_units}
@@ -19,7 +19,7 @@ use Rattle.js_grammar.specs.Lexemes.{Opening, a_name, division, is_word, kind_in
 use Rattle.js_grammar.specs.Longest.{joined}
 use Rattle.js_grammar.specs.Names.{is_plain_name, name_of, named, word_of}
 use Rattle.js_grammar.specs.Strings.{string_inside}
-use Rattle.js_grammar.specs.Trees.{Label, Op, Span, identifier_name, string_literal}
+use Rattle.js_grammar.specs.Trees.{Op, Span, identifier_name, string_literal}
 use Rattle.js_grammar.proofs.CoverInitialisers.{Led}
 use Rattle.js_grammar.proofs.Looks.{covered}
 use Rattle.js_cursor.specs.part_words.Places.{Word}

@@ -1,4 +1,4 @@
-use Rattle.std.proofs.Common.{[], ◌++◌, ◌<◌, ◌≤◌, ℕ, List, ap, append-nil, arith, length, nat_lt, subst, sym, ◌∙◌}
+use Rattle.std.proofs.Common.{◌++◌, ◌<◌, ◌≤◌, ℕ, List, ap, append-nil, length, nat_lt, subst, sym, ◌∙◌}
 use Rattle.js_base.specs.declared.diagnostic.Diagnostic.{Diagnostic}
 use Rattle.js_tree.specs.Labels.{kind_of}
 use Rattle.js_tree.specs.Nodes.{node_at}
