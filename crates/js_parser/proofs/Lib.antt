@@ -10,6 +10,7 @@ pub mod MemberNames
 pub mod AttributeKeys
 pub mod ClauseKeys
 mod NameExamples
+mod KeyExamples
 pub mod EarlyErrors
 pub mod PlainKinds
 pub mod KeyUnits
