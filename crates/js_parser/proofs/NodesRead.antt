@@ -22,36 +22,14 @@ use Rattle.js_grammar.proofs.Looks.{covers, covered}
 use Rattle.js_cursor.proofs.js_lex.Given.{string_of_kind}
 use Rattle.js_cursor.proofs.js_lex.NamesGiven.{name_of_kind, name_stands_for, word_opened}
 use Rattle.js_cursor.proofs.part_words.KindsOfLexemes.{opened, opened_is, plain_end, pattern_is, tail_is, hashbang_is}
+use Rattle.js_parser.proofs.PlainKinds.{plainly, a_word, a_name_kind, words_are, same_opening}
 use Rattle.js_parser.specs.NodeSpans.{SlotsLie}
 use Rattle.js_parser.specs.SameSource.{IsOneLexeme, HasSource, HaveSources, source_of}
 
--- ---- the plain goal
-
--- a kind of no other goal is one of the plain goal
-plainly : (passes : Kind → Bool) → passes RegExp ≡ false → passes TemplateMiddle ≡ false → passes TemplateTail ≡ false → passes HashbangComment ≡ false
-    → (g : LexicalGoal) (w rest : List ℕ) (k : Kind) → kind_in g w rest ≡ Some k → passes k ≡ true → kind_in division w rest ≡ Some k
-plainly passes a b c d division w rest k h p = h
-plainly passes a b c d regular_expression w rest k h p = absurd (false≢true (sym a ∙ ap passes (sym (pattern_is w k h)) ∙ p))
-plainly passes a b c d template_tail w rest k h p = absurd (elim (tail_is w k h) [ inl e ↦ false≢true (sym b ∙ ap passes (sym e) ∙ p) | inr e ↦ false≢true (sym c ∙ ap passes (sym e) ∙ p) ])
-plainly passes a b c d hashbang w rest k h p = absurd (false≢true (sym d ∙ ap passes (sym (hashbang_is w k h)) ∙ p))
-
 -- ---- names
-
-abbrev a_word : Look
-a_word k w e = is_word k
-
-abbrev a_name_kind : Look
-a_name_kind k w e = one_of_kinds identifier_name_kinds k
-
-words_are : covers a_word a_name_kind ≡ true
-unfolding covers
-words_are = refl
 
 opens_sign : (d : Bool) → opening 35 d ≡ a_private_name
 opens_sign d = refl
-
-same_opening : (a b : Opening) → Some a ≡ Some b → a ≡ b
-same_opening a b e = cc
 
 names_apart : a_name ≡ a_private_name → ⊥
 names_apart e = absurd cc
