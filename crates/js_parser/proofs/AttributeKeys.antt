@@ -23,7 +23,7 @@ with_key k = tree k end end
 abbrev Apart : List ℕ → Slots → Label → Type 0
 Apart text us k = differ text (tree clause (with_key k) us) ≡ true
 
-same_none : (v : Option (List ℕ)) → same_value v None ≡ false
+pub same_none : (v : Option (List ℕ)) → same_value v None ≡ false
 same_none None = refl
 same_none (Some a) = refl
 

@@ -16,6 +16,7 @@ use Rattle.js_tree.specs.Nodes.{Node, label, node_at}
 use Rattle.js_core.proofs.parse_targets.CoveredNodes.{label_at}
 use Rattle.js_parser.specs.AttributeKeys.{value_of, same_before, told_again, told_keys, told_of_keys, key_in, keys_in, key_at, key_label, keys_at, is_clause, AreLast}
 use Rattle.js_parser.specs.MemberNodes.{with_node}
+use Rattle.js_parser.proofs.AttributeKeys.{same_none}
 
 -- ---- the keys of a tree are those of its nodes
 
@@ -83,13 +84,9 @@ again_with : (k : Label) (o : Option Label) → told_again k o ≡ told_with k (
 again_with k None = refl
 again_with k (Some b) = refl
 
-none_like : (v : Option (List ℕ)) → same_value v None ≡ false
-none_like None = refl
-none_like (Some a) = refl
-
 none_found : (text : List ℕ) (before : List Label) → find (λ b. same_value (value_of text b.kind b) None) before ≡ None
 none_found text [] = refl
-none_found text (b ∷ before) = ap (λ (t : Bool). cond t (Some b) (find (λ c. same_value (value_of text c.kind c) None) before)) (none_like (value_of text b.kind b)) ∙ none_found text before
+none_found text (b ∷ before) = ap (λ (t : Bool). cond t (Some b) (find (λ c. same_value (value_of text c.kind c) None) before)) (same_none (value_of text b.kind b)) ∙ none_found text before
 
 module _ (text : List ℕ) (entries : List (List ℕ × Span)) (before : List Label) (last : AreLast text entries before) (k : Label) where
   -- without a value
