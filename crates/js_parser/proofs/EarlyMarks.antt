@@ -1,4 +1,4 @@
--- A regular expression in a tree stands where a lexeme does, and so does a name of a member; a template's part stands between the delimiters of one. So what is told of them has its mark.
+-- A regular expression in a tree stands where a lexeme does, and so does a name of a member; a template's part stands between the delimiters of one. So what is told of them has its mark; what is told of keys has it by `KeyMarks`.
 use Rattle.std.proofs.Common.{ℕ, ◌≡◌, Bool, true, false, not, cond, ◌||◌, List, [], ◌++◌, Option, Some, None, nat_eq, ◌&&◌, ◌≤◌, ◌+◌, ◌-◌, arith, refl, sym, ap, subst, ◌∙◌}
 use Rattle.std.specs.List.{All}
 use Rattle.std.specs.Prelude.{is_some, IsTrue, IsUtf8}

@@ -1,6 +1,6 @@
 //! The early rule that no key stands twice in a WithClause (ECMA-262, section 16.2.2.1).
 
-ghost use Rattle.std.specs.Prelude.{◌≡◌, ◌<◌, ◌++◌, ◌∷◌, List, Option, Some, IfOk, OnOk, chars, length};
+ghost use Rattle.std.specs.Prelude.{◌≡◌, ◌<◌, ◌++◌, ◌∷◌, List, Some, IfOk, OnOk, chars, length, slice_get};
 ghost use Rattle.js_base.specs.part_text.Escapes.{code_units};
 ghost use Rattle.js_grammar.specs.EarlyRules.{key_units};
 ghost use Rattle.js_grammar.specs.Trees.{Label};
@@ -13,7 +13,6 @@ ghost use Rattle.js_core.specs.laws_shared.States.{NodesLie};
 ghost use Rattle.js_parser.specs.AttributeKeys as keys;
 ghost use Rattle.js_parser.specs.AttributeKeys.{value_of, same_before, told_again, told_keys_at, AreLast};
 ghost use Rattle.js_parser.specs.MemberNodes.{with_node};
-ghost use Rattle.std.specs.Prelude.{slice_get};
 
 use crate::key_value::KeyValue;
 use crate::member_names::child_at;
