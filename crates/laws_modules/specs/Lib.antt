@@ -5,4 +5,5 @@ pub mod Attributes
 pub mod Sources
 pub mod ImportClauses
 pub mod ImportDeclarations
+pub mod Exports
 pub use Rattle.laws_primary.specs as laws_primary
