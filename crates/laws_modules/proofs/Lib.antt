@@ -11,4 +11,6 @@ pub mod Endings
 pub mod Sources
 pub mod ImportClauses
 pub mod ImportDeclarations
+pub mod ExportedLines
+pub mod ExportedDeclarations
 pub use Rattle.laws_primary.proofs as laws_primary

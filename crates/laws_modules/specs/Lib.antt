@@ -6,4 +6,6 @@ pub mod Sources
 pub mod ImportClauses
 pub mod ImportDeclarations
 pub mod Exports
+pub mod ExportedDeclarations
+pub mod ExportDefaults
 pub use Rattle.laws_primary.specs as laws_primary

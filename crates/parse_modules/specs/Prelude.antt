@@ -1,9 +1,14 @@
 -- The names by which the contracts of this crate speak: each definition stands where its line says.
+pub use Rattle.js_base.specs.Contexts.{has_flag, in_flag}
+pub use Rattle.js_base.specs.Kinds.{one_of_kinds}
 pub use Rattle.js_base.specs.Spans.{LiesIn}
 pub use Rattle.js_base.specs.declared.kind.Kind.TheVariants.{Eq, RCurly, Star, Str}
 pub use Rattle.js_grammar.specs.Marks.{Mark}
-pub use Rattle.js_grammar.specs.Productions.{ImportDecl, at, bare_flag, flag}
+pub use Rattle.js_grammar.specs.Productions.{Function, ImportDecl, at, bare_flag, flag, sym}
 pub use Rattle.laws_modules.specs.Attributes.{BeginsClause, ClauseOf, FindsClause, NoClauseOf, TakesAttributes, key_part}
+pub use Rattle.laws_modules.specs.ExportDefaults.{default_class, default_exported, default_expression, default_function}
+pub use Rattle.laws_modules.specs.ExportedDeclarations.{NoUnlinked, ReadsUnlinked, exported, other_exports}
+pub use Rattle.laws_modules.specs.Exports.{TakesExport}
 pub use Rattle.laws_modules.specs.ImportClauses.{ImportsStop, ImportsTaken, NoOthers, OthersTaken, default_part, namespace_part}
 pub use Rattle.laws_modules.specs.ImportDeclarations.{FindsImports, ImportsEnd, import_label}
 pub use Rattle.laws_modules.specs.ImportSpecifiers.{BindsSingle, BoundMarked, IsExportName, ReadsBound, StringBound, specifier_label, string_bound, word_bound}
@@ -11,6 +16,8 @@ pub use Rattle.laws_modules.specs.ModuleNames.{SpellsExport, TakesExportName, ex
 pub use Rattle.laws_modules.specs.NameLists.{ListTaken, NoList, ReadsNamed, TakesListed}
 pub use Rattle.laws_modules.specs.Sources.{ReadsSource}
 pub use Rattle.laws_modules.specs.declared.forms.NameList.TheVariants.{Attributes, Imports}
+pub use Rattle.laws_modules.specs.laws_primary.Decorators.{ClassHere}
+pub use Rattle.laws_modules.specs.laws_primary.Functions.{BeginsFunction, NoFunctionHere}
 pub use Rattle.laws_modules.specs.laws_primary.js_cursor.Moves.{GivesUp, Opened}
 pub use Rattle.laws_modules.specs.laws_primary.js_cursor.Places.{goal}
 pub use Rattle.laws_modules.specs.laws_primary.js_tree.Labels.{number_of}
@@ -18,7 +25,9 @@ pub use Rattle.laws_modules.specs.laws_primary.js_tree.Nodes.{node_at}
 pub use Rattle.laws_modules.specs.laws_primary.js_tree.Sources.{IsString, units_of}
 pub use Rattle.laws_modules.specs.laws_primary.laws_shared.Answers.{Answers}
 pub use Rattle.laws_modules.specs.laws_primary.laws_shared.Classes.{EndsParse}
+pub use Rattle.laws_modules.specs.laws_primary.laws_shared.Lexemes.{keyword_kind}
 pub use Rattle.laws_modules.specs.laws_primary.laws_shared.Methods.{ReadsWhole}
 pub use Rattle.laws_modules.specs.laws_primary.laws_shared.Moves.{MadeHere, plain_label}
+pub use Rattle.laws_modules.specs.laws_primary.laws_shared.Nesting.{CanNest, room}
 pub use Rattle.laws_modules.specs.laws_primary.laws_shared.Stands.{StandsHere}
 pub use Rattle.laws_modules.specs.laws_primary.laws_shared.States.{Standing}
