@@ -148,7 +148,7 @@ module _ {text : List ℕ} {f : Flags} {p : Parser} (a : At text f p) where
 
   -- ---- where none of them stands
 
-  none_begins : {X : Test} (g : G) (k : Kind) → covers (starts first g X.base) (is k) ≡ true → (is_right_angle k || one_of_kinds other_goals k) ≡ false → StandsHere p k false → Fails rule (Lex text) X end g p.prev_token_end
+  pub none_begins : {X : Test} (g : G) (k : Kind) → covers (starts first g X.base) (is k) ≡ true → (is_right_angle k || one_of_kinds other_goals k) ≡ false → StandsHere p k false → Fails rule (Lex text) X end g p.prev_token_end
   none_begins {X} g k c d h = fails_here firsts (λ y l z. none_seen (stands_not a d h) y l (covered (starts first g X.base) (is k) c y.kind y.newline y.escaped z))
 
   -- no declaration of constants, nor one with `let`

@@ -13,4 +13,5 @@ pub mod ImportClauses
 pub mod ImportDeclarations
 pub mod ExportedLines
 pub mod ExportedDeclarations
+pub mod ExportDefaults
 pub use Rattle.laws_primary.proofs as laws_primary
