@@ -14,4 +14,6 @@ pub mod ImportDeclarations
 pub mod ExportedLines
 pub mod ExportedDeclarations
 pub mod ExportDefaults
+pub mod ImportOpenings
+pub mod Items
 pub use Rattle.laws_primary.proofs as laws_primary

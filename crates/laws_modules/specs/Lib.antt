@@ -8,4 +8,5 @@ pub mod ImportDeclarations
 pub mod Exports
 pub mod ExportedDeclarations
 pub mod ExportDefaults
+pub mod Items
 pub use Rattle.laws_primary.specs as laws_primary

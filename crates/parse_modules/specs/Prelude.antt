@@ -4,7 +4,8 @@ pub use Rattle.js_base.specs.Kinds.{one_of_kinds}
 pub use Rattle.js_base.specs.Spans.{LiesIn}
 pub use Rattle.js_base.specs.declared.kind.Kind.TheVariants.{Eq, RCurly, Star, Str}
 pub use Rattle.js_grammar.specs.Marks.{Mark}
-pub use Rattle.js_grammar.specs.Productions.{Function, ImportDecl, at, bare_flag, flag, sym}
+pub use Rattle.js_grammar.specs.Productions.{Function, ImportDecl, Item, at, bare_flag, flag, sym}
+pub use Rattle.js_grammar.specs.Trees.{import_declaration}
 pub use Rattle.laws_modules.specs.Attributes.{BeginsClause, ClauseOf, FindsClause, NoClauseOf, TakesAttributes, key_part}
 pub use Rattle.laws_modules.specs.ExportDefaults.{default_class, default_exported, default_expression, default_function}
 pub use Rattle.laws_modules.specs.ExportedDeclarations.{NoUnlinked, ReadsUnlinked, exported, other_exports}
@@ -12,15 +13,16 @@ pub use Rattle.laws_modules.specs.Exports.{TakesExport}
 pub use Rattle.laws_modules.specs.ImportClauses.{ImportsStop, ImportsTaken, NoOthers, OthersTaken, default_part, namespace_part}
 pub use Rattle.laws_modules.specs.ImportDeclarations.{FindsImports, ImportsEnd, import_label}
 pub use Rattle.laws_modules.specs.ImportSpecifiers.{BindsSingle, BoundMarked, IsExportName, ReadsBound, StringBound, specifier_label, string_bound, word_bound}
+pub use Rattle.laws_modules.specs.Items.{ChecksGoal, ImportHere, outside_module}
 pub use Rattle.laws_modules.specs.ModuleNames.{SpellsExport, TakesExportName, export_node, is_paired, lone_surrogate}
 pub use Rattle.laws_modules.specs.NameLists.{ListTaken, NoList, ReadsNamed, TakesListed}
 pub use Rattle.laws_modules.specs.Sources.{ReadsSource}
 pub use Rattle.laws_modules.specs.declared.forms.NameList.TheVariants.{Attributes, Imports}
 pub use Rattle.laws_modules.specs.laws_primary.Decorators.{ClassHere}
 pub use Rattle.laws_modules.specs.laws_primary.Functions.{BeginsFunction, NoFunctionHere}
-pub use Rattle.laws_modules.specs.laws_primary.js_cursor.Moves.{GivesUp, Opened}
-pub use Rattle.laws_modules.specs.laws_primary.js_cursor.Places.{goal}
-pub use Rattle.laws_modules.specs.laws_primary.js_tree.Labels.{number_of}
+pub use Rattle.laws_modules.specs.laws_primary.js_cursor.Moves.{GivesUp, OnlyMemory, Opened}
+pub use Rattle.laws_modules.specs.laws_primary.js_cursor.Places.{IsAt, goal}
+pub use Rattle.laws_modules.specs.laws_primary.js_tree.Labels.{kind_of, number_of}
 pub use Rattle.laws_modules.specs.laws_primary.js_tree.Nodes.{node_at}
 pub use Rattle.laws_modules.specs.laws_primary.js_tree.Sources.{IsString, units_of}
 pub use Rattle.laws_modules.specs.laws_primary.laws_shared.Answers.{Answers}
@@ -31,3 +33,4 @@ pub use Rattle.laws_modules.specs.laws_primary.laws_shared.Moves.{MadeHere, plai
 pub use Rattle.laws_modules.specs.laws_primary.laws_shared.Nesting.{CanNest, room}
 pub use Rattle.laws_modules.specs.laws_primary.laws_shared.Stands.{StandsHere}
 pub use Rattle.laws_modules.specs.laws_primary.laws_shared.States.{Standing}
+pub use Rattle.laws_modules.specs.laws_primary.laws_shared.Statements.{TakesStatement}
