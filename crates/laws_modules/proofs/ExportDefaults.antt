@@ -60,7 +60,7 @@ use Rattle.laws_shared.proofs.Verdicts.{after as grown_behind}
 use Rattle.laws_statements.proofs.Statements.{◌⟝◌, ended_so, omits_stopped, semicolon_path, unended, whole_semicolon}
 use Rattle.laws_statements.proofs.WordLookaheads.{Leads, at_once, async_named, async_word, leads_to, not_followed, stands_word, ◌⇒◌, ◌⇒✗◌}
 use Rattle.parse_declarations.specs.Declarations.{stops_row}
-use Rattle.laws_modules.specs.ExportDefaults.{default_class, default_exported, default_expression, default_function}
+use Rattle.laws_modules.specs.ExportDefaults.{default_class, default_exported, default_expression, default_function, default_line}
 use Rattle.laws_modules.specs.ExportedDeclarations.{NoUnlinked, UnlinkedOutcome, UnlinkedTaken}
 use Rattle.laws_modules.proofs.ExportedDeclarations.{none_begins, unlinked_whole}
 use Rattle.laws_modules.proofs.WholeParts.{whole_by}
@@ -68,7 +68,7 @@ use Rattle.laws_modules.proofs.WholeParts.{whole_by}
 -- ---- where an expression stands
 
 -- three parts, in whichever groups
-grouped : {text : List ℕ} {X : Test} {a b c : G} {s : ℕ} → Goes rule (Lex text) X end (seq (seq a b) c) s (seq a (seq b c)) s (λ us. us) (still 0)
+pub grouped : {text : List ℕ} {X : Test} {a b c : G} {s : ℕ} → Goes rule (Lex text) X end (seq (seq a b) c) s (seq a (seq b c)) s (λ us. us) (still 0)
 grouped {a = a} {b} {c} = same (λ ts us i j ls rest d. go d) (λ ts us i j ls rest d. back d)
   where
     go : {ts us : Slots} {i j : ℕ} {ls rest : Lexemes} → Takes rule (seq (seq a b) c) end ts i ls us j rest → Takes rule (seq a (seq b c)) end ts i ls us j rest
@@ -78,12 +78,8 @@ grouped {a = a} {b} {c} = same (λ ts us i j ls rest d. go d) (λ ts us i j ls r
     back (is_seq d (is_seq e g)) = is_seq (is_seq d e) g
 
 -- what no expression begins with
-abbrev declares : List Kind
+abbrev pub declares : List Kind
 declares = Function ∷ Class ∷ at_sign ∷ []
-
--- one of the four lines of a function
-abbrev pub default_line : Bool → Bool → Flags → G
-default_line n s f = function_of function_declaration (slot (symbol BindingIdentifier f)) n s f
 
 module _ {text : List ℕ} {f : Flags} {p : Parser} (a : At text f p) (n : NoFunctionHere p) (c : ClassHere p false) where
   -- none of the three stands here

@@ -14,6 +14,7 @@ pub mod ImportDeclarations
 pub mod ExportedLines
 pub mod ExportedDeclarations
 pub mod ExportDefaults
+pub mod ExportedFunctions
 pub mod ImportOpenings
 pub mod Items
 pub use Rattle.laws_primary.proofs as laws_primary
