@@ -3,7 +3,7 @@ use Rattle.std.proofs.Common.{ℕ, ◌≡◌, max, List, [], ◌∷◌, length, 
 use Rattle.std.specs.Prelude.{Result, Ok, Err}
 use Rattle.std.proofs.lemmas.Bool.{false≢true, and_from, and_parts}
 use Rattle.js_base.specs.declared.kind.Kind.{Kind}
-use Rattle.js_base.specs.declared.kind.Kind.TheVariants.{Async, At as at_sign, Class, Comma, Function, Semicolon}
+use Rattle.js_base.specs.declared.kind.Kind.TheVariants.{Async, At as at_sign, Class, Comma, Default, Function, Semicolon}
 use Rattle.js_base.specs.Kinds.{one_of_kinds, same_kind}
 use Rattle.js_grammar.specs.Conditions.{ends_in_sub}
 use Rattle.js_grammar.specs.Follow.{after, looser, row_of}
@@ -12,7 +12,7 @@ use Rattle.js_grammar.specs.Grammar.{Lexeme, Lexemes, Look, here, is, may_omit, 
 use Rattle.js_grammar.specs.Insertion.{Row, after_body, after_declarator, after_expression, after_postfix, after_word, after_yield, goes_on}
 use Rattle.js_grammar.specs.Lexed.{Lexes}
 use Rattle.js_grammar.specs.Parsing.{Test, plain, full, still, Goes, Fails}
-use Rattle.js_grammar.specs.Productions.{G, Flags, at, function_on_line, is_one_of, other, slot, Assignment, BindingIdentifier, ClassExpr}
+use Rattle.js_grammar.specs.Productions.{G, Flags, at, function_on_line, is_one_of, other, slot, tok, Assignment, BindingIdentifier, ClassExpr}
 use Rattle.js_grammar.specs.Productions.{sym as symbol}
 use Rattle.js_grammar.specs.RightEdges.{of_assignment}
 use Rattle.js_grammar.specs.Table.{rule, rule_of, function_of}
@@ -34,7 +34,7 @@ use Rattle.laws_shared.specs.js_cursor.declared.stop.Stop.{Stop}
 use Rattle.laws_shared.specs.Answers.{Answer, Numbered, Outcome, Stops, Stretch, Underived, beside}
 use Rattle.laws_shared.specs.Lexemes.{Lex, Plain}
 use Rattle.laws_shared.specs.Methods.{WholeOutcome, WholeTaken}
-use Rattle.laws_shared.specs.Moves.{MadeHere}
+use Rattle.laws_shared.specs.Moves.{MadeHere, Moved}
 use Rattle.laws_shared.specs.Stands.{StandsHere}
 use Rattle.laws_shared.specs.States.{At, Same}
 use Rattle.laws_shared.specs.Statements.{EndsStatement, NoEnd, no_link}
@@ -51,11 +51,11 @@ use Rattle.laws_shared.proofs.Giving.{fails_at_word, gives_up_here}
 use Rattle.laws_shared.proofs.Here.{begins_here, kind_here}
 use Rattle.laws_shared.proofs.MadeNodes.{node_held, one_lies}
 use Rattle.laws_shared.proofs.Moving.{moves, same_both, stops_behind, stops_so}
-use Rattle.laws_shared.proofs.Paths.{Path, ◌⟶◌, ◌⟶✗◌, at_kinds, not_here}
+use Rattle.laws_shared.proofs.Paths.{Path, ◌⟶◌, ◌⟶✗◌, at_kinds, not_here, token}
 use Rattle.laws_shared.proofs.Phrases.{narrow_assignment, narrow_operand}
 use Rattle.laws_shared.proofs.Signs.{none_seen, other_kind, stands_not}
 use Rattle.laws_shared.proofs.Tight.{narrows, plain_lex}
-use Rattle.laws_shared.proofs.Verdicts.{verdict_of}
+use Rattle.laws_shared.proofs.Verdicts.{grown_then, verdict_of}
 use Rattle.laws_shared.proofs.Verdicts.{after as grown_behind}
 use Rattle.laws_statements.proofs.Statements.{◌⟝◌, ended_so, omits_stopped, semicolon_path, unended, whole_semicolon}
 use Rattle.laws_statements.proofs.WordLookaheads.{Leads, at_once, async_named, async_word, leads_to, not_followed, stands_word, ◌⇒◌, ◌⇒✗◌}
@@ -277,3 +277,25 @@ module _ {text : List ℕ} {f : Flags} {p : Parser} (a : At text f p) where
 
     pub class_taken : {q w : Parser} {id made : NodeId} {start : ℕ} → (x : Numbered text f (at ClassExpr f) p q id) → start ≡ p.token.span.start → MadeHere (class_label Declaration start q.prev_token_end) (node_at q.nodes id).children q w made → UnlinkedTaken text f (default_exported f) p w made
     class_taken {w = w} {made = made} x s m = unlinked_whole text f (default_exported f) p w (Ok made) (whole_by text f p w (Ok made) (to_class h) (class_whole x s m))
+
+-- ---- behind the word
+
+module _ {text : List ℕ} {f : Flags} {p q : Parser} (a : At text f p) (h : StandsHere p Default true) (m : Moved text f p q) where
+  pub behind_word_stops : (w : Parser) (e : Stop) → Stops q w e (NoUnlinked text (default_exported f) q.prev_token_end) → Stops p w e (NoUnlinked text (tok Default ▸ default_exported f) p.prev_token_end)
+  behind_word_stops w e z = stops_behind w e m.same (λ d. grown_then m.kept d) (λ n. token {X = plain no_link} Default a h.0 h.1 refl m ⟶✗ n) z
+
+  pub behind_word_taken : {w : Parser} {id : NodeId} → UnlinkedTaken text f (default_exported f) q w id → UnlinkedTaken text f (tok Default ▸ default_exported f) p w id
+  behind_word_taken {w} {id} x =
+      let y : Path text f (plain no_link) (tok Default ▸ default_exported f) p nothing w (tree x.label x.slots) = token Default a h.0 h.1 refl m ⟶ record { at = x.at; further = x.further; pass = x.pass; walked = x.walked; verdict = x.verdict } in
+      record {
+        at = y.at;
+        same = same_both m.same x.same;
+        further = y.further;
+        label = x.label;
+        slots = x.slots;
+        pass = y.pass;
+        walked = y.walked;
+        verdict = y.verdict;
+        holds = subst (λ (ns : List Node). Holds w.nodes (length ns) (length w.nodes) id.0 x.label x.slots) m.nodes x.holds;
+        keeps = subst (λ (ns : List Node). Keeps ns w.nodes) m.nodes x.keeps;
+      }

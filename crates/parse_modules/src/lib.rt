@@ -2,6 +2,7 @@
 #![tactic(auto)]
 
 pub mod attributes;
+pub mod export_default;
 pub mod exported_declaration;
 pub mod import_clause;
 pub mod import_declaration;
