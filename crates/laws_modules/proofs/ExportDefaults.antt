@@ -104,7 +104,7 @@ module _ {text : List ℕ} {f : Flags} {p : Parser} (a : At text f p) (n : NoFun
       go true e = absurd (none e)
       go false e = ap not e
 
-  no_line : (b s : Bool) → {X : Test} → Fails rule (Lex text) (plain full) end (default_line b s f) p.prev_token_end
+  no_line : (b s : Bool) → Fails rule (Lex text) (plain full) end (default_line b s f) p.prev_token_end
   unfolding covers
   no_line false s = none_begins a {X = plain full} (default_line false s f) Function (by s) refl n.0
     where

@@ -95,6 +95,7 @@ module _ {text : List ℕ} {f : Flags} {o p : Parser} (a : At text f o) (h : Sta
 
   module _ (k : NodeKind) {g : G} (to : Goes rule (Lex text) (plain no_link) end (rule (at ExportDecl f)) o.prev_token_end (export_line (kind_of k) g) o.prev_token_end (λ us. us) (still 0)) where
     line_stops : (q : Parser) (e : Stop) → Stops p q e (NoUnlinked text g p.prev_token_end) → Stops o q e (NoStatement text (at ExportDecl f) o.prev_token_end)
+    unfolding covers
     line_stops q e z = stops_behind q e m.same (λ d. grown_then m.kept d) (λ n. fails_rule {X' = plain no_link} (export_heads f) (to ▹✗ fails_node (inside_plain refl) (export_passed ⟶✗ n))) z
 
     module _ {q : Parser} {child : NodeId} (x : UnlinkedTaken text f g p q child) where
@@ -102,6 +103,7 @@ module _ {text : List ℕ} {f : Flags} {o p : Parser} (a : At text f o) (h : Sta
       child_path = record { at = x.at; further = x.further; pass = x.pass; walked = x.walked; verdict = x.verdict }
 
       line_path : Path text f (after_statement (at ExportDecl f)) (such (at ExportDecl f) always) o nothing q (tree (label_here (kind_of k) no_op o q) (tree x.label x.slots end))
+      unfolding covers
       line_path = by_symbol_as {X' = plain no_link} (export_heads f) (to ⟼ noded_by a (inside_plain refl) (export_passed ⟶ child_path))
 
       line_answers : ends_in_sub (kind_of k) ≡ false → {w : Parser} {id : NodeId} (s : Span) → s.start ≡ o.token.span.start → s.end ≡ q.prev_token_end → MadeHere (plain_label k op.None s) (Some child ∷ []) q w id → Statement text f (at ExportDecl f) o w id
@@ -121,7 +123,7 @@ module _ {text : List ℕ} {f : Flags} {o p : Parser} (a : At text f o) (h : Sta
     exported_stops q e z = line_stops a h m node.ExportDeclaration (to_exported a h m n) q e z
 
     pub exported_answers : {q w : Parser} {child id : NodeId} (s : Span) → UnlinkedTaken text f (exported f) p q child → s.start ≡ o.token.span.start → s.end ≡ q.prev_token_end → MadeHere (plain_label node.ExportDeclaration op.None s) (Some child ∷ []) q w id → Statement text f (at ExportDecl f) o w id
-    exported_answers s x b d n = line_answers a h m node.ExportDeclaration (to_exported a h m n) x refl s b d n
+    exported_answers s x b d e = line_answers a h m node.ExportDeclaration (to_exported a h m n) x refl s b d e
 
   -- the default
   module _ (d : StandsHere p Default true) where
