@@ -1,29 +1,27 @@
 -- What is exported as the default (ECMA-262, 16.2.3): an expression and its semicolon; a class, with a name or without.
-use Rattle.std.proofs.Common.{ℕ, ◌≡◌, max, List, [], ◌∷◌, length, Bool, true, false, not, ◌&&◌, ◌||◌, IsTrue, refl, sym, ap, subst, arith, ◌∙◌, inl, inr}
-use Rattle.std.specs.Prelude.{Result, Ok, Err}
+use Rattle.std.proofs.Common.{ℕ, ◌≡◌, List, [], ◌∷◌, length, Bool, true, false, not, ◌&&◌, ◌||◌, IsTrue, refl, sym, ap, subst, ◌∙◌, inl, inr}
+use Rattle.std.specs.Prelude.{Ok, Err}
 use Rattle.std.proofs.lemmas.Bool.{false≢true, and_from, and_parts}
 use Rattle.js_base.specs.declared.kind.Kind.{Kind}
-use Rattle.js_base.specs.declared.kind.Kind.TheVariants.{Async, At as at_sign, Class, Comma, Default, Function, Semicolon}
+use Rattle.js_base.specs.declared.kind.Kind.TheVariants.{At as at_sign, Class, Comma, Default, Function, Semicolon}
 use Rattle.js_base.specs.Kinds.{one_of_kinds, same_kind}
-use Rattle.js_grammar.specs.Conditions.{ends_in_sub}
 use Rattle.js_grammar.specs.Follow.{after, looser, row_of}
-use Rattle.js_grammar.specs.Trees.{Label, Slots, end, tree, class_declaration}
+use Rattle.js_grammar.specs.Trees.{Label, Slots, end, tree}
 use Rattle.js_grammar.specs.Grammar.{Lexeme, Lexemes, Look, here, is, may_omit, nothing, seen, semicolon, seq, Takes, is_lexeme, is_look, is_node, is_seq, is_such, ◌▸◌}
 use Rattle.js_grammar.specs.Insertion.{Row, after_body, after_declarator, after_expression, after_postfix, after_word, after_yield, goes_on}
 use Rattle.js_grammar.specs.Lexed.{Lexes}
 use Rattle.js_grammar.specs.Parsing.{Test, plain, full, still, Goes, Fails}
-use Rattle.js_grammar.specs.Productions.{G, Flags, at, function_on_line, is_one_of, other, slot, tok, Assignment, BindingIdentifier, ClassExpr}
+use Rattle.js_grammar.specs.Productions.{G, Flags, at, function_on_line, is_one_of, other, tok, Assignment, ClassExpr}
 use Rattle.js_grammar.specs.Productions.{sym as symbol}
 use Rattle.js_grammar.specs.RightEdges.{of_assignment}
-use Rattle.js_grammar.specs.Table.{rule, rule_of, function_of}
-use Rattle.js_grammar.specs.Trees.{function_declaration}
+use Rattle.js_grammar.specs.Table.{rule, rule_of}
 use Rattle.js_grammar.specs.FirstSets.{first}
 use Rattle.js_grammar.proofs.First.{starts}
 use Rattle.js_grammar.proofs.Finding.{either_of}
 use Rattle.js_grammar.proofs.FollowLaws.{assignment_ended}
 use Rattle.js_grammar.proofs.Looks.{apart, covered, covers, not_both}
 use Rattle.js_grammar.proofs.RightEdges.{at_row}
-use Rattle.js_grammar.proofs.Calculus.{◌▹◌, ◌▹✗◌, by_omission, ends, ends_by, fails_alt, fails_ended, fails_semicolon, here_at, looks, right, same, slots_are, weaken_fails}
+use Rattle.js_grammar.proofs.Calculus.{◌▹◌, by_omission, ends, ends_by, fails_alt, fails_ended, fails_semicolon, here_at, looks, right, same, slots_are, weaken_fails}
 use Rattle.laws_shared.specs.js_tree.declared.id.NodeId.{NodeId}
 use Rattle.laws_shared.specs.js_tree.Holding.{Holds, Keeps}
 use Rattle.laws_shared.specs.js_tree.Nodes.{Node, node_at}
@@ -31,12 +29,12 @@ use Rattle.laws_shared.proofs.js_tree.HoldingLemmas.{Keeps-made, Keeps-trans}
 use Rattle.laws_shared.specs.js_cursor.Moves.{GivesUp, IsUnexpected}
 use Rattle.laws_shared.specs.js_cursor.Parsers.{Parser}
 use Rattle.laws_shared.specs.js_cursor.declared.stop.Stop.{Stop}
-use Rattle.laws_shared.specs.Answers.{Answer, Numbered, Outcome, Stops, Stretch, Underived, beside}
+use Rattle.laws_shared.specs.Answers.{Answer, Numbered, Stops, Stretch, Underived, beside}
 use Rattle.laws_shared.specs.Lexemes.{Lex, Plain}
-use Rattle.laws_shared.specs.Methods.{WholeOutcome, WholeTaken}
+use Rattle.laws_shared.specs.Methods.{WholeTaken}
 use Rattle.laws_shared.specs.Moves.{MadeHere, Moved}
 use Rattle.laws_shared.specs.Stands.{StandsHere}
-use Rattle.laws_shared.specs.States.{At, Same}
+use Rattle.laws_shared.specs.States.{At}
 use Rattle.laws_shared.specs.Statements.{EndsStatement, NoEnd, no_link}
 use Rattle.laws_primary.specs.Classes.{class_label, class_slots}
 use Rattle.laws_primary.specs.Decorators.{ClassHere, class_kinds}
@@ -61,7 +59,7 @@ use Rattle.laws_statements.proofs.Statements.{◌⟝◌, ended_so, omits_stopped
 use Rattle.laws_statements.proofs.WordLookaheads.{Leads, at_once, async_named, async_word, leads_to, not_followed, stands_word, ◌⇒◌, ◌⇒✗◌}
 use Rattle.parse_declarations.specs.Declarations.{stops_row}
 use Rattle.laws_modules.specs.ExportDefaults.{default_class, default_exported, default_expression, default_function, default_line}
-use Rattle.laws_modules.specs.ExportedDeclarations.{NoUnlinked, UnlinkedOutcome, UnlinkedTaken}
+use Rattle.laws_modules.specs.ExportedDeclarations.{NoUnlinked, UnlinkedTaken}
 use Rattle.laws_modules.proofs.ExportedDeclarations.{none_begins, unlinked_whole}
 use Rattle.laws_modules.proofs.WholeParts.{whole_by}
 
@@ -96,9 +94,9 @@ module _ {text : List ℕ} {f : Flags} {p : Parser} (a : At text f p) (n : NoFun
       none : IsTrue (seen (is_one_of declares) y) → ⊥
       none h =
           let z = and_parts (one_of_kinds declares y.kind) (not y.escaped) h in
-          either_of (same_kind Function y.kind) _ z.0 (λ k. none_seen (stands_not a {Function} refl n.0) y l (and_from _ _ k z.1))
-          (λ i. either_of (same_kind Class y.kind) _ i (λ k. none_seen (stands_not a {Class} refl (away Class refl)) y l (and_from _ _ k z.1))
-          (λ i. either_of (same_kind at_sign y.kind) false i (λ k. none_seen (stands_not a {at_sign} refl (away at_sign refl)) y l (and_from _ _ k z.1)) (λ e. false≢true e)))
+          either_of (same_kind Function y.kind) _ z.0 (λ k. none_seen (stands_not a {k = Function} refl n.0) y l (and_from _ _ k z.1))
+          (λ i. either_of (same_kind Class y.kind) _ i (λ k. none_seen (stands_not a {k = Class} refl (away Class refl)) y l (and_from _ _ k z.1))
+          (λ i. either_of (same_kind at_sign y.kind) false i (λ k. none_seen (stands_not a {k = at_sign} refl (away at_sign refl)) y l (and_from _ _ k z.1)) (λ e. false≢true e)))
 
       go : (b : Bool) → seen (is_one_of declares) y ≡ b → not (seen (is_one_of declares) y) ≡ true
       go true e = absurd (none e)
@@ -145,10 +143,6 @@ no_semicolon = refl
 abbrev ends_value : Row → Look
 ends_value r k w e = (not e || one_of_kinds escapable_kinds k) && (looser 1 true r k w e || beside k w e)
 
-value_stops : (r : Row) → covers (ends_value r) (stops_row r) ≡ true
-unfolding covers
-value_stops r = at_row (λ r. covers (ends_value r) (stops_row r)) refl r
-
 module _ {text : List ℕ} {f : Flags} {p q : Parser} (x : Answer text f (at Assignment f) p q) where
   abbrev row : Row
   row = row_of x.label x.slots
@@ -178,6 +172,9 @@ module _ {text : List ℕ} {f : Flags} {p q : Parser} (x : Answer text f (at Ass
       let s = narrows 2 1 (Comma ∷ []) true row (narrow_assignment 2 1 (Comma ∷ []) (narrow_operand 2 1 (Comma ∷ []) refl refl refl refl) refl refl refl refl true row x.row) z l.1 (no_comma (one_of_kinds (Comma ∷ []) z.kind) refl) (subst (λ (b : Bool). IsTrue (seen (looser 2 b row) z || seen beside z)) i (x.stops z l)) in
       covered (ends_value row) (stops_row row) (value_stops row) z.kind z.newline z.escaped (and_from _ _ (plain_or_escapable z (plain_lex l)) s)
     where
+      value_stops : (r : Row) → covers (ends_value r) (stops_row r) ≡ true
+      value_stops r = at_row (λ r. covers (ends_value r) (stops_row r)) refl r
+
       no_comma : (b : Bool) → one_of_kinds (Comma ∷ []) z.kind ≡ b → one_of_kinds (Comma ∷ []) z.kind ≡ false
       no_comma true e = absurd (not_here x.at (Comma ∷ []) refl (other_kind Comma q.token.kind n) z (plain_lex l) e)
       no_comma false e = e
@@ -217,7 +214,7 @@ module _ {text : List ℕ} {f : Flags} {p : Parser} (a : At text f p) (n : NoFun
 -- ---- a class
 
 -- a class expression is derived from the same lexemes as the slots of its node
-class_derived : {text : List ℕ} {f : Flags} {l : Label} {cs us vs : Slots} {i j : ℕ} {ls rest : Lexemes} → Takes rule (symbol ClassExpr f) end (tree l cs us) i ls vs j rest → (us ≡ vs) × Takes rule (class_slots Expression f) end cs i ls end j rest
+class_derived : {f : Flags} {l : Label} {cs us vs : Slots} {i j : ℕ} {ls rest : Lexemes} → Takes rule (symbol ClassExpr f) end (tree l cs us) i ls vs j rest → (us ≡ vs) × Takes rule (class_slots Expression f) end cs i ls end j rest
 unfolding rule rule_of
 class_derived (is_such (is_node d) t) = (refl, d)
 
@@ -236,8 +233,8 @@ module _ {text : List ℕ} {f : Flags} {p : Parser} (a : At text f p) where
   no_declaration n = record { no = λ ts vs k ls rest l d e. let x = expression_of d in n.no (tree x.0 x.1 vs) vs k ls rest l x.2 (refl, refl) }
 
   -- the same, as a declaration
-  declared_class : {q : Parser} {l : Label} {cs : Slots} {pass : Lexemes → Lexemes} → Stretch text (after (at ClassExpr f)) (symbol ClassExpr f) p.prev_token_end nothing q.prev_token_end (tree l cs) pass → Stretch text (plain full) (default_class f) p.prev_token_end nothing q.prev_token_end (tree (class_label Declaration p.token.span.start q.prev_token_end) cs) pass
-  declared_class {q} {l} {cs} {pass} x = record {
+  declared_class : (q : Parser) {l : Label} {cs : Slots} {pass : Lexemes → Lexemes} → Stretch text (after (at ClassExpr f)) (symbol ClassExpr f) p.prev_token_end nothing q.prev_token_end (tree l cs) pass → Stretch text (plain full) (default_class f) p.prev_token_end nothing q.prev_token_end (tree (class_label Declaration p.token.span.start q.prev_token_end) cs) pass
+  declared_class q {l} {cs} {pass} x = record {
     reach = x.reach;
     near = x.near;
     goes = record {
@@ -264,7 +261,7 @@ module _ {text : List ℕ} {f : Flags} {p : Parser} (a : At text f p) where
   class_whole : {q w : Parser} {id made : NodeId} {start : ℕ} → (x : Numbered text f (at ClassExpr f) p q id) → start ≡ p.token.span.start → MadeHere (class_label Declaration start q.prev_token_end) (node_at q.nodes id).children q w made → WholeTaken text f (default_class f) p w made
   class_whole {q} {w} {id} {made} x s m =
       let n : MadeHere (class_label Declaration p.token.span.start q.prev_token_end) (node_at q.nodes id).children q w made = subst (λ (v : ℕ). MadeHere (class_label Declaration v q.prev_token_end) (node_at q.nodes id).children q w made) s m in
-      let y : Path text f (plain full) (default_class f) p nothing q (tree (class_label Declaration p.token.span.start q.prev_token_end) x.answer.slots) = record { at = x.answer.at; further = x.answer.further; pass = x.answer.pass; walked = x.answer.walked; verdict = verdict_of x.answer.verdict (λ u. declared_class u) (λ u. no_declaration u) } in
+      let y : Path text f (plain full) (default_class f) p nothing q (tree (class_label Declaration p.token.span.start q.prev_token_end) x.answer.slots) = record { at = x.answer.at; further = x.answer.further; pass = x.answer.pass; walked = x.answer.walked; verdict = verdict_of x.answer.verdict (λ u. declared_class q u) (λ u. no_declaration u) } in
       whole_answers x.answer.same n.stays (node_held n (held_children id x.holds)) (Keeps-trans x.keeps (Keeps-made n.made)) refl (one_lies n) y
 
   to_class : ClassHere p true → Goes rule (Lex text) (plain full) end (default_exported f) p.prev_token_end (default_class f) p.prev_token_end (λ us. us) (still 0)

@@ -1,5 +1,5 @@
 -- Declarations that are exported (ECMA-262, 16.2.3): of variables, of functions, of classes.
-use Rattle.std.proofs.Common.{ℕ, ◌≡◌, ◌+◌, inl, inr, max, List, [], ◌∷◌, length, Option, Some, None, Bool, true, false, not, ◌&&◌, ◌||◌, IsTrue, refl, sym, ap, subst, arith, ◌∙◌}
+use Rattle.std.proofs.Common.{ℕ, ◌≡◌, ◌+◌, inl, inr, List, [], ◌∷◌, length, Some, Bool, true, false, ◌||◌, refl, sym, subst, arith, ◌∙◌}
 use Rattle.std.specs.Prelude.{Result, Ok, Err}
 use Rattle.std.proofs.lemmas.Bool.{false≢true, and_from}
 use Rattle.js_base.specs.declared.kind.Kind.{Kind}
@@ -7,16 +7,14 @@ use Rattle.js_base.specs.declared.kind.Kind.TheVariants as kind
 use Rattle.js_base.specs.Kinds.{one_of_kinds}
 use Rattle.js_base.specs.declared.span.Span.{Span}
 use Rattle.js_grammar.specs.Trees.{Label, Slots, end, tree, no_op, function_declaration}
-use Rattle.js_grammar.specs.Grammar.{Lexeme, Lexemes, Look, commas, ended, is, nothing, seen, such, Takes, is_ended, is_lexeme, is_look, is_node, is_seq}
-use Rattle.js_grammar.specs.Insertion.{by_edge}
+use Rattle.js_grammar.specs.Grammar.{Lexemes, commas, is, nothing, Takes, is_ended, is_lexeme, is_look, is_node, is_seq}
 use Rattle.js_grammar.specs.Lexed.{Lexes}
-use Rattle.js_grammar.specs.Parsing.{Test, plain, full, always, still, Goes, Fails}
+use Rattle.js_grammar.specs.Parsing.{Test, plain, full, still, Goes, Fails}
 use Rattle.js_grammar.specs.Productions.{G, Flags, at, async_flag, flag, generator_flag, Lexical, Var}
 use Rattle.js_grammar.specs.Productions.{Class as AClass}
 use Rattle.js_grammar.specs.Productions.{Function as AFunction}
-use Rattle.js_grammar.specs.Productions.{op as op_node}
 use Rattle.js_grammar.specs.Productions.{sym as symbol}
-use Rattle.js_grammar.specs.Table.{rule, rule_of, declarator, declarators}
+use Rattle.js_grammar.specs.Table.{rule, rule_of, declarator}
 use Rattle.js_grammar.specs.FirstSets.{first}
 use Rattle.js_grammar.proofs.First.{starts}
 use Rattle.js_grammar.proofs.FirstClaims.{firsts}
@@ -28,12 +26,11 @@ use Rattle.laws_shared.specs.js_tree.declared.kind.NodeKind.TheVariants as node
 use Rattle.laws_shared.specs.js_tree.declared.op.DeclarationKind.{DeclarationKind}
 use Rattle.laws_shared.specs.js_tree.declared.op.DeclarationKind.TheVariants as declared
 use Rattle.laws_shared.specs.js_tree.declared.op.Op.TheVariants as op
-use Rattle.laws_shared.specs.js_tree.Holding.{HoldsAll}
 use Rattle.laws_shared.proofs.js_tree.HoldingLemmas.{HoldsAll-none, Keeps-made, Keeps-trans}
 use Rattle.laws_shared.specs.js_cursor.Moves.{GivesUp, IsUnexpected}
 use Rattle.laws_shared.specs.js_cursor.Parsers.{Parser}
 use Rattle.laws_shared.specs.js_cursor.declared.stop.Stop.{Stop}
-use Rattle.laws_shared.specs.Answers.{Numbered, Outcome, Stops, Underived}
+use Rattle.laws_shared.specs.Answers.{Outcome, Stops}
 use Rattle.laws_shared.specs.js_lex.Reading.{is_right_angle}
 use Rattle.laws_shared.specs.Lexemes.{Lex, other_goals}
 use Rattle.laws_shared.specs.Methods.{WholeOutcome, WholeTaken}
@@ -56,11 +53,11 @@ use Rattle.laws_shared.proofs.Parts.{part_path}
 use Rattle.laws_shared.proofs.Paths.{Path, ◌⟼◌, at_kind, at_kinds, by_symbol_as, flagged_by, flagged_here}
 use Rattle.laws_shared.proofs.Signs.{none_seen, stands_not}
 use Rattle.laws_shared.proofs.Verdicts.{verdict_of}
-use Rattle.laws_statements.specs.DeclarationStatements.{NoDeclaration, ReadsDeclaration, declaration}
+use Rattle.laws_statements.specs.DeclarationStatements.{ReadsDeclaration, declaration}
 use Rattle.laws_statements.specs.DeclarationStatements.{Declaration as ADeclaration}
-use Rattle.laws_statements.specs.LetStatements.{BeginsLexical, LetHere, LetIsName, NoLet, behind_let}
+use Rattle.laws_statements.specs.LetStatements.{BeginsLexical, LetIsName, NoLet, behind_let}
 use Rattle.laws_statements.proofs.DeclarationStatements.{const_alone, declaration_read}
-use Rattle.laws_statements.proofs.WordLookaheads.{AsyncIsName, async_named}
+use Rattle.laws_statements.proofs.WordLookaheads.{async_named}
 use Rattle.laws_statements.proofs.WordStatements.{still_unlinked}
 use Rattle.laws_modules.specs.ExportedDeclarations.{NoUnlinked, ReadsUnlinked, UnlinkedOutcome, UnlinkedTaken, exported}
 use Rattle.laws_modules.proofs.WholeParts.{whole_by}

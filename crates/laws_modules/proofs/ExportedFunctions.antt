@@ -8,9 +8,9 @@ use Rattle.js_base.specs.declared.span.Span.{Span}
 use Rattle.js_base.specs.Kinds.{one_of_kinds}
 use Rattle.js_base.specs.KindSets.{binding_identifier_kinds}
 use Rattle.js_grammar.specs.Trees.{Label, end, hole, tree, no_op, function_declaration}
-use Rattle.js_grammar.specs.Grammar.{Lexeme, Look, empty_slot, here, nothing, seen, such, ◌▸◌}
-use Rattle.js_grammar.specs.Parsing.{Test, plain, full, always, still, Goes, Fails}
-use Rattle.js_grammar.specs.Productions.{G, Flags, at, async_flag, flag, function_on_line, generator_flag, is_one_of, no_newline, only, other, slot, tok, params_of, body_of, BindingIdentifier, Body, Params}
+use Rattle.js_grammar.specs.Grammar.{Lexeme, Look, empty_slot, here, nothing, seen, ◌▸◌}
+use Rattle.js_grammar.specs.Parsing.{plain, full, still, Goes, Fails}
+use Rattle.js_grammar.specs.Productions.{G, Flags, at, async_flag, flag, function_on_line, generator_flag, is_one_of, no_newline, only, other, tok, params_of, body_of, BindingIdentifier, Body, Params}
 use Rattle.js_grammar.specs.Productions.{sym as symbol}
 use Rattle.js_grammar.specs.Table.{rule, begins_no_declaration}
 use Rattle.js_grammar.specs.Follow.{after}
@@ -23,7 +23,7 @@ use Rattle.laws_shared.specs.js_tree.declared.id.NodeId.{NodeId}
 use Rattle.laws_shared.specs.js_tree.declared.kind.NodeKind.TheVariants as node
 use Rattle.laws_shared.specs.js_tree.declared.op.Op.TheVariants as op
 use Rattle.laws_shared.proofs.js_tree.HoldingLemmas.{HoldsAll-none, Keeps-made, Keeps-trans}
-use Rattle.laws_shared.specs.js_cursor.Moves.{Eats, OnlyMemory}
+use Rattle.laws_shared.specs.js_cursor.Moves.{Eats}
 use Rattle.laws_shared.specs.js_cursor.Parsers.{Parser}
 use Rattle.laws_shared.specs.js_cursor.declared.stop.Stop.{Stop}
 use Rattle.laws_shared.specs.Answers.{Numbered, Stops, Underived}
@@ -36,14 +36,13 @@ use Rattle.laws_shared.specs.States.{At, Same}
 use Rattle.laws_primary.specs.Decorators.{class_kinds}
 use Rattle.laws_primary.specs.Functions.{BeginsFunction, FunctionNext}
 use Rattle.laws_primary.specs.declared.forms.FunctionParts.{FunctionParts}
-use Rattle.laws_primary.proofs.AsyncWords.{any_between, one_function}
-use Rattle.laws_primary.proofs.Functions.{line_flags, name_numbered, no_name_part, part_hole, word_here, words_passed}
+use Rattle.laws_primary.proofs.AsyncWords.{any_between, function_here, one_function, part_within, same_line}
+use Rattle.laws_primary.proofs.Functions.{line_flags, name_numbered, no_name_part, part_hole, word_at, word_here}
 use Rattle.laws_primary.proofs.Wholes.{whole_answers, whole_last, whole_of}
 use Rattle.laws_shared.proofs.Ahead.{pass_over}
-use Rattle.laws_shared.proofs.Giving.{memory_stops}
 use Rattle.laws_shared.proofs.Here.{escaped_here, kind_here}
 use Rattle.laws_shared.proofs.MadeNodes.{node_held, one_lies}
-use Rattle.laws_shared.proofs.Moving.{moves, stops_behind, stops_so}
+use Rattle.laws_shared.proofs.Moving.{moves, stops_behind}
 use Rattle.laws_shared.proofs.NameKinds.{listed_here, name_apart, name_at}
 use Rattle.laws_shared.proofs.Parts.{part_called, part_from, part_goes, part_path, part_path_fails, part_sign, parts}
 use Rattle.laws_shared.proofs.Paths.{Path, ◌⟼◌, fails_at, flagged_by, flagged_here}
@@ -80,8 +79,28 @@ module _ {text : List ℕ} {f : Flags} {p o q : Parser} (a : At text f p) (h : B
   other_word true (k, v) = done ▹✗ part_fails {X' = plain full} (fails_at a (tok Function) (Function ∷ []) refl (ap (one_of_kinds (Function ∷ [])) k.0)) any_between
   other_word false (n, e) = part_fails {X' = plain full} (part_fails {X' = plain full} (fails_at a (tok Async) (Async ∷ []) refl (ap (λ (v : Parser). one_of_kinds (Async ∷ []) v.token.kind) (sym e) ∙ ap (one_of_kinds (Async ∷ [])) (word_here o a h false (n, e)).0)) any_between) any_between
 
+  -- behind `async` the other word stands on the line
+  on_its_line : (e : Eats Async p o true) → (Moved text f p o) × (o.token.is_on_new_line ≡ false)
+  on_its_line (k, v) = go h
+    where
+      go : BeginsFunction p → (Moved text f p o) × (o.token.is_on_new_line ≡ false)
+      go (inl w) = let z : Function ≡ Async = sym w.0 ∙ k.0 in absurd (cc)
+      go (inr w) =
+          let m = moves (whole_sign Async a k.0 refl refl) v a in
+          let y = w.1 text f a in
+          (m, (function_here m.at y.0 (subst (λ (u : ℕ). Lex text u y.0) (m.tells.end ∙ m.ends) y.1) y.2).newline ∙ y.4)
+
   begun : (s : Bool) → Partway text f (default_slots n s f) (only s (tok Star) ▸ behind_sign n s f) p q [] []
-  begun s = words_passed o a h (only s (tok Star) ▸ behind_sign n s f) n w m
+  begun s = by n w
+    where
+      by : (b : Bool) → Eats Async p o b → Partway text f (only b (tok Async ▸ no_newline) ▸ tok Function ▸ only s (tok Star) ▸ behind_sign n s f) (only s (tok Star) ▸ behind_sign n s f) p q [] []
+      by true e =
+          let l = on_its_line e in
+          let i = word_here o a h true e in
+          parts (part_goes (part_within (part_sign Async a e.0.0 e.0.1 refl l.0)) (same_line l.0.at l.1)) (part_sign Function l.0.at i.0 i.1 refl m)
+      by false (i, e) =
+          let k = word_here o a h false (i, e) in
+          part_from done (subst (λ (v : Parser). Partway text f (tok Function ▸ only s (tok Star) ▸ behind_sign n s f) (only s (tok Star) ▸ behind_sign n s f) v q [] []) e (part_sign Function (word_at o a h false (i, e)) k.0 k.1 refl m))
 
   starred : (s : Bool) (r : Parser) → Eats Star q r s → Partway text f (default_slots n s f) (behind_sign n s f) p r [] []
   starred true r (k, v) = parts (begun true) (part_sign Star m.at k.0 k.1 refl (moves (whole_sign Star m.at k.0 refl refl) v m.at))

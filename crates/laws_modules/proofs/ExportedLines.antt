@@ -1,5 +1,5 @@
 -- The lines of an export declaration (ECMA-262, 16.2.3): which of them is left, by what stands behind `export`; and the answer of one with a single child.
-use Rattle.std.proofs.Common.{ℕ, ◌≡◌, List, [], ◌∷◌, length, Some, Bool, true, false, refl, sym, ap, subst, ◌∙◌}
+use Rattle.std.proofs.Common.{ℕ, ◌≡◌, List, [], ◌∷◌, length, Some, true, false, refl, ap, subst}
 use Rattle.std.proofs.lemmas.Bool.{and_parts}
 use Rattle.js_base.specs.Kinds.{one_of_kinds}
 use Rattle.js_base.specs.declared.kind.Kind.{Kind}
@@ -15,7 +15,7 @@ use Rattle.js_grammar.specs.Productions.{G, Flags, at, mk, slot, tok, ExportDecl
 use Rattle.js_grammar.specs.Productions.{sym as symbol}
 use Rattle.js_grammar.specs.Table.{rule, rule_of, export_list, exported_reference, source}
 use Rattle.js_grammar.proofs.Looks.{apart, covers}
-use Rattle.js_grammar.proofs.Calculus.{Heads, ◌▹◌, ◌▹✗◌, fails_alt, fails_node, fails_rule, inside_full, inside_plain, left, right}
+use Rattle.js_grammar.proofs.Calculus.{Heads, ◌▹◌, ◌▹✗◌, fails_node, fails_rule, inside_full, inside_plain, left, right}
 use Rattle.laws_shared.specs.js_tree.declared.id.NodeId.{NodeId}
 use Rattle.laws_shared.specs.js_tree.declared.kind.NodeKind.{NodeKind}
 use Rattle.laws_shared.specs.js_tree.declared.kind.NodeKind.TheVariants as node
