@@ -1,5 +1,5 @@
 use Rattle.std.proofs.Common.{◌≡◌, true, false, ap, arith, subst, sym, ◌∙◌}
-use Rattle.std.proofs.lemmas.Result.{err_from_is_err_and}
+use Rattle.std.specs.Prelude.{Err}
 use Rattle.js_base.specs.Contexts.{has_flag, in_flag}
 use Rattle.js_base.specs.declared.kind.Kind.TheVariants.{Const, Var}
 use Rattle.laws_modules.specs.ExportedDeclarations.{exported}
@@ -22,20 +22,20 @@ parse_declaration-requires-clause-word g c = stands_so c.args.p.now Var c.if-sta
 pub returns-then-stands : goal.returns-then-stands
 returns-then-stands g c = λ text f a. var_exported a (stands_so c.args.p.now Var c.if-stands.true c.stands.ensures) _ _ c.parse_declaration.ensures
 
-pub parse_declaration-requires-2-clause-at : goal.parse_declaration-requires-2-clause-at
-parse_declaration-requires-2-clause-at g c = let z = found_lexical true c.args.p.now c.lexical_kind.new.p _ c.in-Some.kind c.in-Some.is c.in_ok-kind.ensures in subst (λ (v : Parser). Standing v) (sym z.0) c.requires.at
+pub parse_declaration-requires-in-Some-clause-at : goal.parse_declaration-requires-in-Some-clause-at
+parse_declaration-requires-in-Some-clause-at g c = let z = found_lexical true c.args.p.now c.lexical_kind.new.p _ c.in-Some.kind c.in-Some.is c.in_ok-kind.ensures in subst (λ (v : Parser). Standing v) (sym z.0) c.requires.at
 
-pub parse_declaration-requires-2-clause-nests : goal.parse_declaration-requires-2-clause-nests
-parse_declaration-requires-2-clause-nests g c = let z = found_lexical true c.args.p.now c.lexical_kind.new.p _ c.in-Some.kind c.in-Some.is c.in_ok-kind.ensures in nests_later c.requires.nests (let e = ap room z.0 in omega arith)
+pub parse_declaration-requires-in-Some-clause-nests : goal.parse_declaration-requires-in-Some-clause-nests
+parse_declaration-requires-in-Some-clause-nests g c = let z = found_lexical true c.args.p.now c.lexical_kind.new.p _ c.in-Some.kind c.in-Some.is c.in_ok-kind.ensures in nests_later c.requires.nests (let e = ap room z.0 in omega arith)
 
-pub parse_declaration-requires-2-clause-allows_in : goal.parse_declaration-requires-2-clause-allows_in
-parse_declaration-requires-2-clause-allows_in g c = let z = found_lexical true c.args.p.now c.lexical_kind.new.p _ c.in-Some.kind c.in-Some.is c.in_ok-kind.ensures in ap (λ (v : Parser). has_flag in_flag v.ctx) z.0 ∙ c.requires.allows_in
+pub parse_declaration-requires-in-Some-clause-allows_in : goal.parse_declaration-requires-in-Some-clause-allows_in
+parse_declaration-requires-in-Some-clause-allows_in g c = let z = found_lexical true c.args.p.now c.lexical_kind.new.p _ c.in-Some.kind c.in-Some.is c.in_ok-kind.ensures in ap (λ (v : Parser). has_flag in_flag v.ctx) z.0 ∙ c.requires.allows_in
 
-pub parse_declaration-requires-2-clause-word : goal.parse_declaration-requires-2-clause-word
-parse_declaration-requires-2-clause-word g c = let z = found_lexical true c.args.p.now c.lexical_kind.new.p _ c.in-Some.kind c.in-Some.is c.in_ok-kind.ensures in lexical_word true c.in-Some.kind c.lexical_kind.new.p (subst (λ (v : Parser). BeginsLexical true c.in-Some.kind v) (sym z.0) z.1)
+pub parse_declaration-requires-in-Some-clause-word : goal.parse_declaration-requires-in-Some-clause-word
+parse_declaration-requires-in-Some-clause-word g c = let z = found_lexical true c.args.p.now c.lexical_kind.new.p _ c.in-Some.kind c.in-Some.is c.in_ok-kind.ensures in lexical_word true c.in-Some.kind c.lexical_kind.new.p (subst (λ (v : Parser). BeginsLexical true c.in-Some.kind v) (sym z.0) z.1)
 
 pub returns-in-Some : goal.returns-in-Some
-returns-in-Some g c = let z = found_lexical true c.args.p.now c.lexical_kind.new.p _ c.in-Some.kind c.in-Some.is c.in_ok-kind.ensures in unlinked_from (λ f. exported f) c.args.p.now c.lexical_kind.new.p _ _ z.0 (λ text f a. lexical_exported a c.in-Some.kind (subst (λ (v : Parser). BeginsLexical true c.in-Some.kind v) (sym z.0) z.1) _ _ c.parse_declaration-2.ensures)
+returns-in-Some g c = let z = found_lexical true c.args.p.now c.lexical_kind.new.p _ c.in-Some.kind c.in-Some.is c.in_ok-kind.ensures in unlinked_from (λ f. exported f) c.args.p.now c.lexical_kind.new.p _ _ z.0 (λ text f a. lexical_exported a c.in-Some.kind (subst (λ (v : Parser). BeginsLexical true c.in-Some.kind v) (sym z.0) z.1) _ _ c.parse_declaration-in-Some.ensures)
 
 pub function_stands-requires : goal.function_stands-requires
 function_stands-requires g c = let z = none_found true c.args.p.now c.lexical_kind.new.p _ c.in_default.is c.in_ok-kind.ensures in subst (λ (v : Parser). Standing v) (sym z.0) c.requires.at
@@ -73,4 +73,4 @@ returns g c =
     let s = found_so c.lexical_kind.new.p c.function_stands.new.p c.if-branch.false c.in_ok-function_stands.ensures in
     let v = stands_so c.args.p.now Var c.if-stands.false c.stands.ensures in
     let e = sym (s.0 ∙ z.0) in
-    unlinked_from (λ f. exported f) c.args.p.now c.function_stands.new.p _ _ (s.0 ∙ z.0) (λ text f a. unexpected_there a _ _ (subst (λ (w : Parser). StandsHere w Var false) e v) (subst (λ (w : Parser). StandsHere w Const false) e z.1) (subst (λ (w : Parser). NoLet true w) e z.2) (subst (λ (w : Parser). NoFunctionHere w) (sym s.0) s.1) (c.class_stands.ensures ∙ c.if-class_stands.false) c.set_unexpected.ensures)
+    unlinked_from (λ f. exported f) c.args.p.now c.function_stands.new.p c.set_unexpected.new.self (Err c.set_unexpected.result) (s.0 ∙ z.0) (λ text f a. unexpected_there a _ c.set_unexpected.result (subst (λ (w : Parser). StandsHere w Var false) e v) (subst (λ (w : Parser). StandsHere w Const false) e z.1) (subst (λ (w : Parser). NoLet true w) e z.2) (subst (λ (w : Parser). NoFunctionHere w) (sym s.0) s.1) (c.class_stands.ensures ∙ c.if-class_stands.false) c.set_unexpected.ensures)
