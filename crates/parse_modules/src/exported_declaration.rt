@@ -4,8 +4,8 @@ ghost use Rattle.std.specs.Prelude.{◌≡◌, ◌≤◌, true, false};
 ghost use Rattle.parse_modules.specs.Prelude.{BeginsFunction, CanNest, exported, Function, has_flag, in_flag, keyword_kind, one_of_kinds, other_exports, ReadsUnlinked, ReadsWhole, room, Standing, sym, TakesExport};
 
 use js_base::Kind;
-use parse_control::patterns::Patterns;
 use parse_control::declaration_statement::{lexical_kind, parse_declaration};
+use parse_control::patterns::Patterns;
 use parse_members::decorated::{class_stands, parse_class};
 use parse_primary::forms::{ClassForm, FunctionForm};
 use parse_primary::function::{function_stands, make_function, parse_function_parts};
