@@ -2,9 +2,9 @@
 pub use Rattle.js_base.specs.Contexts.{has_flag, in_flag}
 pub use Rattle.js_base.specs.Kinds.{one_of_kinds}
 pub use Rattle.js_base.specs.Spans.{LiesIn}
-pub use Rattle.js_base.specs.declared.kind.Kind.TheVariants.{Default, Eq, RCurly, Star, Str}
+pub use Rattle.js_base.specs.declared.kind.Kind.TheVariants.{Default, Eq, Export, RCurly, Star, Str}
 pub use Rattle.js_grammar.specs.Marks.{Mark}
-pub use Rattle.js_grammar.specs.Productions.{Function, ImportDecl, Item, at, bare_flag, flag, sym}
+pub use Rattle.js_grammar.specs.Productions.{ExportDecl, Function, ImportDecl, Item, at, bare_flag, flag, sym}
 pub use Rattle.js_grammar.specs.Trees.{import_declaration}
 pub use Rattle.laws_modules.specs.Attributes.{BeginsClause, ClauseOf, FindsClause, NoClauseOf, TakesAttributes, key_part}
 pub use Rattle.laws_modules.specs.ExportDefaults.{TakesDefaultName, TakesDefaultParts, default_exported}
