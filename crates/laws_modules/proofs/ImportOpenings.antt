@@ -1,15 +1,14 @@
 -- What stands behind `import`: in an expression a parenthesis or a dot (ECMA-262, 13.3.10, 13.3.12), in a declaration neither (16.2.2).
-use Rattle.std.proofs.Common.{ℕ, ◌≡◌, ◌⊎◌, inl, inr, List, [], ◌∷◌, Bool, true, false, not, ◌&&◌, ◌||◌, IsTrue, refl, sym, ap, subst, ◌∙◌}
-use Rattle.std.proofs.lemmas.Bool.{false≢true, and_from, and_parts, or_parts}
+use Rattle.std.proofs.Common.{ℕ, ◌≡◌, inl, inr, List, Bool, true, false, not, ◌&&◌, ◌||◌, IsTrue, refl, sym, ap, subst, ◌∙◌}
+use Rattle.std.proofs.lemmas.Bool.{false≢true, and_from, and_parts, or_parts, or_right}
 use Rattle.js_base.specs.Kinds.{one_of_kinds, same_kind}
 use Rattle.js_base.specs.declared.kind.Kind.{Kind}
 use Rattle.js_base.specs.declared.kind.Kind.TheVariants.{Import, RAngle}
 use Rattle.js_base.specs.declared.token.Token.{Token}
 use Rattle.js_grammar.specs.FirstSets.{first}
-use Rattle.js_grammar.specs.Follow.{after}
-use Rattle.js_grammar.specs.Grammar.{Lexeme, Lexemes, last, next, Look, here, is, seen, Takes, lexeme, seq, alt, when, such, marked, node, ended, is_lexeme, is_look, is_text, is_ahead, is_empty_slot, is_nothing, is_seq, is_left, is_right, is_when, is_many, is_commas, is_such, is_marked, is_node, is_ended, is_keep, is_kept}
+use Rattle.js_grammar.specs.Grammar.{Lexeme, Lexemes, last, next, Look, here, is, seen, Takes, lexeme, never, seq, alt, when, such, marked, node, ended, is_lexeme, is_seq, is_left, is_right, is_when, is_such, is_marked, is_node, is_ended, is_keep}
 use Rattle.js_grammar.specs.Lexed.{Lexes}
-use Rattle.js_grammar.specs.Parsing.{Test, Fails, always, full}
+use Rattle.js_grammar.specs.Parsing.{always, full}
 use Rattle.js_grammar.specs.Productions.{G, Flags, Name, Symbol, at, Expression, Assignment, Conditional, Short, Coalesce, Or, And, BitOr, BitXor, BitAnd, Equality, Relational, Shift, Additive, Multiply, Exponent, Unary, Update, LeftHandSide, New, Member, Call, Chain, Links, SimpleTarget, ImportDecl}
 use Rattle.js_grammar.specs.Productions.{sym as symbol}
 use Rattle.js_grammar.specs.Table.{rule, rule_of, import_clause, source}
@@ -58,10 +57,10 @@ peeked_none {p} {t} ks c h n text f a y l k = given_behind a h
         go false e = refl
 
     other : one_of_kinds other_goals y.kind ≡ false
-    other = (or_parts _ _ neither).0
+    other = (or_parts (one_of_kinds other_goals y.kind) (is_right_angle y.kind) neither).0
 
     angle : is_right_angle y.kind ≡ false
-    angle = (or_parts _ _ neither).1
+    angle = (or_parts (one_of_kinds other_goals y.kind) (is_right_angle y.kind) neither).1
 
 -- ---- expressions
 
@@ -119,7 +118,8 @@ linked (such n c) = elsewhere (such n c) || begins_so n.name
 linked (marked h n) = elsewhere (marked h n) || begins_so n.name
 linked (node m a) = linked a
 linked (ended r a) = linked a
-linked g = elsewhere g
+linked never = true
+linked g = false
 
 linked_at : (n : Name) (f : Flags) → begins_so n ≡ true → linked (rule_of n f) ≡ true
 unfolding rule_of apart covers
@@ -157,35 +157,29 @@ linked_line n h = linked_at n.name n.flags h
 abbrev Words : Lexemes → Type 0
 Words ls = IsTrue (seen (is Import) (here ls))
 
-not_elsewhere : (g : G) {ks ts us : Slots} {i j : ℕ} {ls rest : Lexemes} → Takes rule g ks ts i ls us j rest → Words ls → elsewhere g ≡ true → Linked ls
-not_elsewhere g d w h = absurd (not_both (starts first g full) (is Import) h _ _ _ (starting firsts full d refl) w)
+not_elsewhere : (g : G) (ls : Lexemes) → IsTrue (seen (starts first g full) (here ls)) → Words ls → elsewhere g ≡ true → Linked ls
+not_elsewhere g ls b w h = absurd (not_both (starts first g full) (is Import) h _ _ _ b w)
+
+begins_there : (n : Symbol) (ls : Lexemes) → IsTrue (seen (starts first (rule n) full) (here ls)) → IsTrue (seen (first n) (here ls))
+begins_there n ls b = covered (starts first (rule n) full) (first n) (firsts.claims n) _ _ _ b
 
 behind_lexeme : (a : G) → is_lexeme_alone a ≡ true → {ks ts us : Slots} {i j : ℕ} {ls mid : Lexemes} → Takes rule a ks ts i ls us j mid → IsTrue (seen links (here mid)) → Linked ls
 behind_lexeme (lexeme p) h (is_lexeme q) c = c
 behind_lexeme _ h d c = absurd (false≢true h)
 
 goes_on : {g : G} {ks ts us : Slots} {i j : ℕ} {ls rest : Lexemes} → Takes rule g ks ts i ls us j rest → linked g ≡ true → Words ls → Linked ls
-goes_on {g = g} is_nothing h w = not_elsewhere g is_nothing w h
-goes_on {g = g} (is_lexeme q) h w = not_elsewhere g (is_lexeme q) w h
-goes_on {g = g} (is_look q) h w = not_elsewhere g (is_look q) w h
-goes_on {g = g} (is_text q) h w = not_elsewhere g (is_text q) w h
-goes_on {g = g} (is_ahead d) h w = not_elsewhere g (is_ahead d) w h
-goes_on {g = g} is_empty_slot h w = not_elsewhere g is_empty_slot w h
-goes_on (is_seq {a = a} {b = b} d e) h w = either_of (elsewhere (seq a b)) _ h (λ k. not_elsewhere (seq a b) (is_seq d e) w k)
+goes_on (is_seq {a = a} {b = b} d e) h w = either_of (elsewhere (seq a b)) _ h (λ k. not_elsewhere (seq a b) _ (starting firsts full (is_seq d e) refl) w k)
     (λ k. either_of (is_lexeme_alone a && covers (starts first b full) links) (linked a) k
     (λ l. let z = and_parts (is_lexeme_alone a) _ l in behind_lexeme a z.0 d (covered (starts first b full) links z.1 _ _ _ (starting firsts full e refl)))
     (λ l. goes_on d l w))
 goes_on (is_left {a = a} d) h w = goes_on d (and_parts (linked a) _ h).0 w
 goes_on (is_right {a = a} d) h w = goes_on d (and_parts (linked a) _ h).1 w
 goes_on (is_when q d) h w = goes_on d h w
-goes_on {g = g} (is_many d) h w = not_elsewhere g (is_many d) w h
-goes_on {g = g} (is_commas d) h w = not_elsewhere g (is_commas d) w h
-goes_on {g = g} (is_such {n = n} d q) h w = either_of (elsewhere g) (begins_so n.name) h (λ k. not_elsewhere g (is_such d q) w k) (λ k. goes_on d (linked_line n k) w)
-goes_on {g = g} (is_marked {n = n} d) h w = either_of (elsewhere g) (begins_so n.name) h (λ k. not_elsewhere g (is_marked d) w k) (λ k. goes_on d (linked_line n k) w)
+goes_on {ls = ls} (is_such {n = n} {c = c} d q) h w = either_of (elsewhere (such n c)) (begins_so n.name) h (λ k. not_elsewhere (such n c) ls (begins_there n ls (starting firsts full d refl)) w k) (λ k. goes_on d (linked_line n k) w)
+goes_on {ls = ls} (is_marked {h = m} {n = n} d) h w = either_of (elsewhere (marked m n)) (begins_so n.name) h (λ k. not_elsewhere (marked m n) ls (begins_there n ls (starting firsts full d refl)) w k) (λ k. goes_on d (linked_line n k) w)
 goes_on (is_node d) h w = goes_on d h w
 goes_on (is_ended q d e) h w = goes_on d h w
-goes_on {g = g} (is_keep d e) h w = not_elsewhere g (is_keep d e) w h
-goes_on {g = g} (is_kept q) h w = not_elsewhere g (is_kept q) w h
+goes_on _ h w = absurd (false≢true h)
 
 -- ---- at a place
 
@@ -203,7 +197,7 @@ module _ {text : List ℕ} {f : Flags} {p : Parser} (a : At text f p) (s : Stand
 
   -- no expression, where neither a parenthesis stands behind it nor a dot
   pub no_expression : NoneBehind import_links p → Underived text (at Expression f) p.prev_token_end
-  no_expression n = record { no = λ ts vs k ls rest l d e. by ls l (goes_on d refl (word_here (here ls) (here_at (Lex text) ls l))) }
+  no_expression n = record { no = λ ts vs k ls rest l d e. by ls l (goes_on d (or_right (elsewhere (such (at Expression f) always)) true refl) (word_here (here ls) (here_at (Lex text) ls l))) }
     where
       by : (ls : Lexemes) → Lexes (Lex text) p.prev_token_end ls → Linked ls → ⊥
       by (last x) l c = c
@@ -211,16 +205,16 @@ module _ {text : List ℕ} {f : Flags} {p : Parser} (a : At text f p) (s : Stand
 
 -- ---- declarations
 
-openings : Look
+abbrev openings : Look
 openings k w e = one_of_kinds import_openings k
 
 -- one of those begins what is behind the word
 source_opens : (f : Flags) → covers (starts first (source f) full) openings ≡ true
-unfolding covers openings
+unfolding covers
 source_opens f = refl
 
 clause_opens : (f : Flags) → covers (starts first (import_clause f) full) openings ≡ true
-unfolding covers openings
+unfolding covers
 clause_opens f = refl
 
 opened : (g : G) → covers (starts first g full) openings ≡ true → {ks ts us : Slots} {i j : ℕ} {ls rest : Lexemes} → Takes rule g ks ts i ls us j rest → one_of_kinds import_openings (here ls).kind ≡ true
@@ -228,6 +222,7 @@ opened g c d = covered (starts first g full) openings c _ _ _ (starting firsts f
 
 -- none, where another lexeme stands behind it
 pub no_declaration : {text : List ℕ} {f : Flags} {p : Parser} → At text f p → NoImportHere p → Underived text (at ImportDecl f) p.prev_token_end
+unfolding rule rule_of
 no_declaration a (inl t) = no_import (fails_here firsts (none_seen (stands_not a refl t))) (fails_here firsts (none_seen (stands_not a refl t)))
 no_declaration {text} {f} {p} a (inr (s, n)) = record { no = λ ts vs k ls rest l d e. by l d }
   where
@@ -235,7 +230,6 @@ no_declaration {text} {f} {p} a (inr (s, n)) = record { no = λ ts vs k ls rest 
     behind x ls l k = n text f a (here ls) (behind_word a s x ls l) k
 
     within : {ts vs : Slots} {k : ℕ} {ls rest : Lexemes} → Lexes (Lex text) p.prev_token_end ls → Takes rule (rule (at ImportDecl f)) end ts p.prev_token_end ls vs k rest → ⊥
-    unfolding rule rule_of
     within l (is_left (is_node (is_seq (is_lexeme {x = x} {ls = more} q) d))) = behind x more l (opened (source f) (source_opens f) d)
     within l (is_right (is_node (is_seq (is_lexeme {x = x} {ls = more} q) (is_keep d e)))) = behind x more l (opened (import_clause f) (clause_opens f) d)
 

@@ -1,8 +1,7 @@
 -- An item of a text: a declaration of an import, told outside modules, or an item of a list of statements (ECMA-262, 16.1, 16.2).
-use Rattle.std.proofs.Common.{ℕ, ◌≡◌, inl, inr, max, List, length, Bool, true, false, ◌||◌, IsTrue, refl, sym, ap, subst, arith, ◌∙◌}
-use Rattle.std.specs.Prelude.{◌↔◌, Result, Ok, Err}
+use Rattle.std.proofs.Common.{ℕ, ◌≡◌, inl, inr, max, List, Bool, true, false, ◌||◌, IsTrue, refl, sym, ap, subst, arith, ◌∙◌}
+use Rattle.std.specs.Prelude.{◌↔◌, Result}
 use Rattle.std.proofs.lemmas.Bool.{or_right}
-use Rattle.js_base.specs.Contexts.{has_flag, in_flag}
 use Rattle.js_base.specs.KindSets.{binding_identifier_kinds}
 use Rattle.js_base.specs.Kinds.{one_of_kinds}
 use Rattle.js_base.specs.Sources.{is_goal}
@@ -11,8 +10,8 @@ use Rattle.js_base.specs.declared.kind.Kind.TheVariants.{Async, Import, Let}
 use Rattle.js_base.specs.declared.source_type.Goal.TheVariants as source
 use Rattle.js_grammar.specs.Conditions.{ends_in_sub}
 use Rattle.js_grammar.specs.Follow.{after}
-use Rattle.js_grammar.specs.Grammar.{Lexemes, nothing, such}
-use Rattle.js_grammar.specs.Parsing.{Goes, always, still}
+use Rattle.js_grammar.specs.Grammar.{Lexemes, nothing}
+use Rattle.js_grammar.specs.Parsing.{Goes, still}
 use Rattle.js_grammar.specs.Productions.{Flags, at, ImportDecl, Item, ListItem}
 use Rattle.js_grammar.specs.Productions.{sym as symbol}
 use Rattle.js_grammar.specs.Table.{rule, rule_of}
@@ -25,7 +24,7 @@ use Rattle.laws_shared.specs.js_cursor.Moves.{KeepsDiagnostic}
 use Rattle.laws_shared.specs.js_cursor.Parsers.{Parser}
 use Rattle.laws_shared.specs.js_cursor.Starts.{is_module}
 use Rattle.laws_shared.specs.js_cursor.declared.stop.Stop.{Stop}
-use Rattle.laws_shared.specs.Answers.{Grown, Numbered, Outcome, Stops, Stretch, Underived, Verdict, clean, unclean, wider}
+use Rattle.laws_shared.specs.Answers.{Grown, Numbered, Stops, Stretch, Underived, Verdict, clean, unclean, wider}
 use Rattle.laws_shared.specs.Lexemes.{Lex}
 use Rattle.laws_shared.specs.States.{At, Same}
 use Rattle.laws_shared.specs.Statements.{NoStatement, Statement, StatementOutcome, after_statement, statement_kinds}
@@ -36,8 +35,9 @@ use Rattle.laws_shared.proofs.Moving.{same_both, same_itself, stops_behind, stop
 use Rattle.laws_shared.proofs.Told.{told_at, told_same}
 use Rattle.laws_shared.proofs.Verdicts.{grown_both, grown_first, grown_on, verdict_of}
 use Rattle.laws_primary.proofs.ImportWords.{module_so}
-use Rattle.laws_statements.proofs.Statements.{never_open, no_symbol, statement_fails}
-use Rattle.laws_statements.proofs.StatementLists.{NoImport, as_item}
+use Rattle.laws_statements.proofs.Statements.{never_open, no_label_at, no_symbol, statement_fails}
+use Rattle.laws_statements.proofs.WordLookaheads.{no_async_here, no_let_here}
+use Rattle.laws_statements.proofs.StatementLists.{as_item}
 use Rattle.laws_modules.specs.Items.{BeginsImport, ChecksGoal, ImportHere, NoImportHere, outside_module}
 use Rattle.laws_modules.proofs.ImportOpenings.{no_declaration, no_expression}
 
