@@ -11,4 +11,5 @@ pub mod Endings
 pub mod Sources
 pub mod ImportClauses
 pub mod ImportDeclarations
+pub mod ExportLines
 pub use Rattle.laws_primary.proofs as laws_primary

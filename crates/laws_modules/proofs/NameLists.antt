@@ -47,7 +47,7 @@ use Rattle.laws_shared.proofs.Verdicts.{after as grown_behind}
 use Rattle.laws_primary.proofs.ArgumentLists.{none_there, is_one}
 use Rattle.laws_primary.proofs.Arrays.{turned}
 use Rattle.laws_modules.specs.declared.forms.NameList.{NameList}
-use Rattle.laws_modules.specs.declared.forms.NameList.TheVariants.{Imports, Attributes}
+use Rattle.laws_modules.specs.declared.forms.NameList.TheVariants.{Imports, Exports, References, Attributes}
 use Rattle.laws_modules.specs.NameLists.{item_of, items_left, list_of, ListTaken, TakesListed}
 
 -- ---- the list, by what stands where an item may begin, or behind one
@@ -63,6 +63,8 @@ next_kinds k w e = one_of_kinds (Comma ∷ RParen ∷ RBrack ∷ RCurly ∷ []) 
 ends_there : (l : NameList) (f : Flags) → covers (starts first_of (after_item true (item_of l f)) (is RCurly)) next_kinds ≡ true
 unfolding covers
 ends_there Imports f = refl
+ends_there Exports f = refl
+ends_there References f = refl
 ends_there Attributes f = refl
 
 abbrev closing : Look
@@ -71,6 +73,8 @@ closing k w e = one_of_kinds (RCurly ∷ template_tails) k
 begins_apart : (l : NameList) (f : Flags) → apart (starts first_of (item_of l f) full) closing ≡ true
 unfolding apart
 begins_apart Imports f = refl
+begins_apart Exports f = refl
+begins_apart References f = refl
 begins_apart Attributes f = refl
 
 closes_behind : (l : NameList) (f : Flags) → covers (starts first_of (tok RCurly) full) (is RCurly) ≡ true

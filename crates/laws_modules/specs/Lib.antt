@@ -5,5 +5,6 @@ pub mod Attributes
 pub mod Sources
 pub mod ImportClauses
 pub mod ImportDeclarations
+pub mod ExportSpecifiers
 pub mod Exports
 pub use Rattle.laws_primary.specs as laws_primary

@@ -1,16 +1,19 @@
 -- The names by which the contracts of this crate speak: each definition stands where its line says.
 pub use Rattle.js_base.specs.Spans.{LiesIn}
-pub use Rattle.js_base.specs.declared.kind.Kind.TheVariants.{Eq, RCurly, Star, Str}
+pub use Rattle.js_base.specs.declared.kind.Kind.TheVariants.{Eq, LCurly, RCurly, Star, Str}
 pub use Rattle.js_grammar.specs.Marks.{Mark}
 pub use Rattle.js_grammar.specs.Productions.{ImportDecl, at, bare_flag, flag}
 pub use Rattle.laws_modules.specs.Attributes.{BeginsClause, ClauseOf, FindsClause, NoClauseOf, TakesAttributes, key_part}
+pub use Rattle.js_grammar.specs.Trees.{export_all_declaration, export_from_declaration}
+pub use Rattle.laws_modules.specs.ExportSpecifiers.{ChecksReference, ExportsAs, TakesAs, TakesReference, exported_label, may_refer, misnamed_kind}
+pub use Rattle.laws_modules.specs.Exports.{FindsFrom, NamesBindings, NoFromBehind, ReadsFrom, TakesExport, export_label}
 pub use Rattle.laws_modules.specs.ImportClauses.{ImportsStop, ImportsTaken, NoOthers, OthersTaken, default_part, namespace_part}
 pub use Rattle.laws_modules.specs.ImportDeclarations.{FindsImports, ImportsEnd, import_label}
 pub use Rattle.laws_modules.specs.ImportSpecifiers.{BindsSingle, BoundMarked, IsExportName, ReadsBound, StringBound, specifier_label, string_bound, word_bound}
 pub use Rattle.laws_modules.specs.ModuleNames.{SpellsExport, TakesExportName, export_node, is_paired, lone_surrogate}
 pub use Rattle.laws_modules.specs.NameLists.{ListTaken, NoList, ReadsNamed, TakesListed}
 pub use Rattle.laws_modules.specs.Sources.{ReadsSource}
-pub use Rattle.laws_modules.specs.declared.forms.NameList.TheVariants.{Attributes, Imports}
+pub use Rattle.laws_modules.specs.declared.forms.NameList.TheVariants.{Attributes, Exports, Imports, References}
 pub use Rattle.laws_modules.specs.laws_primary.js_cursor.Moves.{GivesUp, Opened}
 pub use Rattle.laws_modules.specs.laws_primary.js_cursor.Places.{goal}
 pub use Rattle.laws_modules.specs.laws_primary.js_tree.Labels.{number_of}

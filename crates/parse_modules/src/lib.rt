@@ -2,6 +2,9 @@
 #![tactic(auto)]
 
 pub mod attributes;
+pub mod export_all;
+pub mod export_names;
+pub mod export_specifier;
 pub mod import_clause;
 pub mod import_declaration;
 pub mod import_specifier;
