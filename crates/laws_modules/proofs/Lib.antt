@@ -6,10 +6,14 @@ pub mod TokenMarks
 pub mod StringUnits
 pub mod ModuleNames
 pub mod ImportSpecifiers
+pub mod Leaves
+pub mod ReferencesAsNames
+pub mod ExportSpecifiers
 pub mod Attributes
 pub mod Endings
 pub mod Sources
 pub mod ImportClauses
 pub mod ImportDeclarations
 pub mod ExportLines
+pub mod Exports
 pub use Rattle.laws_primary.proofs as laws_primary

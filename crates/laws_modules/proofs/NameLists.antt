@@ -81,7 +81,7 @@ closes_behind : (l : NameList) (f : Flags) → covers (starts first_of (tok RCur
 unfolding covers
 closes_behind l f = refl
 
-regrouped : {text : List ℕ} {a b c : G} {s : ℕ} → Goes rule (Lex text) (plain full) end (seq (seq a b) c) s (seq a (seq b c)) s (λ us. us) (still 0)
+pub regrouped : {text : List ℕ} {a b c : G} {s : ℕ} → Goes rule (Lex text) (plain full) end (seq (seq a b) c) s (seq a (seq b c)) s (λ us. us) (still 0)
 regrouped = same (λ ts us i j ls rest d. one ts us i j ls rest d) (λ ts us i j ls rest d. two ts us i j ls rest d)
   where
     one : {rule' : Symbol → G} {a b c : G} {ks : Slots} (ts us : Slots) (i j : ℕ) (ls rest : Lexemes) → Takes rule' (seq (seq a b) c) ks ts i ls us j rest → Takes rule' (seq a (seq b c)) ks ts i ls us j rest
