@@ -200,20 +200,28 @@ module _ {text : List ℕ} {f : Flags} {g : G} {p q : Parser} {local : NodeId} (
 
   -- ---- either
 
-  pub specifier_answers : {r w : Parser} {exported id : NodeId} {from : ℕ} → from ≡ p.token.span.start → ExportsAs p.token q r (Ok exported) → MadeHere (exported_label from r.prev_token_end) (Some local ∷ Some exported ∷ []) r w id → PartTaken text f (exported_item g f) p w id
-  specifier_answers {r} {w} {exported} {id} i n d = go n (subst (λ (v : ℕ). MadeHere (exported_label v r.prev_token_end) (Some local ∷ Some exported ∷ []) r w id) i d)
-    where
-      go : ExportsAs p.token q r (Ok exported) → MadeHere (exported_label p.token.span.start r.prev_token_end) (Some local ∷ Some exported ∷ []) r w id → PartTaken text f (exported_item g f) p w id
-      go (inl z) made = both_answers z.word z.name made
-      go (inr (s, z)) made = one_answers s z made
+  module _ {t : Token} (e : t ≡ p.token) where
+    pub specifier_answers : {r w : Parser} {exported id : NodeId} {from : ℕ} → from ≡ p.token.span.start → ExportsAs t q r (Ok exported) → MadeHere (exported_label from r.prev_token_end) (Some local ∷ Some exported ∷ []) r w id → PartTaken text f (exported_item g f) p w id
+    specifier_answers {r} {w} {exported} {id} i n d = go (subst (λ (v : Token). ExportsAs v q r (Ok exported)) e n) (subst (λ (v : ℕ). MadeHere (exported_label v r.prev_token_end) (Some local ∷ Some exported ∷ []) r w id) i d)
+      where
+        go : ExportsAs p.token q r (Ok exported) → MadeHere (exported_label p.token.span.start r.prev_token_end) (Some local ∷ Some exported ∷ []) r w id → PartTaken text f (exported_item g f) p w id
+        go (inl z) made = both_answers z.word z.name made
+        go (inr (s, z)) made = one_answers s z made
 
-  pub specifier_start : {r : Parser} {exported : NodeId} → ExportsAs p.token q r (Ok exported) → p.token.span.start ≤ r.prev_token_end
-  specifier_start (inl z) = both_start z.word z.name
-  specifier_start (inr (s, z)) = let i = place s z in let j = x.further in omega arith
+    pub specifier_start : {r : Parser} {exported : NodeId} → ExportsAs t q r (Ok exported) → p.token.span.start ≤ r.prev_token_end
+    specifier_start {r} {exported} n = go (subst (λ (v : Token). ExportsAs v q r (Ok exported)) e n)
+      where
+        go : ExportsAs p.token q r (Ok exported) → p.token.span.start ≤ r.prev_token_end
+        go (inl z) = both_start z.word z.name
+        go (inr (s, z)) = let i = place s z in let j = x.further in omega arith
 
-  pub specifier_stops : (r : Parser) (z : Stop) → ExportsAs p.token q r (Err z) → Stops p r z (Fails rule (Lex text) behind_item end (exported_item g f) p.prev_token_end)
-  specifier_stops r Fatal n = name_stops n.word r Fatal n.name
-  specifier_stops r NoMemory n = tt
+    pub specifier_stops : (r : Parser) (z : Stop) → ExportsAs t q r (Err z) → Stops p r z (Fails rule (Lex text) behind_item end (exported_item g f) p.prev_token_end)
+    specifier_stops r Fatal n = name_stops n.word r Fatal n.name
+    specifier_stops r NoMemory n = tt
+
+    -- the token of the first name is passed on
+    pub first_spells : SpellsExport q.text t
+    first_spells = subst (λ (v : Token). SpellsExport q.text v) (sym e) (λ k. string_later q.text a k refl x.same.follows.text, λ h. spells_later a h refl x.same.follows.text)
 
 -- ---- the lexeme of a first name
 
@@ -400,6 +408,9 @@ pub reference_taken : {p q m : Parser} (r : Result NodeId Stop) → IsExportName
 reference_taken (Ok id) n c t = record { name = n; told = _; checked = c; taken = t }
 reference_taken (Err Fatal) n c t = absurd t
 reference_taken (Err NoMemory) n c t = λ text f a. tt
+
+pub reference_name : {p q : Parser} {id : NodeId} {t : Token} → t ≡ p.token → ReferenceTaken p q id → IsExportName t
+reference_name e z = subst (λ (v : Token). IsExportName v) (sym e) z.name
 
 -- the place where something was told
 pub checked_at : {p q : Parser} → Standing p → ChecksReference p q → Standing q
