@@ -2,7 +2,7 @@
 pub use Rattle.js_base.specs.Contexts.{has_flag, in_flag}
 pub use Rattle.js_base.specs.Places.{is_single}
 pub use Rattle.js_base.specs.declared.kind.Kind.TheVariants.{HashbangComment}
-pub use Rattle.js_grammar.specs.Productions.{Assignment, Binding, Body, ClassBody, Exponent, Expression, LeftHandSide, Params, at}
+pub use Rattle.js_grammar.specs.Productions.{Assignment, Binding, Body, ClassBody, Exponent, Expression, ImportDecl, LeftHandSide, Params, at}
 pub use Rattle.parse_operators.specs.laws_operators.Lists.{TriesArrow}
 pub use Rattle.parse_classes.specs.laws_classes.laws_primary.PropertyNames.{NamesProperty}
 pub use Rattle.parse_shared.specs.js_cursor.Starts.{Starts}

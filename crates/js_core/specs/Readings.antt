@@ -27,7 +27,7 @@ pub data AreReadAnyhow (text : List ℕ) (ls : Lexemes) : Type 0 where
   anyhow_from_start : Lexes (Lex text) 0 ls → AreReadAnyhow text ls
   anyhow_behind_hashbang : (comment : Lexeme) (others : Lexemes) → LexemeBehind hashbang text 0 comment → ls ≡ next comment others → Lexes (Lex text) comment.to others → AreReadAnyhow text ls
 
--- Program derives the tree from such lexemes in the widest form in which a text is read on: by the cover grammar, with `new.target` everywhere, and with what the grammar's `wide` lets in beside (a comma or an initialiser behind a rest, another operator than `=` before the initialiser of a target, a literal as the rest of an object's target).
+-- Program derives the tree from such lexemes in the widest form in which a text is read on: by the cover grammar, with `new.target` everywhere and the syntax of modules at each goal, and with what the grammar's `wide` lets in beside (a comma or an initialiser behind a rest, another operator than `=` before the initialiser of a target, a literal as the rest of an object's target).
 pub record LooseReading (text : List ℕ) (goal : Goal) (o : Options) (t : Tree) : Type 0 where
   pub lexemes : Lexemes
   pub lexed : AreReadAnyhow text lexemes

@@ -4,6 +4,7 @@ ghost use Rattle.js_core.specs.Prelude.{Reads};
 
 use parse_classes::patterns::Patterns;
 use parse_classes::sequences::Sequences;
+use parse_modules::module_item::parse_module_item;
 use parse_operators::sequence::parse_sequence_expression;
 use parse_patterns::binding::parse_binding_pattern;
 use parse_patterns::parameters::parse_formal_parameters;
@@ -113,5 +114,10 @@ impl<
     #[inline(always)]
     fn sequence(&self, p: &mut ParserImpl<'_, RuntimeParserConfig>) -> Result<NodeId, Stop> {
         parse_sequence_expression(p, self)
+    }
+
+    #[inline(always)]
+    fn item(&self, p: &mut ParserImpl<'_, RuntimeParserConfig>) -> Result<NodeId, Stop> {
+        parse_module_item(p, self)
     }
 }

@@ -8,8 +8,9 @@ mod program;
 pub use parse::{
     RuntimeParser, parse_assignment_expression_or_higher, parse_binary_expression_or_higher,
     parse_binding_pattern, parse_directives_and_statements, parse_expr, parse_formal_parameters,
-    parse_function_body, parse_lhs_expression_or_higher, parse_property_name,
-    parse_statement_list_item, try_parse_parenthesized_arrow_function_expression,
+    parse_function_body, parse_import_declaration, parse_lhs_expression_or_higher,
+    parse_property_name, parse_statement_list_item,
+    try_parse_parenthesized_arrow_function_expression,
 };
 pub use parse_targets::grammar::CoverGrammar;
 pub use parse_targets::ids::{

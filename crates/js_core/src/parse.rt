@@ -1,7 +1,7 @@
 //! The one function that recurses, and the calls for others.
 
 ghost use Rattle.std.specs.Prelude.{◌≡◌, true, not, MatchResult};
-ghost use Rattle.js_core.specs.Prelude.{AllRefused, AllTaken, Answers, Assignment, at, Binding, Body, CanNest, ClassBody, Exponent, Expression, has_flag, in_flag, is_single, LeftHandSide, NamesProperty, parameters_of, Params, placed, AnswersFor, ReadsWhole, Ready, room, Standing, TakesStatement, Text, TriesArrow};
+ghost use Rattle.js_core.specs.Prelude.{AllRefused, AllTaken, Answers, Assignment, at, Binding, Body, CanNest, ClassBody, Exponent, Expression, has_flag, ImportDecl, in_flag, is_single, LeftHandSide, NamesProperty, parameters_of, Params, placed, AnswersFor, ReadsWhole, Ready, room, Standing, TakesStatement, Text, TriesArrow};
 ghost use Rattle.js_core.specs.Calls.{above};
 
 use crate::by::By;
@@ -11,6 +11,7 @@ use parse_classes::{
     PropertyName, StatementList, block, class_body, left_hand_side, property_name, statement,
     statement_list,
 };
+use parse_modules::import_declaration;
 use parse_operators::arrow;
 use parse_operators::assignment::parse_assignment_expression;
 use parse_operators::operators::{self, parse_exponentiation_expression, parse_operators};
@@ -244,6 +245,14 @@ pub fn parse_property_name(p: &mut RuntimeParser<'_>) -> Result<PropertyName, St
     ensures { NamesProperty p.old p.new result }
 {
     property_name::parse_property_name(p, &By(parse))
+}
+
+/// An ImportDeclaration (ECMA-262, section 16.2.2), in a text of any kind.
+pub fn parse_import_declaration(p: &mut RuntimeParser<'_>) -> Result<NodeId, Stop>
+    requires { Standing p.old }
+    ensures { Answers (at ImportDecl) p.old p.new result }
+{
+    import_declaration::parse_import_declaration(p)
 }
 
 /// A FunctionBody in its braces (ECMA-262, section 15.2).

@@ -104,10 +104,10 @@ module _ {text : List ℕ} {f : Flags} {p q : Parser} {ids : List (Option NodeId
 
 -- ---- the declaration
 
-abbrev bare_line : Flags → G
+abbrev pub bare_line : Flags → G
 bare_line f = seq (tok Import) (source f)
 
-abbrev full_line : Flags → G
+abbrev pub full_line : Flags → G
 full_line f = seq (tok Import) (with_clause_line f)
 
 abbrev bare_node : Flags → G
@@ -116,7 +116,7 @@ bare_node f = make import_declaration no_op bare_flag (bare_line f)
 abbrev full_node : Flags → G
 full_node f = mk import_declaration (full_line f)
 
-no_import : {text : List ℕ} {f : Flags} {s : ℕ} → Fails rule (Lex text) (plain full) end (bare_line f) s → Fails rule (Lex text) (plain full) end (full_line f) s → Underived text (at ImportDecl f) s
+pub no_import : {text : List ℕ} {f : Flags} {s : ℕ} → Fails rule (Lex text) (plain full) end (bare_line f) s → Fails rule (Lex text) (plain full) end (full_line f) s → Underived text (at ImportDecl f) s
 unfolding rule rule_of
 no_import m n = fails_by (fails_alt (fails_node inside_full m) (fails_node inside_full n))
 

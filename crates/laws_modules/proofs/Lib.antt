@@ -16,4 +16,6 @@ pub mod ImportClauses
 pub mod ImportDeclarations
 pub mod ExportLines
 pub mod Exports
+pub mod ImportOpenings
+pub mod Items
 pub use Rattle.laws_primary.proofs as laws_primary

@@ -7,4 +7,5 @@ pub mod ImportClauses
 pub mod ImportDeclarations
 pub mod ExportSpecifiers
 pub mod Exports
+pub mod Items
 pub use Rattle.laws_primary.specs as laws_primary

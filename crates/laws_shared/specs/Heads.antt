@@ -33,7 +33,7 @@ flags_in p c = record {
   wide = false;
 }
 
--- The same in wider forms, with true: an assignment target is taken as a parser meets it before it says what is wrong with it, and `new.target` and `import.meta` may stand everywhere.
+-- The same in wider forms, with true: an assignment target is taken as a parser meets it before it says what is wrong with it, and `new.target` and the syntax of modules may stand in every text.
 abbrev pub widened : Bool → Flags → Flags
 widened w f = record f { new_target = w || f.new_target; module_goal = w || f.module_goal; wide = w }
 

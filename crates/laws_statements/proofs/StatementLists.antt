@@ -16,12 +16,12 @@ use Rattle.js_grammar.specs.Insertion.{goes_on}
 use Rattle.js_grammar.specs.Conditions.{not_string}
 use Rattle.js_grammar.specs.Lexed.{Lexes}
 use Rattle.js_grammar.specs.Parsing.{Test, plain, always, still, Goes, Fails}
-use Rattle.js_grammar.specs.Productions.{G, Flags, at, opt, ListItem, Item, Labeled, Directive, Expression}
+use Rattle.js_grammar.specs.Productions.{G, Flags, at, opt, ListItem, ImportDecl, Item, Labeled, Directive, Expression}
 use Rattle.js_grammar.specs.Productions.{sym as symbol}
 use Rattle.js_grammar.specs.Table.{rule, rule_of, string}
 use Rattle.js_grammar.specs.Follow.{row_of, after}
 use Rattle.js_grammar.proofs.Looks.{covers, covered, apart}
-use Rattle.js_grammar.proofs.Calculus.{Between, Sure, ◌▹◌, ◌▹✗◌, stay, same, passes_none, left, right, by_plain, by_rule, then_by, tested, more_of, part_fails, fails_alt, fails_test, fails_tested, fails_ended, fails_rule, fails_node, inside_plain, here_at}
+use Rattle.js_grammar.proofs.Calculus.{Between, Sure, ◌▹◌, ◌▹✗◌, stay, same, passes_none, left, right, by_plain, by_rule, then_by, tested, more_of, part_fails, fails_alt, fails_test, fails_tested, fails_under, fails_ended, fails_rule, fails_node, inside_plain, here_at}
 use Rattle.js_grammar.proofs.FirstRules.{by_first}
 use Rattle.js_grammar.proofs.FirstClaims.{firsts}
 use Rattle.js_grammar.proofs.FollowLaws.{expression_ended, surely}
@@ -120,21 +120,38 @@ before_list Clause = by_first firsts (by_plain no_link) refl
 
 -- ---- items
 
-item_rule : {text : List ℕ} {s : ℕ} (f : Flags) → Goes rule (Lex text) (after_statement (at Item f)) end (rule (at Item f)) s (symbol ListItem f) s (λ us. us) (still 0)
+-- no declaration of an import stands at a place
+abbrev pub NoImport : List ℕ → Flags → ℕ → Type 0
+NoImport text f s = Fails rule (Lex text) (after_statement (at Item f)) end (symbol ImportDecl f) s
+
+-- there an item of a text is one of a list
+item_rule : {text : List ℕ} {f : Flags} {s : ℕ} → NoImport text f s → Goes rule (Lex text) (after_statement (at Item f)) end (rule (at Item f)) s (symbol ListItem f) s (λ us. us) (still 0)
 unfolding rule rule_of
-item_rule f = stay
+item_rule n = left (fails_under n)
 
-item_stretch : (sl : StatementList) {text : List ℕ} {f : Flags} {s s' : ℕ} {l : Label} {cs : Slots} {pass : Lexemes → Lexemes} → Stretch text (after_statement (at ListItem f)) (symbol ListItem f) s nothing s' (tree l cs) pass → Stretch text (after_statement (at (item_of sl) f)) (symbol (item_of sl) f) s nothing s' (tree l cs) pass
-item_stretch Text {f = f} y = record { reach = max 0 y.reach; near = let k = y.near in omega arith; goes = by_rule {X' = after_statement (at Item f)} (λ l cs vs z d. d) (item_rule f ▹ y.goes) refl }
-item_stretch Block y = y
-item_stretch Body y = y
-item_stretch Clause y = y
+item_stretch : (sl : StatementList) {text : List ℕ} {f : Flags} {s s' : ℕ} {l : Label} {cs : Slots} {pass : Lexemes → Lexemes} → NoImport text f s → Stretch text (after_statement (at ListItem f)) (symbol ListItem f) s nothing s' (tree l cs) pass → Stretch text (after_statement (at (item_of sl) f)) (symbol (item_of sl) f) s nothing s' (tree l cs) pass
+item_stretch Text {f = f} n y = record { reach = max 0 y.reach; near = let k = y.near in omega arith; goes = by_rule {X' = after_statement (at Item f)} (λ l cs vs z d. d) (item_rule n ▹ y.goes) refl }
+item_stretch Block n y = y
+item_stretch Body n y = y
+item_stretch Clause n y = y
 
-no_item : (sl : StatementList) {text : List ℕ} {f : Flags} {s : ℕ} → NoStatement text (at ListItem f) s → NoStatement text (at (item_of sl) f) s
-no_item Text {f = f} n = fails_rule {X' = after_statement (at Item f)} (λ l cs vs y e. e) (item_rule f ▹✗ n)
-no_item Block n = n
-no_item Body n = n
-no_item Clause n = n
+no_item : (sl : StatementList) {text : List ℕ} {f : Flags} {s : ℕ} → NoImport text f s → NoStatement text (at ListItem f) s → NoStatement text (at (item_of sl) f) s
+no_item Text {f = f} i n = fails_rule {X' = after_statement (at Item f)} (λ l cs vs y e. e) (item_rule i ▹✗ n)
+no_item Block i n = n
+no_item Body i n = n
+no_item Clause i n = n
+
+-- an item of a list, as one of a text
+pub as_item : {text : List ℕ} {f : Flags} {p : Parser} (q : Parser) (r : Result NodeId Stop) → NoImport text f p.prev_token_end → StatementOutcome text f (at ListItem f) p q r → StatementOutcome text f (at Item f) p q r
+as_item q (Ok id) n x = record { at = x.at; same = x.same; further = x.further; label = x.label; slots = x.slots; closed = x.closed; pass = x.pass; walked = x.walked; verdict = verdict_of x.verdict (λ y. item_stretch Text n y) (λ m. no_item Text n m); holds = x.holds; keeps = x.keeps }
+as_item {p = p} q (Err e) n x = stops_so p q e (λ m. no_item Text n m) x
+
+-- the items of another list than that of a text
+pub listed : (n : StatementList) → (n ≡ Text → ⊥) → item_of n ≡ ListItem
+listed Text o = absurd (o refl)
+listed Block o = refl
+listed Body o = refl
+listed Clause o = refl
 
 not_the_one : (a k : Kind) → same_kind a k ≡ false → one_of_kinds (a ∷ []) k ≡ false
 not_the_one a k n = ap (λ (b : Bool). b || false) n
@@ -154,11 +171,8 @@ module _ {text : List ℕ} {f : Flags} {p : Parser} (a : At text f p) (sl : Stat
   pub no_more : NoStatement text (at (item_of sl) f) p.prev_token_end → NoList text sl (statements sl f) p.prev_token_end
   no_more x = more_of ▹✗ fails_alt (part_fails x (before_statements sl)) (not_end sl a n)
 
-  pub no_statement_here : NoStatement text (at ListItem f) p.prev_token_end → NoList text sl (statements sl f) p.prev_token_end
-  no_statement_here x = no_more (no_item sl x)
-
   -- a statement more
-  pub statement_taken : {q : Parser} {id : NodeId} → Statement text f (at ListItem f) p q id → OneTaken text f sl (statements sl f) (statements sl f) p q id
+  pub statement_taken : {q : Parser} {id : NodeId} → Statement text f (at (item_of sl) f) p q id → OneTaken text f sl (statements sl f) (statements sl f) p q id
   statement_taken x = record {
     at = x.at;
     same = x.same;
@@ -167,7 +181,7 @@ module _ {text : List ℕ} {f : Flags} {p : Parser} (a : At text f p) (sl : Stat
     slots = x.slots;
     pass = x.pass;
     walked = x.walked;
-    verdict = verdict_of x.verdict (λ y. one_more (item_stretch sl y)) (λ m. no_more (no_item sl m));
+    verdict = verdict_of x.verdict (λ y. one_more y) (λ m. no_more m);
     holds = x.holds;
     keeps = x.keeps;
   }
@@ -262,6 +276,11 @@ module _ {text : List ℕ} {f : Flags} {p : Parser} (a : At text f p) (s : p.tok
   pub no_own_kind : one_of_kinds statement_kinds (keyword_kind p.token) ≡ false
   no_own_kind = keyword_none p.token statement_kinds (ap (one_of_kinds statement_kinds) s) refl
 
+  -- no import begins with it
+  no_import : NoImport text f p.prev_token_end
+  unfolding apart
+  no_import = fails_at a (symbol ImportDecl f) (Str ∷ []) refl (ap (one_of_kinds (Str ∷ [])) s)
+
   no_let : LetIsName text true p.prev_token_end
   no_let = no_let_here a (λ k e. let q : Str ≡ Let = sym s ∙ k in absurd (cc)) true
 
@@ -273,13 +292,13 @@ module _ {text : List ℕ} {f : Flags} {p : Parser} (a : At text f p) (s : p.tok
 
   -- neither an expression stands here, nor a directive
   pub no_opening : (sl : StatementList) → Underived text (at Expression f) p.prev_token_end → NoList text sl (with_directives sl f) p.prev_token_end
-  no_opening sl n = none_first a sl (not_eof sl) (no_directive (underived_string n)) (no_item sl (statement_fails a no_own_kind no_label no_async true no_let n))
+  no_opening sl n = none_first a sl (not_eof sl) (no_directive (underived_string n)) (no_item sl no_import (statement_fails a no_own_kind no_label no_async true no_let n))
 
   module _ {q : Parser} (x : Answer text f (at Expression f) p q) where
     -- no statement ends behind it
     pub opening_unended : (sl : StatementList) → NoEnd q → NoList text sl (with_directives sl f) p.prev_token_end
     unfolding rule rule_of covers
-    opening_unended sl m = none_first a sl (not_eof sl) (go (is_literal x.label.kind) refl) (no_item sl (statement_unended a no_own_kind no_label no_async true no_let x m))
+    opening_unended sl m = none_first a sl (not_eof sl) (go (is_literal x.label.kind) refl) (no_item sl no_import (statement_unended a no_own_kind no_label no_async true no_let x m))
       where
         go : (b : Bool) → is_literal x.label.kind ≡ b → Fails rule (Lex text) (plain no_link) end (directives f) p.prev_token_end
         go true t = fails_rule {X' = plain no_link} (λ l cs vs y e. (e.0, refl)) (fails_node (inside_plain refl) (to_semicolon (λ ds i j ls mid d. string_expression d) (string_path x t) ⟶✗ unended x.at (goes_on (row_of x.label x.slots)) m))
@@ -295,7 +314,7 @@ module _ {text : List ℕ} {f : Flags} {p : Parser} (a : At text f p) (s : p.tok
 
       -- and no statement stands here that is none of a string alone
       no_other : (sl : StatementList) → is_literal x.label.kind ≡ true → Fails rule (Lex text) (after_statement (at (item_of sl) f)) end (such (at (item_of sl) f) not_string) p.prev_token_end
-      no_other sl t = either_way item_path.verdict (λ z. fails_test (item_stretch sl z).goes (string_statement x.label (label_here expression_statement no_op p r) x.slots x.label.kind refl t)) (λ n. fails_tested (no_item sl n))
+      no_other sl t = either_way item_path.verdict (λ z. fails_test (item_stretch sl no_import z).goes (string_statement x.label (label_here expression_statement no_op p r) x.slots x.label.kind refl t)) (λ n. fails_tested (no_item sl no_import n))
 
       as_directive : (sl : StatementList) → is_literal x.label.kind ≡ true → Path text f (plain (at_end sl)) (with_directives sl f) p (with_directives sl f) r (tree (label_here directive no_op p r) (tree x.label x.slots end))
       as_directive sl t = let d = directive_path t in record {
@@ -312,7 +331,7 @@ module _ {text : List ℕ} {f : Flags} {p : Parser} (a : At text f p) (s : p.tok
         further = item_path.further;
         pass = item_path.pass;
         walked = item_path.walked;
-        verdict = verdict_of item_path.verdict (λ y. statement_first a sl (not_eof sl) (other_statement x.label (label_here expression_statement no_op p r) x.slots x.label.kind refl t) d (item_stretch sl y)) (λ n. none_first a sl (not_eof sl) d (no_item sl n));
+        verdict = verdict_of item_path.verdict (λ y. statement_first a sl (not_eof sl) (other_statement x.label (label_here expression_statement no_op p r) x.slots x.label.kind refl t) d (item_stretch sl no_import y)) (λ n. none_first a sl (not_eof sl) d (no_item sl no_import n));
       }
 
 -- a statement that begins with a string, and its node

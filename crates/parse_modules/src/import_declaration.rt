@@ -1,7 +1,7 @@
 //! Import declarations (ECMA-262, section 16.2.2).
 
 ghost use Rattle.std.specs.Prelude.{◌≡◌, ◌≤◌, ◌∷◌, IfOk, MatchResult, Some};
-ghost use Rattle.parse_modules.specs.Prelude.{Answers, at, bare_flag, FindsImports, flag, import_label, ImportDecl, ImportsEnd, MadeHere, number_of, Standing};
+ghost use Rattle.parse_modules.specs.Prelude.{Answers, at, bare_flag, FindsImports, flag, import_declaration, import_label, ImportDecl, ImportsEnd, kind_of, MadeHere, node_at, number_of, Standing};
 
 use crate::import_clause::parse_import_clause;
 use crate::source::parse_source;
@@ -13,7 +13,8 @@ use parse_shared::{NodeFlags, NodeId, NodeKind, Op, ParserConfig, ParserImpl, St
 /// Reads: ImportDecl.
 pub fn parse_import_declaration<C: ParserConfig>(p: &mut ParserImpl<'_, C>) -> Result<NodeId, Stop>
     requires { Standing p.old }
-    ensures { Answers (at ImportDecl) p.old p.new result }
+    ensures answer { Answers (at ImportDecl) p.old p.new result }
+    ensures kind { IfOk result (λ id. kind_of (node_at p.new.nodes id).kind ≡ import_declaration) }
 {
     let start = p.cur_start();
     p.expect(Kind::Import)?;

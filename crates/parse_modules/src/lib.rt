@@ -8,6 +8,7 @@ pub mod export_specifier;
 pub mod import_clause;
 pub mod import_declaration;
 pub mod import_specifier;
+pub mod module_item;
 pub mod module_name;
 pub mod name_list;
 pub mod source;

@@ -8,7 +8,7 @@ pub use Rattle.parse_control.specs.laws_statements.Blocks.{NoBracesHere, TakesBr
 pub use Rattle.parse_control.specs.laws_statements.ForeignOperators.{FindsForeign}
 pub use Rattle.parse_control.specs.laws_statements.FunctionStatements.{ChecksPlain, fault_of_body, told_of_body}
 pub use Rattle.parse_control.specs.laws_statements.LetStatements.{TakesUndeclared}
-pub use Rattle.parse_control.specs.laws_statements.StatementLists.{AllRefused, AllTaken, DirectivesTaken, OpeningRefused, OpeningTaken, ends_at, ends_in_brace, ends_list, has_directives}
+pub use Rattle.parse_control.specs.laws_statements.StatementLists.{AllRefused, AllTaken, DirectivesTaken, OpeningRefused, OpeningTaken, ends_at, ends_in_brace, ends_list, has_directives, item_of}
 pub use Rattle.parse_control.specs.laws_statements.SwitchStatements.{AllClauses, ClauseBegins, ClausesRefused, DueOr, MayNote, NextRefused, NextTaken, NoCaseBlockHere, Notes, ReadsClause, Stood, TakesCaseBlock, TakesTest, second_default}
 pub use Rattle.parse_control.specs.laws_statements.TryStatements.{NoClauses, TakesClauses, TakesPart, finally_of, neither, parameter_of}
 pub use Rattle.parse_control.specs.laws_statements.WordStatements.{ChecksOperand, ChecksReturn, JumpsHere, TakesArgument, TakesLabel, fault_of_return, late_operand, stray_return}

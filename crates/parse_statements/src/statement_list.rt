@@ -2,7 +2,7 @@
 //! and 16.1).
 
 ghost use Rattle.std.specs.Prelude.{◌≡◌, ◌<◌, ◌+◌, ◌↔◌, IsTrue, true, false, cond, length, MatchResult};
-ghost use Rattle.parse_statements.specs.Prelude.{AllRefused, AllTaken, CanNest, Directive, DirectivesTaken, ends_at, ends_list, ExpressionStatement, has_directives, has_flag, in_flag, is_textual, node_at, OpeningRefused, OpeningTaken, room, Standing, Str, StringLiteral};
+ghost use Rattle.parse_statements.specs.Prelude.{AllRefused, AllTaken, at, CanNest, Directive, DirectivesTaken, ends_at, ends_list, ExpressionStatement, has_directives, has_flag, in_flag, is_textual, item_of, node_at, OpeningRefused, OpeningTaken, room, Standing, Str, StringLiteral, TakesStatement};
 
 use js_base::Kind;
 use parse_control::forms::StatementList;
@@ -26,10 +26,27 @@ pub fn parse_directives_and_statements<C: ParserConfig, N: Sequences<C>>(
 {
     let mut items = parse_directives(p, nested, list)?;
     'statements: while !at_last(p, list) {
-        let statement = nested.list_item(p)?;
-        items.push(Some(statement))?;
+        let item = parse_item(p, nested, list)?;
+        items.push(Some(item))?;
     }
     Ok(items)
+}
+
+/// An item of the list.
+fn parse_item<C: ParserConfig, N: Sequences<C>>(
+    p: &mut ParserImpl<'_, C>,
+    nested: &N,
+    list: StatementList,
+) -> Result<NodeId, Stop>
+    requires at { Standing p.old }
+    requires nests { CanNest (N.can nested.now) (room p.old + 1) }
+    requires allows_in { has_flag in_flag p.old.ctx ≡ true }
+    ensures { TakesStatement (at (item_of list)) p.old p.new result }
+{
+    match list {
+        StatementList::Text => nested.item(p),
+        _ => nested.list_item(p),
+    }
 }
 
 /// Whether what ends the list stands here, or the text's end, or no lexeme.

@@ -13,8 +13,8 @@ use js_lex::RuntimeParserConfig;
 use js_parser::js_core::{
     RuntimeParser, parse_assignment_expression_or_higher, parse_binary_expression_or_higher,
     parse_binding_pattern, parse_expr, parse_formal_parameters, parse_function_body,
-    parse_lhs_expression_or_higher, parse_property_name, parse_statement_list_item,
-    try_parse_parenthesized_arrow_function_expression,
+    parse_import_declaration, parse_lhs_expression_or_higher, parse_property_name,
+    parse_statement_list_item, try_parse_parenthesized_arrow_function_expression,
 };
 use js_tree::{NodeId, ParserAstBuilder};
 use std::alloc::Global;
@@ -88,6 +88,7 @@ fn call_for_a_node(
         "parse_binding_pattern" => Some(parse_binding_pattern(p)),
         "parse_formal_parameters" => Some(parse_formal_parameters(p)),
         "parse_function_body" => Some(parse_function_body(p)),
+        "parse_import_declaration" => Some(parse_import_declaration(p)),
         "parse_statement_list_item" => Some(parse_statement_list_item(p, context_of(word))),
         "parse_binary_expression_or_higher" => match precedence_of(word) {
             Some(least) => Some(parse_binary_expression_or_higher(p, least)),

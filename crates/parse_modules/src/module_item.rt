@@ -1,0 +1,57 @@
+//! Items of a text (ECMA-262, sections 16.1 and 16.2).
+
+ghost use Rattle.std.specs.Prelude.{◌≡◌, ◌+◌, IfOk, MatchResult, true};
+ghost use Rattle.js_base.specs.Contexts.{has_flag, in_flag};
+ghost use Rattle.parse_modules.specs.Prelude.{at, CanNest, ChecksGoal, goal, ImportHere, IsAt, Item, Mark, OnlyMemory, outside_module, room, Standing, TakesStatement};
+
+use crate::import_declaration::parse_import_declaration;
+use js_base::{DiagnosticKind, Kind, NoMemory};
+use parse_shared::diagnostics::diagnostic_at;
+use parse_shared::lexemes::stands;
+use parse_shared::nested::Nested;
+use parse_shared::{NodeId, ParserConfig, ParserImpl, Stop};
+
+/// An item of a text: an ImportDeclaration (ECMA-262, section 16.2.2), or a StatementListItem (section 14.2). Of a declaration
+/// in a text that is no module is told that it may not stand there, and reading goes on.
+/// Reads: Item.
+#[inline(never)]
+pub fn parse_module_item<C: ParserConfig, N: Nested<C>>(
+    p: &mut ParserImpl<'_, C>,
+    nested: &N,
+) -> Result<NodeId, Stop>
+    requires at { Standing p.old }
+    requires nests { CanNest (N.can nested.now) (room p.old + 1) }
+    requires allows_in { has_flag in_flag p.old.ctx ≡ true }
+    ensures { TakesStatement (at Item) p.old p.new result }
+{
+    if !import_stands(p)? {
+        return nested.list_item(p);
+    }
+    check_goal(p)?;
+    parse_import_declaration(p)
+}
+
+/// Whether an ImportDeclaration begins here: `import`, and neither a parenthesis nor a dot behind it.
+fn import_stands<C: ParserConfig>(p: &mut ParserImpl<'_, C>) -> Result<bool, Stop>
+    requires { Standing p.old }
+    ensures { MatchResult result (λ found. ImportHere p.old p.new found) OnlyMemory }
+{
+    if !stands(p, Kind::Import) {
+        return Ok(false);
+    }
+    let next = p.peek_token()?;
+    Ok(!matches!(next.kind(), Kind::LParen | Kind::Dot))
+}
+
+/// Tells of a declaration that begins here in a text that is no module.
+fn check_goal<C: ParserConfig>(p: &mut ParserImpl<'_, C>) -> Result<(), NoMemory>
+    requires at { IsAt p.old }
+    requires mark { Mark (goal p.old) p.old.text (outside_module p.old.token.span) }
+    ensures { IfOk result (λ _. ChecksGoal p.old p.new) }
+{
+    if !p.source_type.is_module() {
+        let span = p.cur_token().span();
+        p.error(diagnostic_at(DiagnosticKind::ModuleCode, span))?;
+    }
+    Ok(())
+}
