@@ -1,6 +1,6 @@
 -- Exports of all names of a module, of some, and of bindings of this one (ECMA-262, 16.2.3).
 use Rattle.std.proofs.Common.{ℕ, ◌≡◌, ◌<◌, ◌≤◌, ◌⊎◌, inl, inr, max, List, [], ◌∷◌, ◌++◌, length, Option, Some, None, Bool, true, false, not, IsTrue, refl, sym, ap, subst, arith, ◌∙◌}
-use Rattle.std.specs.Prelude.{Result, Ok, Err}
+use Rattle.std.specs.Prelude.{IfOk, Result, Ok, Err}
 use Rattle.std.proofs.lemmas.Bool.{and_from, false≢true}
 use Rattle.js_base.specs.Kinds.{one_of_kinds, same_kind}
 use Rattle.js_base.specs.declared.diagnostic.Diagnostic.{Diagnostic}
@@ -14,14 +14,19 @@ use Rattle.js_grammar.specs.Parsing.{Test, plain, full, still, Goes, Fails}
 use Rattle.js_grammar.specs.Productions.{G, Flags, at, slot, tok, ExportDecl, ExportName}
 use Rattle.js_grammar.specs.Productions.{sym as symbol}
 use Rattle.js_grammar.specs.Table.{rule, source}
-use Rattle.js_grammar.specs.Trees.{NodeKind, Slots, append, end, hole, export_all_declaration, export_from_declaration, export_named_declaration}
+use Rattle.js_grammar.specs.Trees.{NodeKind, Label, Slots, append, end, hole, export_all_declaration, export_from_declaration, export_named_declaration, no_op}
 use Rattle.js_grammar.proofs.Looks.{apart, covers, not_both}
 use Rattle.js_grammar.proofs.Calculus.{◌▹◌, ◌▹✗◌, by_omission, ends, ends_by, fails_ended, fails_nothing, fails_semicolon, left, part_fails, reads_empty_slot, reads_kept, right, then_by}
 use Rattle.js_grammar.proofs.First.{starts}
 use Rattle.js_grammar.proofs.FirstClaims.{firsts}
 use Rattle.js_grammar.proofs.FirstRules.{part}
 use Rattle.js_grammar.proofs.Frame.{append_assoc, append_end}
+use Rattle.js_base.specs.part_memory.declared.no_memory.NoMemory.{NoMemory as OutOfMemory}
+use Rattle.js_base.specs.declared.span.Span.{Span}
 use Rattle.laws_shared.specs.js_tree.Holding.{HoldsAll, Keeps}
+use Rattle.laws_shared.specs.js_tree.Labels.{kind_of}
+use Rattle.laws_shared.specs.js_tree.declared.kind.NodeKind.{NodeKind as Made}
+use Rattle.laws_shared.specs.js_tree.declared.op.Op.TheVariants as op
 use Rattle.laws_shared.specs.js_tree.declared.id.NodeId.{NodeId}
 use Rattle.laws_shared.proofs.js_tree.HoldingLemmas.{HoldsAll-append, HoldsAll-append_late, HoldsAll-hole, HoldsAll-kept, HoldsAll-none, HoldsAll-wider, Keeps-longer, Keeps-trans}
 use Rattle.laws_shared.specs.js_cursor.Checkpoints.{GoesBack, MayGoBack, Remembers}
@@ -34,25 +39,27 @@ use Rattle.laws_shared.proofs.js_cursor.Changing.{may_return}
 use Rattle.laws_shared.specs.Answers.{Grown, Stops, Stretch, Verdict}
 use Rattle.laws_shared.specs.Arguments.{Partway}
 use Rattle.laws_shared.specs.Lexemes.{Lex}
-use Rattle.laws_shared.specs.Moves.{MadeHere, Moved}
+use Rattle.laws_shared.specs.Moves.{MadeHere, Moved, plain_label}
 use Rattle.laws_shared.specs.Stands.{StandsHere}
 use Rattle.laws_shared.specs.States.{At, Standing}
 use Rattle.laws_shared.specs.Statements.{StatementOutcome}
 use Rattle.laws_shared.proofs.Classes.{here_ends}
 use Rattle.laws_shared.proofs.Expected.{expected, not_due, unexpected}
 use Rattle.laws_shared.proofs.Giving.{gives_up}
-use Rattle.laws_shared.proofs.Moving.{same_both, stops_behind, stops_so}
+use Rattle.laws_shared.proofs.Moving.{moves, same_both, stops_behind, stops_so}
 use Rattle.laws_shared.proofs.Parts.{part_from, part_goes, part_path_fails, part_sign, parts}
 use Rattle.laws_shared.proofs.Paths.{walked_both, walked_from}
 use Rattle.laws_shared.proofs.PlainSigns.{star_plain}
 use Rattle.laws_shared.proofs.Signs.{AllAre, none_seen, plain_sign, stands_not, word_there}
 use Rattle.laws_shared.proofs.Verdicts.{and_then, either_way, verdict_of}
 use Rattle.laws_shared.proofs.Verdicts.{after as grown_behind}
+use Rattle.laws_statements.proofs.Statements.{whole_semicolon}
 use Rattle.laws_primary.proofs.Arrays.{turned}
 use Rattle.laws_primary.proofs.Wholes.{whole_part}
 use Rattle.laws_operators.specs.Arrows.{Unmoved, WentOn}
 use Rattle.laws_operators.proofs.Arrows.{before_unmoved, went_back}
 use Rattle.laws_modules.specs.declared.forms.ModuleSource.{ModuleSource}
+use Rattle.laws_modules.specs.declared.forms.NameList.{NameList}
 use Rattle.laws_modules.specs.declared.forms.NameList.TheVariants.{Exports, References}
 use Rattle.laws_modules.specs.Exports.{ExportMade, FindsFrom, NamesBindings, NoFromBehind, NoLine, ReadsFrom, TakesExport, all_line, export_label, from_line, from_part, named_line}
 use Rattle.laws_modules.specs.ExportSpecifiers.{NamedAs, TakesAs}
@@ -187,6 +194,19 @@ all_answers k d text f o b s v m = line_answers b s m refl v (choose_all b s m k
 
 -- ---- names of another module
 
+-- a list behind no children
+pub list_from : {l : NameList} {ids js : List (Option NodeId)} {p q : Parser} → ids ≡ [] → ListTaken l ids js p q → ListTaken l [] js p q
+list_from {l} {js = js} {p} {q} e z = subst (λ (is : List (Option NodeId)). ListTaken l is js p q) e z
+
+-- a node by its span and its children
+pub made_with : {k : NodeKind} {m : Made} {start : ℕ} {s : Span} {p q : Parser} {ids js : List (Option NodeId)} (r : Result NodeId OutOfMemory) → kind_of m ≡ k → s.start ≡ start → s.end ≡ p.prev_token_end → ids ≡ js → IfOk r (λ id. MadeHere (plain_label m op.None s) ids p q id) → IfOk r (λ id. MadeHere (export_label k start p.prev_token_end) js p q id)
+made_with {k} {m} {start} {s} {p} {q} {ids} {js} r h b c i d =
+    subst (λ (is : List (Option NodeId)). IfOk r (λ id. MadeHere (export_label k start p.prev_token_end) is p q id)) i
+    (subst (λ (l : Label). IfOk r (λ id. MadeHere l ids p q id)) (λ j. record { kind = h j; op = no_op; flags = 0; span = record { from = b j; to = c j } }) d)
+
+pub made_ok : {k : NodeKind} {m : Made} {start : ℕ} {s : Span} {p q : Parser} {ids : List (Option NodeId)} {id : NodeId} → kind_of m ≡ k → s.start ≡ start → s.end ≡ p.prev_token_end → MadeHere (plain_label m op.None s) ids p q id → MadeHere (export_label k start p.prev_token_end) ids p q id
+made_ok {id = id} h b c d = made_with (Ok id) h b c refl d
+
 semicolon_apart : apart (is From) (is Semicolon) ≡ true
 unfolding apart
 semicolon_apart = refl
@@ -284,6 +304,9 @@ finds_none a z s = let x = z _ _ a in (((x.same.follows, x.at.at), x.at.heads, �
 pub finds_from : {start : ℕ} {p q t w : Parser} {names : List (Option NodeId)} {s : ModuleSource} {id : NodeId} → ListTaken Exports [] names p q → IsKind From q → ReadsFrom q t (Ok s) → MadeHere (export_label export_from_declaration start t.prev_token_end) (Some s.specifier ∷ s.attributes ∷ names) t w id → FindsFrom start p w (Ok (Some id))
 finds_from {t = t} z e y d = (record { behind = t; children = _; part = λ text f a. let x = z text f a in from_line_read x (y text f x.at); made = d }, λ text f a. no_named_line (z text f a) e)
 
+pub names_start : {p q t : Parser} {names : List (Option NodeId)} {s : ModuleSource} → Standing p → ListTaken Exports [] names p q → ReadsFrom q t (Ok s) → p.prev_token_end ≤ t.prev_token_end
+names_start a z y = let x = z _ _ a in let i = (y _ _ x.at).further in let j = x.at.behind in let k = x.further in let h = a.behind in omega arith
+
 -- ---- bindings of this module
 
 module _ {text : List ℕ} {f : Flags} {p q : Parser} {names : List (Option NodeId)} (a : At text f p) (n : NoFromBehind p) (x : Partway text f (list_of References f) nothing p q [] names) where
@@ -318,6 +341,17 @@ module _ {text : List ℕ} {f : Flags} {p q : Parser} {names : List (Option Node
   pub bindings_unended : (r : Parser) (z : Stop) → EndsOr q r (Err z) → Stops p r z (NoLine named_line text f p)
   bindings_unended r Fatal (m, g) = stops_behind r Fatal x.same (λ d. grown_behind x.verdict d) (λ i. i) (gives_up _ q r Fatal x.at g (here_ends ExpectToken refl) (part_path_fails listed (unended x.at (is From) (m refl))))
   bindings_unended r NoMemory e = tt
+
+-- where a statement ends
+pub ended_place : {text : List ℕ} {f : Flags} {q r : Parser} → At text f q → Ends q r → q.prev_token_end ≤ r.prev_token_end
+ended_place a (inl (k, v)) = let m = moves (whole_semicolon a k) v a in let i = m.further in let j = a.behind in omega arith
+ended_place a (inr (i, m, e)) = let k = ap (λ (v : Parser). v.prev_token_end) e in omega arith
+
+pub bindings_start : {p q r : Parser} {names : List (Option NodeId)} → Standing p → ListTaken References [] names p q → Ends q r → p.prev_token_end ≤ r.prev_token_end
+bindings_start a z e = let x = z _ _ a in let i = ended_place x.at e in let j = x.further in let h = a.behind in omega arith
+
+pub bindings_made : {start : ℕ} {p q r w : Parser} {names : List (Option NodeId)} {id : NodeId} → NoFromBehind p → ListTaken References [] names p q → Ends q r → MadeHere (export_label export_named_declaration start r.prev_token_end) names r w id → NamesBindings start p w (Ok id)
+bindings_made {r = r} n z e d = record { behind = r; children = _; part = λ text f a. bindings_ended a n (z text f a) e; made = d }
 
 pub bindings_unlisted : {p : Parser} (q : Parser) (e : Stop) → NoList References p q e → (text : List ℕ) (f : Flags) → At text f p → Stops p q e (NoLine named_line text f p)
 bindings_unlisted {p} q e z text f a = stops_so p q e (λ n. fails_ended {X' = plain full} n (λ cs j ls mid l d b. (refl, refl))) (z text f a)
