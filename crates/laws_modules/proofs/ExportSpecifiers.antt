@@ -1,8 +1,8 @@
 -- One exported name (ECMA-262, 16.2.3): a name, and behind `as` the one by which it is exported, or the same one.
-use Rattle.std.proofs.Common.{ℕ, suc, ◌≡◌, ◌<◌, ◌≤◌, ◌⊎◌, inl, inr, max, List, [], ◌∷◌, ◌++◌, length, Some, Bool, true, false, not, ◌&&◌, IsTrue, refl, sym, ap, subst, arith, ◌∙◌}
-use Rattle.std.specs.Prelude.{None, Ok, Err, MatchResult, Result}
-use Rattle.std.proofs.lemmas.Bool.{and_from, and_parts, false≢true}
-use Rattle.js_base.specs.KindSets.{binding_identifier_kinds, identifier_name_kinds}
+use Rattle.std.proofs.Common.{ℕ, suc, ◌≡◌, ◌<◌, ◌≤◌, ◌⊎◌, inl, inr, max, List, [], ◌∷◌, ◌++◌, length, Some, true, false, not, ◌&&◌, refl, sym, ap, subst, arith, ◌∙◌}
+use Rattle.std.specs.Prelude.{Ok, Err, MatchResult, Result}
+use Rattle.std.proofs.lemmas.Bool.{and_from, false≢true}
+use Rattle.js_base.specs.KindSets.{identifier_name_kinds}
 use Rattle.js_base.specs.Kinds.{one_of_kinds, same_kind}
 use Rattle.js_base.specs.Texts.{words}
 use Rattle.js_base.specs.declared.diagnostic.Diagnostic.{Diagnostic}
@@ -10,23 +10,23 @@ use Rattle.js_base.specs.declared.diagnostic.DiagnosticClass.TheVariants.{Early}
 use Rattle.js_base.specs.declared.diagnostic.DiagnosticKind.{DiagnosticKind}
 use Rattle.js_base.specs.declared.diagnostic.DiagnosticKind.TheVariants.{ExportNamedString, ExportReservedWord}
 use Rattle.js_base.specs.declared.kind.Kind.{Kind}
-use Rattle.js_base.specs.declared.kind.Kind.TheVariants.{As, Comma, Eof, RBrack, RCurly, RParen, Str, Undetermined}
+use Rattle.js_base.specs.declared.kind.Kind.TheVariants.{As, Comma, Eof, RBrack, RCurly, RParen, Str}
 use Rattle.js_base.specs.declared.token.Token.{Token}
 use Rattle.js_base.specs.Diagnostics.{class_of}
 use Rattle.js_grammar.specs.Conditions.{well_formed}
-use Rattle.js_grammar.specs.Grammar.{Lexeme, Lexemes, Look, ahead, alt, exact, is, next, nothing, seen, seq}
+use Rattle.js_grammar.specs.Grammar.{Lexeme, Look, ahead, alt, exact, next, nothing, seq}
 use Rattle.js_grammar.specs.Insertion.{may_bind}
 use Rattle.js_grammar.specs.Lexemes.{is_word}
 use Rattle.js_grammar.specs.Marks.{Mark}
-use Rattle.js_grammar.specs.Parsing.{Test, plain, full, passing, Admits, Fails, Reads}
+use Rattle.js_grammar.specs.Parsing.{Test, plain, full, passing, Fails, Reads}
 use Rattle.js_grammar.specs.Productions.{G, Flags, tok, ExportName}
 use Rattle.js_grammar.specs.Productions.{sym as symbol}
 use Rattle.js_grammar.specs.Table.{rule, exported_reference}
-use Rattle.js_grammar.specs.Trees.{Label, Slots, end, tree, export_specifier, identifier_name, identifier_reference, no_op, string_literal}
+use Rattle.js_grammar.specs.Trees.{Label, Slots, end, tree, export_specifier, no_op}
 use Rattle.js_grammar.proofs.Looks.{apart, covers, covered}
-use Rattle.js_grammar.proofs.Calculus.{◌▹◌, Between, Inside, fails_ahead, fails_alt, fails_lexeme, fails_node, inside_full, left, part_fails, right, then_by, weaken_fails}
+use Rattle.js_grammar.proofs.Calculus.{◌▹◌, Inside, fails_ahead, fails_alt, fails_lexeme, fails_node, inside_full, left, part_fails, right, then_by, weaken_fails}
 use Rattle.laws_shared.specs.js_tree.Holding.{Holds, Keeps}
-use Rattle.laws_shared.specs.js_tree.Labels.{kind_of, op_of}
+use Rattle.laws_shared.specs.js_tree.Labels.{kind_of}
 use Rattle.laws_shared.specs.js_tree.declared.id.NodeId.{NodeId}
 use Rattle.laws_shared.specs.js_tree.declared.kind.NodeKind.{NodeKind}
 use Rattle.laws_shared.specs.js_tree.declared.kind.NodeKind.TheVariants as node
@@ -37,9 +37,8 @@ use Rattle.laws_shared.specs.js_cursor.Parsers.{Parser}
 use Rattle.laws_shared.specs.js_cursor.Places.{IsAt, goal}
 use Rattle.laws_shared.specs.js_cursor.declared.stop.Stop.{Stop}
 use Rattle.laws_shared.specs.js_cursor.declared.stop.Stop.TheVariants.{Fatal, NoMemory}
-use Rattle.laws_shared.specs.Answers.{Grown, Stops, Stretch, Verdict, clean, unclean}
+use Rattle.laws_shared.specs.Answers.{Stops, Verdict, clean, unclean}
 use Rattle.laws_shared.specs.Arguments.{PartTaken, Partway, behind_item}
-use Rattle.laws_shared.specs.Classes.{IsEarly}
 use Rattle.laws_shared.specs.Lexemes.{Lex, Walked, is_read_kind, signs, spot}
 use Rattle.laws_shared.specs.Methods.{WholeTaken}
 use Rattle.laws_shared.specs.Moves.{LeafTaken, MadeHere, Moved, TakesLeaf, plain_label}
@@ -48,7 +47,7 @@ use Rattle.laws_shared.specs.States.{At, Same, Standing}
 use Rattle.laws_shared.specs.Told.{unrelated_at}
 use Rattle.laws_shared.proofs.Escapes.{read_as}
 use Rattle.laws_shared.proofs.Expected.{expected, not_due}
-use Rattle.laws_shared.proofs.Giving.{gives_up_here, kept_one}
+use Rattle.laws_shared.proofs.Giving.{gives_up_here}
 use Rattle.laws_shared.proofs.MadeNodes.{from_start, leaf_held, node_held, one_lies, one_lies_in, two_held, LabelLies}
 use Rattle.laws_shared.proofs.Moving.{same_both, same_itself, standing, stops_behind, stops_so}
 use Rattle.laws_shared.proofs.NodeTexts.{spells_later, string_later}
@@ -62,7 +61,7 @@ use Rattle.laws_primary.proofs.Members.{word_signless}
 use Rattle.laws_primary.proofs.Properties.{kinds_apart}
 use Rattle.laws_primary.proofs.PropertyNames.{string_plain}
 use Rattle.laws_primary.proofs.Wholes.{part_answers, part_under, whole_last, whole_part}
-use Rattle.laws_modules.specs.ExportSpecifiers.{ChecksReference, ExportsAs, NamedAs, NoReference, ReferenceTaken, TakesAs, TakesReference, exported_label, may_refer, misnamed, misnamed_kind, module_words, reference_node}
+use Rattle.laws_modules.specs.ExportSpecifiers.{ChecksReference, ExportsAs, NoReference, ReferenceTaken, TakesReference, exported_label, may_refer, misnamed, misnamed_kind, module_words, reference_node}
 use Rattle.laws_modules.specs.ImportSpecifiers.{IsExportName}
 use Rattle.laws_modules.specs.ModuleNames.{NamesExport, SpellsExport, TakesExportName, export_node}
 use Rattle.laws_modules.specs.NameLists.{exported_item}
@@ -70,7 +69,7 @@ use Rattle.laws_modules.proofs.Leaves.{Leaf, leaf_ahead, leaf_fails, leaf_reads,
 use Rattle.laws_modules.proofs.ImportSpecifiers.{any_between, behind_ahead}
 use Rattle.laws_modules.proofs.ModuleNames.{export_name_read, no_undetermined, word_node}
 use Rattle.laws_modules.proofs.TokenMarks.{token_marked}
-use Rattle.laws_modules.proofs.WholeParts.{leaf_at, leaf_kept, leaf_label, leaf_same}
+use Rattle.laws_modules.proofs.WholeParts.{leaf_at, leaf_kept, leaf_same}
 
 -- ---- the two forms
 
@@ -404,10 +403,10 @@ unfolding covers apart words
 no_reference q e a n g = gives_up_here _ q e a g (fails_at a exported_reference identifier_name_kinds refl n)
 
 -- what was passed, where memory was refused or not
-pub reference_taken : {p q m : Parser} (r : Result NodeId Stop) → IsExportName p.token → ChecksReference p m → MatchResult r (λ id. TakesLeaf (reference_node p.token.kind) op.None m q id) OnlyMemory → TakesReference p q r
-reference_taken (Ok id) n c t = record { name = n; told = _; checked = c; taken = t }
-reference_taken (Err Fatal) n c t = absurd t
-reference_taken (Err NoMemory) n c t = λ text f a. tt
+pub reference_taken : (p q m : Parser) (r : Result NodeId Stop) → IsExportName p.token → ChecksReference p m → MatchResult r (λ id. TakesLeaf (reference_node p.token.kind) op.None m q id) OnlyMemory → TakesReference p q r
+reference_taken p q m (Ok id) n c t = record { name = n; told = _; checked = c; taken = t }
+reference_taken p q m (Err Fatal) n c t = absurd t
+reference_taken p q m (Err NoMemory) n c t = λ text f a. tt
 
 pub reference_name : {p q : Parser} {id : NodeId} {t : Token} → t ≡ p.token → ReferenceTaken p q id → IsExportName t
 reference_name e z = subst (λ (v : Token). IsExportName v) (sym e) z.name
@@ -420,4 +419,3 @@ checked_at a (inr (h, d)) = standing (told_at d a)
 pub checked_token : {p q : Parser} → ChecksReference p q → q.token ≡ p.token
 checked_token (inl (h, e)) = ap (λ (v : Parser). v.token) e
 checked_token (inr (h, d)) = ap (λ (v : Parser). v.token) d.is
-

@@ -1,20 +1,19 @@
 -- Parts of a grammar that are read over one lexeme, and stand ahead of one.
-use Rattle.std.proofs.Common.{ℕ, suc, List, [], ◌∷◌, ◌≡◌, inl, inr, Bool, true, false, not, ◌&&◌, IsTrue, refl, sym, ap, subst, arith, ◌∙◌}
-use Rattle.std.proofs.lemmas.Bool.{false≢true, and_parts}
+use Rattle.std.proofs.Common.{ℕ, suc, [], ◌∷◌, ◌≡◌, inl, inr, true, false, not, ◌&&◌, IsTrue, refl, sym, ap, subst, arith, ◌∙◌}
 use Rattle.js_base.specs.Kinds.{one_of_kinds}
 use Rattle.js_base.specs.declared.kind.Kind.TheVariants.{Await, Eof, Implements, Interface, Let, Package, Private, Protected, Public, Static, Str, Yield}
 use Rattle.js_grammar.specs.Conditions.{well_formed}
-use Rattle.js_grammar.specs.Grammar.{Lexeme, Lexemes, Look, ahead, here, is, last, next, nothing, seen, seq, Takes, is_ahead, is_left, is_lexeme, is_node, is_nothing, is_right, is_seq, is_such, is_text}
+use Rattle.js_grammar.specs.Grammar.{Lexeme, Lexemes, Look, ahead, here, is, last, next, nothing, seen, Takes, is_left, is_lexeme, is_node, is_nothing, is_right, is_seq, is_such, is_text}
 use Rattle.js_grammar.specs.Insertion.{may_bind}
 use Rattle.js_grammar.specs.Lexed.{Lexes}
 use Rattle.js_grammar.specs.Lexemes.{is_word}
-use Rattle.js_grammar.specs.Parsing.{Test, plain, full, passing, still, Admits, Fails, Reaches, Reads}
-use Rattle.js_grammar.specs.Productions.{G, Flags, ExportName, IdentifierName}
+use Rattle.js_grammar.specs.Parsing.{Test, passing, still, Admits, Fails, Reaches, Reads}
+use Rattle.js_grammar.specs.Productions.{G, Flags, ExportName}
 use Rattle.js_grammar.specs.Productions.{sym as symbol}
 use Rattle.js_grammar.specs.Table.{rule, rule_of, exported_reference}
 use Rattle.js_grammar.specs.Trees.{NodeKind, Label, Slots, end, tree, identifier_name, identifier_reference, no_op, string_literal}
 use Rattle.js_grammar.proofs.Calculus.{aheads, here_at, passes_one}
-use Rattle.js_grammar.proofs.Looks.{apart, covers, covered, not_both}
+use Rattle.js_grammar.proofs.Looks.{apart, not_both}
 
 -- From the place s on the part takes the lexeme x, for which it has a node without children, and nothing else.
 pub record Leaf (Lex : ℕ → Lexeme → Type 0) (a : G) (s : ℕ) (x : Lexeme) (l : Label) : Type 0 where

@@ -1,5 +1,5 @@
 -- A list of bindings in braces is one of names (ECMA-262, 16.2.3), with other nodes: so where none of these is derived, none of those is.
-use Rattle.std.proofs.Common.{ℕ, ◌≡◌, List, [], ◌∷◌, Bool, true, not, ◌&&◌, refl}
+use Rattle.std.proofs.Common.{ℕ, ◌≡◌, [], ◌∷◌, true, not, ◌&&◌, refl}
 use Rattle.js_base.specs.Kinds.{one_of_kinds}
 use Rattle.js_base.specs.declared.kind.Kind.TheVariants.{Await, Implements, Interface, Let, Package, Private, Protected, Public, Static, Yield}
 use Rattle.js_grammar.specs.Grammar.{Lexeme, Lexemes, commas, label_of, exact, Takes, is_ahead, is_commas, is_left, is_lexeme, is_node, is_nothing, is_right, is_seq, is_such}
@@ -9,7 +9,7 @@ use Rattle.js_grammar.specs.Parsing.{plain, full, Fails}
 use Rattle.js_grammar.specs.Productions.{G, Flags, mk, ExportName}
 use Rattle.js_grammar.specs.Productions.{sym as symbol}
 use Rattle.js_grammar.specs.Table.{rule, rule_of, export_list, exported_reference, one_or_two}
-use Rattle.js_grammar.specs.Trees.{Slots, end, tree, export_specifier, identifier_name, no_op}
+use Rattle.js_grammar.specs.Trees.{Slots, end, tree, export_specifier, no_op}
 use Rattle.js_grammar.proofs.Looks.{covers, covered}
 
 -- the name of a binding is a word
