@@ -16,7 +16,7 @@ use Rattle.js_grammar.specs.Productions.{sym as symbol}
 use Rattle.js_grammar.specs.Table.{rule, source}
 use Rattle.js_grammar.specs.Trees.{NodeKind, Label, Slots, append, end, hole, export_all_declaration, export_from_declaration, export_named_declaration, no_op}
 use Rattle.js_grammar.proofs.Looks.{apart, covers, not_both}
-use Rattle.js_grammar.proofs.Calculus.{◌▹◌, ◌▹✗◌, by_omission, ends, ends_by, fails_ended, fails_nothing, fails_semicolon, left, part_fails, reads_empty_slot, reads_kept, right, then_by}
+use Rattle.js_grammar.proofs.Calculus.{◌▹◌, ◌▹✗◌, by_omission, ends, ends_by, fails_ended, fails_nothing, fails_semicolon, here_at, left, part_fails, reads_empty_slot, reads_kept, right, then_by}
 use Rattle.js_grammar.proofs.First.{starts}
 use Rattle.js_grammar.proofs.FirstClaims.{firsts}
 use Rattle.js_grammar.proofs.FirstRules.{part}
@@ -32,6 +32,7 @@ use Rattle.laws_shared.proofs.js_tree.HoldingLemmas.{HoldsAll-append, HoldsAll-a
 use Rattle.laws_shared.specs.js_cursor.Checkpoints.{GoesBack, MayGoBack, Remembers}
 use Rattle.laws_shared.specs.js_cursor.Moves.{Ends, EndsOr, Expects, IsKind, MayEnd, MovesOn}
 use Rattle.laws_shared.specs.js_cursor.Parsers.{Parser}
+use Rattle.laws_shared.specs.js_cursor.Tokens.{may_be_read_again}
 use Rattle.laws_shared.specs.js_cursor.declared.checkpoint.ParserCheckpoint.{ParserCheckpoint}
 use Rattle.laws_shared.specs.js_cursor.declared.stop.Stop.{Stop}
 use Rattle.laws_shared.specs.js_cursor.declared.stop.Stop.TheVariants.{Fatal, NoMemory}
@@ -96,9 +97,9 @@ module _ {text : List ℕ} {f : Flags} {p : Parser} (a : At text f p) where
     pub from_stops : (r : Parser) (z : Stop) → ReadsSource q r (Err z) → Stops p r z (NoLine from_part text f p)
     from_stops r z y = stops_behind r z from_sign.same (λ g. grown_behind from_sign.verdict g) (λ n. part_path_fails from_sign n) (y text f from_moved.at)
 
-pub from_outcome : {p q r : Parser} (s : Result ModuleSource Stop) → IsKind From p × MovesOn p q → ReadsSource q r s → ReadsFrom p r s
-from_outcome (Ok s) e y = λ text f a. from_read a e y
-from_outcome (Err z) e y = λ text f a. from_stops a e _ z y
+pub from_outcome : (p q r : Parser) (s : Result ModuleSource Stop) → IsKind From p × MovesOn p q → ReadsSource q r s → ReadsFrom p r s
+from_outcome p q r (Ok s) e y = λ text f a. from_read a e y
+from_outcome p q r (Err z) e y = λ text f a. from_stops a e r z y
 
 -- ---- all names
 
@@ -153,41 +154,40 @@ module _ {text : List ℕ} {f : Flags} {p : Parser} (a : At text f p) where
     as_named n = parts as_sign (whole_part (export_name_read as_moved.at n) [])
 
   -- with `as` or without it
-  module _ {q r : Parser} where
-    pub name_at : (o : Option NodeId) → TakesAs p q (Ok o) → At text f q
-    name_at None (s, e) = subst (λ (v : Parser). At text f v) (sym e) a
-    name_at (Some id) n = (as_named n.word n.name).at
+  pub name_at : (q : Parser) (o : Option NodeId) → TakesAs p q (Ok o) → At text f q
+  name_at q None (s, e) = subst (λ (v : Parser). At text f v) (sym e) a
+  name_at q (Some id) n = (as_named n.word n.name).at
 
-    name_then_from : (o : Option NodeId) (s : ModuleSource) → TakesAs p q (Ok o) → ReadsFrom q r (Ok s) → Partway text f (seq (slot (as_name f)) (from_part f)) nothing p r [] (o ∷ Some s.specifier ∷ s.attributes ∷ [])
-    name_then_from None s (i, e) y = part_from (to_hole i) (hole_before (subst (λ (v : Parser). ReadsFrom v r (Ok s)) e y text f a))
-    name_then_from (Some id) s n y = let x = as_named n.word n.name in parts x (part_behind (Some id ∷ []) (y text f x.at))
+  name_then_from : (q : Parser) {r : Parser} (o : Option NodeId) (s : ModuleSource) → TakesAs p q (Ok o) → ReadsFrom q r (Ok s) → Partway text f (seq (slot (as_name f)) (from_part f)) nothing p r [] (o ∷ Some s.specifier ∷ s.attributes ∷ [])
+  name_then_from q {r} None s (i, e) y = part_from (to_hole i) (hole_before (subst (λ (v : Parser). ReadsFrom v r (Ok s)) e y text f a))
+  name_then_from q (Some id) s n y = let x = as_named n.word n.name in parts x (part_behind (Some id ∷ []) (y text f x.at))
 
-    name_then_stops : (o : Option NodeId) (z : Stop) → TakesAs p q (Ok o) → ReadsFrom q r (Err z) → Stops p r z (Fails rule (Lex text) (plain full) end (seq (slot (as_name f)) (from_part f)) p.prev_token_end)
-    name_then_stops None z (i, e) y = stops_so p r z (λ n. to_hole i ▹✗ (then_by {X = plain full} {X' = plain full} reads_empty_slot any_between ▹✗ n)) (subst (λ (v : Parser). ReadsFrom v r (Err z)) e y text f a)
-    name_then_stops (Some id) z n y = let x = as_named n.word n.name in stops_behind r z x.same (λ g. grown_behind x.verdict g) (λ m. part_path_fails x m) (y text f x.at)
+  name_then_stops : (q r : Parser) (o : Option NodeId) (z : Stop) → TakesAs p q (Ok o) → ReadsFrom q r (Err z) → Stops p r z (Fails rule (Lex text) (plain full) end (seq (slot (as_name f)) (from_part f)) p.prev_token_end)
+  name_then_stops q r None z (i, e) y = stops_so p r z (λ n. to_hole i ▹✗ (then_by {X = plain full} {X' = plain full} reads_empty_slot any_between ▹✗ n)) (subst (λ (v : Parser). ReadsFrom v r (Err z)) e y text f a)
+  name_then_stops q r (Some id) z n y = let x = as_named n.word n.name in stops_behind r z x.same (λ g. grown_behind x.verdict g) (λ m. part_path_fails x m) (y text f x.at)
 
-    name_stops : (z : Stop) → TakesAs p q (Err z) → Stops p q z (Fails rule (Lex text) (plain full) end (seq (slot (as_name f)) (from_part f)) p.prev_token_end)
-    name_stops Fatal n = as_stops n.word q Fatal n.name
-    name_stops NoMemory n = tt
+  name_stops : (q : Parser) (z : Stop) → TakesAs p q (Err z) → Stops p q z (Fails rule (Lex text) (plain full) end (seq (slot (as_name f)) (from_part f)) p.prev_token_end)
+  name_stops q Fatal n = as_stops n.word q Fatal n.name
+  name_stops q NoMemory n = tt
 
 module _ {text : List ℕ} {f : Flags} {p q : Parser} (a : At text f p) (k : p.token.kind ≡ Star) (m : Moved text f p q) where
   star : Partway text f (all_line f) (seq (slot (as_name f)) (from_part f)) p q [] []
   star = part_sign Star a k (plain_sign Star a k refl refl star_plain) refl m
 
-  pub all_read : {r t : Parser} (o : Option NodeId) (s : ModuleSource) → TakesAs q r (Ok o) → ReadsFrom r t (Ok s) → Partway text f (all_line f) nothing p t [] (o ∷ Some s.specifier ∷ s.attributes ∷ [])
-  all_read o s n y = parts star (name_then_from m.at o s n y)
+  pub all_read : (r : Parser) {t : Parser} (o : Option NodeId) (s : ModuleSource) → TakesAs q r (Ok o) → ReadsFrom r t (Ok s) → Partway text f (all_line f) nothing p t [] (o ∷ Some s.specifier ∷ s.attributes ∷ [])
+  all_read r o s n y = parts star (name_then_from m.at r o s n y)
 
   pub all_unnamed : (r : Parser) (z : Stop) → TakesAs q r (Err z) → Stops p r z (NoLine all_line text f p)
-  all_unnamed r z n = stops_behind r z star.same (λ g. grown_behind star.verdict g) (λ i. part_path_fails star i) (name_stops m.at z n)
+  all_unnamed r z n = stops_behind r z star.same (λ g. grown_behind star.verdict g) (λ i. part_path_fails star i) (name_stops m.at r z n)
 
-  pub all_unsourced : {r : Parser} (o : Option NodeId) (t : Parser) (z : Stop) → TakesAs q r (Ok o) → ReadsFrom r t (Err z) → Stops p t z (NoLine all_line text f p)
-  all_unsourced o t z n y = stops_behind t z star.same (λ g. grown_behind star.verdict g) (λ i. part_path_fails star i) (name_then_stops m.at o z n y)
+  pub all_unsourced : (r : Parser) (o : Option NodeId) (t : Parser) (z : Stop) → TakesAs q r (Ok o) → ReadsFrom r t (Err z) → Stops p t z (NoLine all_line text f p)
+  all_unsourced r o t z n y = stops_behind t z star.same (λ g. grown_behind star.verdict g) (λ i. part_path_fails star i) (name_then_stops m.at r t o z n y)
 
-  pub all_start : {r t : Parser} {o : Option NodeId} {s : ModuleSource} → TakesAs q r (Ok o) → ReadsFrom r t (Ok s) → p.prev_token_end ≤ t.prev_token_end
-  all_start {o = o} {s} n y = let i = (all_read o s n y).further in let j = a.behind in omega arith
+  pub all_start : (r : Parser) {t : Parser} (o : Option NodeId) (s : ModuleSource) → TakesAs q r (Ok o) → ReadsFrom r t (Ok s) → p.prev_token_end ≤ t.prev_token_end
+  all_start r o s n y = let i = (all_read r o s n y).further in let j = a.behind in omega arith
 
-pub all_stops : {start : ℕ} {p q : Parser} (e : Stop) → p.token.kind ≡ Star → ((text : List ℕ) (f : Flags) → At text f p → Stops p q e (NoLine all_line text f p)) → TakesExport start p q (Err e)
-all_stops {q = q} e k z text f o b s v m = line_stops b s m q e (λ n. none_all b s m k n) (z text f m.at)
+pub all_stops : {start : ℕ} {p : Parser} (q : Parser) (e : Stop) → p.token.kind ≡ Star → ((text : List ℕ) (f : Flags) → At text f p → Stops p q e (NoLine all_line text f p)) → TakesExport start p q (Err e)
+all_stops q e k z text f o b s v m = line_stops b s m q e (λ n. none_all b s m k n) (z text f m.at)
 
 pub all_answers : {start : ℕ} {p q : Parser} {id : NodeId} → p.token.kind ≡ Star → ExportMade export_all_declaration all_line start p q id → TakesExport start p q (Ok id)
 all_answers k d text f o b s v m = line_answers b s m refl v (choose_all b s m k) d
@@ -195,17 +195,17 @@ all_answers k d text f o b s v m = line_answers b s m refl v (choose_all b s m k
 -- ---- names of another module
 
 -- a list behind no children
-pub list_from : {l : NameList} {ids js : List (Option NodeId)} {p q : Parser} → ids ≡ [] → ListTaken l ids js p q → ListTaken l [] js p q
-list_from {l} {js = js} {p} {q} e z = subst (λ (is : List (Option NodeId)). ListTaken l is js p q) e z
+pub list_from : (l : NameList) {ids js : List (Option NodeId)} {p q : Parser} → ids ≡ [] → ListTaken l ids js p q → ListTaken l [] js p q
+list_from l {js = js} {p} {q} e z = subst (λ (is : List (Option NodeId)). ListTaken l is js p q) e z
 
 -- a node by its span and its children
-pub made_with : {k : NodeKind} {m : Made} {start : ℕ} {s : Span} {p q : Parser} {ids js : List (Option NodeId)} (r : Result NodeId OutOfMemory) → kind_of m ≡ k → s.start ≡ start → s.end ≡ p.prev_token_end → ids ≡ js → IfOk r (λ id. MadeHere (plain_label m op.None s) ids p q id) → IfOk r (λ id. MadeHere (export_label k start p.prev_token_end) js p q id)
-made_with {k} {m} {start} {s} {p} {q} {ids} {js} r h b c i d =
+pub made_with : {k : NodeKind} (m : Made) {start : ℕ} {s : Span} (p q : Parser) {ids js : List (Option NodeId)} (r : Result NodeId OutOfMemory) → kind_of m ≡ k → s.start ≡ start → s.end ≡ p.prev_token_end → ids ≡ js → IfOk r (λ id. MadeHere (plain_label m op.None s) ids p q id) → IfOk r (λ id. MadeHere (export_label k start p.prev_token_end) js p q id)
+made_with {k} m {start} {s} p q {ids} {js} r h b c i d =
     subst (λ (is : List (Option NodeId)). IfOk r (λ id. MadeHere (export_label k start p.prev_token_end) is p q id)) i
     (subst (λ (l : Label). IfOk r (λ id. MadeHere l ids p q id)) (λ j. record { kind = h j; op = no_op; flags = 0; span = record { from = b j; to = c j } }) d)
 
-pub made_ok : {k : NodeKind} {m : Made} {start : ℕ} {s : Span} {p q : Parser} {ids : List (Option NodeId)} {id : NodeId} → kind_of m ≡ k → s.start ≡ start → s.end ≡ p.prev_token_end → MadeHere (plain_label m op.None s) ids p q id → MadeHere (export_label k start p.prev_token_end) ids p q id
-made_ok {id = id} h b c d = made_with (Ok id) h b c refl d
+pub made_ok : {k : NodeKind} (m : Made) {start : ℕ} {s : Span} {p q : Parser} {ids : List (Option NodeId)} {id : NodeId} → kind_of m ≡ k → s.start ≡ start → s.end ≡ p.prev_token_end → MadeHere (plain_label m op.None s) ids p q id → MadeHere (export_label k start p.prev_token_end) ids p q id
+made_ok m {p = p} {q} {id = id} h b c d = made_with m p q (Ok id) h b c refl d
 
 semicolon_apart : apart (is From) (is Semicolon) ≡ true
 unfolding apart
@@ -297,8 +297,8 @@ pub unlisted : {p : Parser} (q : Parser) (e : Stop) → NoList Exports p q e →
 unlisted {p} q e z text f a = stops_so p q e (λ n. (kept_fails (from_first f) n, fails_ended {X' = plain full} (bindings_fail n) (λ cs j ls mid l d b. (refl, refl)))) (z text f a)
 
 -- names without `from`
-pub finds_none : {start : ℕ} {p q : Parser} {names : List (Option NodeId)} → Standing p → ListTaken Exports [] names p q → StandsHere q From false → FindsFrom start p q (Ok None)
-finds_none a z s = let x = z _ _ a in (((x.same.follows, x.at.at), x.at.heads, λ w. (x.same.lies w).1), λ text f b. no_from_line (z text f b) s, λ text f b cs j ls rest l d. none_behind (z text f b) s l d)
+pub finds_none : (start : ℕ) {p q : Parser} {names : List (Option NodeId)} → Standing p → ListTaken Exports [] names p q → StandsHere q From false → FindsFrom start p q (Ok None)
+finds_none start a z s = let x = z _ _ a in (((x.same.follows, x.at.at), x.at.heads, λ w. (x.same.lies w).1), λ text f b. no_from_line (z text f b) s, λ text f b cs j ls rest l d. none_behind (z text f b) s l d)
 
 -- and with it
 pub finds_from : {start : ℕ} {p q t w : Parser} {names : List (Option NodeId)} {s : ModuleSource} {id : NodeId} → ListTaken Exports [] names p q → IsKind From q → ReadsFrom q t (Ok s) → MadeHere (export_label export_from_declaration start t.prev_token_end) (Some s.specifier ∷ s.attributes ∷ names) t w id → FindsFrom start p w (Ok (Some id))
