@@ -1,5 +1,5 @@
 -- One exported name (ECMA-262, 16.2.3): a name, and behind `as` the one by which it is exported, or the same one.
-use Rattle.std.proofs.Common.{ℕ, suc, ◌≡◌, ◌<◌, ◌≤◌, ◌⊎◌, inl, inr, max, List, [], ◌∷◌, ◌++◌, length, Some, true, false, not, ◌&&◌, refl, sym, ap, subst, arith, ◌∙◌}
+use Rattle.std.proofs.Common.{ℕ, suc, ◌≡◌, ◌<◌, ◌≤◌, ◌⊎◌, inl, inr, max, List, [], ◌∷◌, ◌++◌, length, Option, Some, None, true, false, not, ◌&&◌, refl, sym, ap, subst, arith, ◌∙◌}
 use Rattle.std.specs.Prelude.{Ok, Err, MatchResult, Result}
 use Rattle.std.proofs.lemmas.Bool.{and_from, false≢true}
 use Rattle.js_base.specs.KindSets.{identifier_name_kinds}
@@ -32,7 +32,7 @@ use Rattle.laws_shared.specs.js_tree.declared.kind.NodeKind.{NodeKind}
 use Rattle.laws_shared.specs.js_tree.declared.kind.NodeKind.TheVariants as node
 use Rattle.laws_shared.specs.js_tree.declared.op.Op.TheVariants as op
 use Rattle.laws_shared.proofs.js_tree.HoldingLemmas.{HoldsAll-none, Keeps-refl, Keeps-trans, Keeps-made}
-use Rattle.laws_shared.specs.js_cursor.Moves.{GivesUp, IsKind, IsUnexpected, KeepsDiagnostic, MovesOn, OnlyMemory}
+use Rattle.laws_shared.specs.js_cursor.Moves.{Eats, GivesUp, IsKind, IsUnexpected, KeepsDiagnostic, MovesOn, OnlyMemory}
 use Rattle.laws_shared.specs.js_cursor.Parsers.{Parser}
 use Rattle.laws_shared.specs.js_cursor.Places.{IsAt, goal}
 use Rattle.laws_shared.specs.js_cursor.declared.stop.Stop.{Stop}
@@ -419,3 +419,31 @@ checked_at a (inr (h, d)) = standing (told_at d a)
 pub checked_token : {p q : Parser} → ChecksReference p q → q.token ≡ p.token
 checked_token (inl (h, e)) = ap (λ (v : Parser). v.token) e
 checked_token (inr (h, d)) = ap (λ (v : Parser). v.token) d.is
+
+-- ---- the name by which it is exported
+
+-- what `eat` answers
+pub eaten : {p q : Parser} {b : Bool} → Eats As p q b → b ≡ true → IsKind As p × MovesOn p q
+eaten {p} {q} e h = subst (λ (b : Bool). Eats As p q b) h e
+
+pub uneaten : {p q : Parser} {b : Bool} → Eats As p q b → b ≡ false → StandsHere p As false × (q ≡ p)
+uneaten {p} {q} e h = let z : Eats As p q false = subst (λ (b : Bool). Eats As p q b) h e in (λ k n. z.0 (k, n), z.1)
+
+-- `as` was passed
+pub as_standing : {p q : Parser} → Standing p → IsKind As p × MovesOn p q → Standing q
+as_standing a e = standing (expected a As e.0 e.1 refl refl).at
+
+pub named_stops : {p m : Parser} (q : Parser) (e : Stop) → IsKind As p × MovesOn p m → TakesExportName m q (Err e) → TakesAs p q (Err e)
+named_stops {m = m} q Fatal w n = record { mid = m; word = w; name = n }
+named_stops q NoMemory w n = tt
+
+module _ (p q : Parser) where
+  pub some_named : (t : Token) (id : NodeId) (o : Option NodeId) → o ≡ Some id → TakesAs p q (Ok o) → ExportsAs t p q (Ok id)
+  some_named t id o e n = inl (subst (λ (v : Option NodeId). TakesAs p q (Ok v)) e n)
+
+  pub none_named : (o : Option NodeId) → o ≡ None → TakesAs p q (Ok o) → StandsHere p As false × (q ≡ p)
+  none_named o e n = subst (λ (v : Option NodeId). TakesAs p q (Ok v)) e n
+
+  pub as_stops : (t : Token) (e : Stop) → TakesAs p q (Err e) → ExportsAs t p q (Err e)
+  as_stops t Fatal n = n
+  as_stops t NoMemory n = tt
