@@ -1,5 +1,5 @@
 -- One exported name (ECMA-262, 16.2.3): a name, and behind `as` the one by which it is exported, or the same one.
-use Rattle.std.proofs.Common.{ℕ, suc, ◌≡◌, ◌<◌, ◌≤◌, ◌⊎◌, inl, inr, max, List, [], ◌∷◌, ◌++◌, length, Option, Some, None, true, false, not, ◌&&◌, refl, sym, ap, subst, arith, ◌∙◌}
+use Rattle.std.proofs.Common.{ℕ, suc, ◌≡◌, ◌<◌, ◌≤◌, ◌⊎◌, inl, inr, max, List, [], ◌∷◌, ◌++◌, length, Option, Some, None, Bool, true, false, not, ◌&&◌, refl, sym, ap, subst, arith, ◌∙◌}
 use Rattle.std.specs.Prelude.{Ok, Err, MatchResult, Result}
 use Rattle.std.proofs.lemmas.Bool.{and_from, false≢true}
 use Rattle.js_base.specs.KindSets.{identifier_name_kinds}
@@ -41,7 +41,7 @@ use Rattle.laws_shared.specs.Answers.{Stops, Verdict, clean, unclean}
 use Rattle.laws_shared.specs.Arguments.{PartTaken, Partway, behind_item}
 use Rattle.laws_shared.specs.Lexemes.{Lex, Walked, is_read_kind, signs, spot}
 use Rattle.laws_shared.specs.Methods.{WholeTaken}
-use Rattle.laws_shared.specs.Moves.{LeafTaken, MadeHere, Moved, TakesLeaf, plain_label}
+use Rattle.laws_shared.specs.Moves.{IsWholeHere, LeafTaken, MadeHere, Moved, TakesLeaf, plain_label}
 use Rattle.laws_shared.specs.Stands.{StandsHere}
 use Rattle.laws_shared.specs.States.{At, Same, Standing}
 use Rattle.laws_shared.specs.Told.{unrelated_at}
@@ -57,11 +57,11 @@ use Rattle.laws_shared.proofs.Signs.{word_there}
 use Rattle.laws_shared.proofs.Told.{told_at, told_same}
 use Rattle.laws_shared.proofs.Verdicts.{either_way, verdict_of}
 use Rattle.laws_shared.proofs.Verdicts.{after as grown_behind}
-use Rattle.laws_primary.proofs.Members.{word_signless}
+use Rattle.laws_primary.proofs.Members.{word_signless, word_whole}
 use Rattle.laws_primary.proofs.Properties.{kinds_apart}
 use Rattle.laws_primary.proofs.PropertyNames.{string_plain}
 use Rattle.laws_primary.proofs.Wholes.{part_answers, part_under, whole_last, whole_part}
-use Rattle.laws_modules.specs.ExportSpecifiers.{ChecksReference, ExportsAs, NoReference, ReferenceTaken, TakesReference, exported_label, may_refer, misnamed, misnamed_kind, module_words, reference_node}
+use Rattle.laws_modules.specs.ExportSpecifiers.{ChecksReference, ExportsAs, NoReference, ReferenceTaken, TakesAs, TakesReference, exported_label, may_refer, misnamed, misnamed_kind, module_words, reference_node}
 use Rattle.laws_modules.specs.ImportSpecifiers.{IsExportName}
 use Rattle.laws_modules.specs.ModuleNames.{NamesExport, SpellsExport, TakesExportName, export_node}
 use Rattle.laws_modules.specs.NameLists.{exported_item}
@@ -403,10 +403,17 @@ unfolding covers apart words
 no_reference q e a n g = gives_up_here _ q e a g (fails_at a exported_reference identifier_name_kinds refl n)
 
 -- what was passed, where memory was refused or not
-pub reference_taken : (p q m : Parser) (r : Result NodeId Stop) → IsExportName p.token → ChecksReference p m → MatchResult r (λ id. TakesLeaf (reference_node p.token.kind) op.None m q id) OnlyMemory → TakesReference p q r
-reference_taken p q m (Ok id) n c t = record { name = n; told = _; checked = c; taken = t }
-reference_taken p q m (Err Fatal) n c t = absurd t
-reference_taken p q m (Err NoMemory) n c t = λ text f a. tt
+module _ (p q m : Parser) where
+  reference_taken : (r : Result NodeId Stop) → IsExportName p.token → ChecksReference p m → MatchResult r (λ id. TakesLeaf (reference_node p.token.kind) op.None m q id) OnlyMemory → TakesReference p q r
+  reference_taken (Ok id) n c t = record { name = n; told = m; checked = c; taken = t }
+  reference_taken (Err Fatal) n c t = absurd t
+  reference_taken (Err NoMemory) n c t = λ text f a. tt
+
+  pub string_reference : (r : Result NodeId Stop) → p.token.kind ≡ Str → ChecksReference p m → MatchResult r (λ id. TakesLeaf node.StringLiteral op.None m q id) OnlyMemory → TakesReference p q r
+  string_reference r e c t = reference_taken r (inr e) c (subst (λ (k : NodeKind). MatchResult r (λ id. TakesLeaf k op.None m q id) OnlyMemory) (sym (ap reference_node e)) t)
+
+  pub word_reference : (r : Result NodeId Stop) → one_of_kinds identifier_name_kinds p.token.kind ≡ true → ChecksReference p m → MatchResult r (λ id. TakesLeaf node.IdentifierReference op.None m q id) OnlyMemory → TakesReference p q r
+  word_reference r h c t = reference_taken r (inl h) c (subst (λ (k : NodeKind). MatchResult r (λ id. TakesLeaf k op.None m q id) OnlyMemory) (sym (binding_node p.token.kind h)) t)
 
 pub reference_name : {p q : Parser} {id : NodeId} {t : Token} → t ≡ p.token → ReferenceTaken p q id → IsExportName t
 reference_name e z = subst (λ (v : Token). IsExportName v) (sym e) z.name
@@ -416,9 +423,18 @@ pub checked_at : {p q : Parser} → Standing p → ChecksReference p q → Stand
 checked_at {p} {q} a (inl (h, e)) = subst (λ (v : Parser). Standing v) (sym e) a
 checked_at a (inr (h, d)) = standing (told_at d a)
 
-pub checked_token : {p q : Parser} → ChecksReference p q → q.token ≡ p.token
+checked_token : {p q : Parser} → ChecksReference p q → q.token ≡ p.token
 checked_token (inl (h, e)) = ap (λ (v : Parser). v.token) e
 checked_token (inr (h, d)) = ap (λ (v : Parser). v.token) d.is
+
+pub checked_kind : {p q : Parser} {k : Kind} → p.token.kind ≡ k → ChecksReference p q → q.token.kind ≡ k
+checked_kind e c = ap (λ (t : Token). t.kind) (checked_token c) ∙ e
+
+pub checked_whole : {p q : Parser} → Standing p → one_of_kinds identifier_name_kinds p.token.kind ≡ true → ChecksReference p q → IsWholeHere q
+checked_whole a h c = word_whole (checked_at a c) (ap (λ (t : Token). one_of_kinds identifier_name_kinds t.kind) (checked_token c) ∙ h)
+
+pub checked_word : {p q : Parser} → one_of_kinds identifier_name_kinds p.token.kind ≡ true → ChecksReference p q → one_of_kinds identifier_name_kinds q.token.kind ≡ true
+checked_word h c = ap (λ (t : Token). one_of_kinds identifier_name_kinds t.kind) (checked_token c) ∙ h
 
 -- ---- the name by which it is exported
 

@@ -9,10 +9,10 @@ use Rattle.parse_modules.proofs.export_specifier.parse_exported_name.Goals as go
 pub returns-in_err-name : goal.returns-in_err-name
 returns-in_err-name g c =
     let z = err_from_is_err_and c.from_residual.result c.from_residual.ensures.1 in
-    rw (z.1, z.2) (as_stops _ _ _ _ c.in_err-name.ensures)
+    rw (z.1, z.2) (as_stops c.args.p.now c.parse_new_name.new.p c.args.first _ c.in_err-name.ensures)
 
 pub returns-in-Some : goal.returns-in-Some
-returns-in-Some g c = some_named c.args.p.now c.parse_new_name.new.p _ _ _ c.in-Some.is c.in_ok-name.ensures
+returns-in-Some g c = some_named c.args.p.now c.parse_new_name.new.p c.args.first _ _ c.in-Some.is c.in_ok-name.ensures
 
 pub make_export_name-requires-clause-spells : goal.make_export_name-requires-clause-spells
 make_export_name-requires-clause-spells g c = subst (λ (v : Parser). SpellsExport v.text c.args.first) (sym (none_named c.args.p.now c.parse_new_name.new.p _ c.in_default.is c.in_ok-name.ensures).1) c.requires.spells
