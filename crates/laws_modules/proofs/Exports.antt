@@ -381,15 +381,26 @@ module _ {p r : Parser} (u : Unmoved p r) where
   bindings_outcome q (Ok id) k n d text f o b s v m = line_answers b s m refl v (choose_named b s m k (n text f m.at)) (record { behind = d.behind; children = d.children; part = λ text f a. part_unmoved (d.part text f (u.at text f a)); made = d.made })
   bindings_outcome q (Err e) k n d text f o b s v m = line_stops b s m q e (λ i. none_braced b s m k (n text f m.at) (subst (λ (s : ℕ). Fails rule (Lex text) (plain full) end (named_line f) s) u.place i)) (stops_behind q e u.same (λ g. subst (λ (ds : List Diagnostic). Grown ds q.errors) u.kept g) (λ i. i) (d text f (u.at text f m.at)))
 
-pub found_from : {start : ℕ} {p q : Parser} {id : NodeId} → p.token.kind ≡ LCurly → FindsFrom start p q (Ok (Some id)) → TakesExport start p q (Ok id)
-found_from k (d, n) text f o b s v m = line_answers b s m refl v (choose_from b s m k (n text f m.at)) d
+-- what is said of the names, by the state before the checkpoint
+module _ (start : ℕ) (p o q : Parser) (e : o ≡ p) where
+  pub unfound : (z : Stop) → p.token.kind ≡ LCurly → FindsFrom start o q (Err z) → TakesExport start p q (Err z)
+  unfound z k n = go (subst (λ (v : Parser). FindsFrom start v q (Err z)) e n)
+    where
+      go : FindsFrom start p q (Err z) → TakesExport start p q (Err z)
+      go n text f o b s v m = line_stops b s m q z (λ i. none_braced b s m k i.0 i.1) (n text f m.at)
 
-pub from_unfound : {start : ℕ} {p : Parser} (q : Parser) (e : Stop) → p.token.kind ≡ LCurly → FindsFrom start p q (Err e) → TakesExport start p q (Err e)
-from_unfound q e k z text f o b s v m = line_stops b s m q e (λ n. none_braced b s m k n.0 n.1) (z text f m.at)
+  pub some_found : (id : NodeId) (r : Option NodeId) → r ≡ Some id → p.token.kind ≡ LCurly → FindsFrom start o q (Ok r) → TakesExport start p q (Ok id)
+  some_found id r i k n = go (subst (λ (v : Parser). FindsFrom start v q (Ok (Some id))) e (subst (λ (v : Option NodeId). FindsFrom start o q (Ok v)) i n))
+    where
+      go : FindsFrom start p q (Ok (Some id)) → TakesExport start p q (Ok id)
+      go (d, n) text f o b s v m = line_answers b s m refl v (choose_from b s m k (n text f m.at)) d
+
+  pub none_found : (r : Option NodeId) → r ≡ None → FindsFrom start o q (Ok r) → FindsFrom start p q (Ok None)
+  none_found r i n = subst (λ (v : Parser). FindsFrom start v q (Ok None)) e (subst (λ (v : Option NodeId). FindsFrom start o q (Ok v)) i n)
 
 -- the parser goes back to the brace
-pub may_go_to_brace : {p o w : Parser} {c : ParserCheckpoint} → Standing p → o ≡ p → Remembers o c → WentOn p w → MayGoBack c w
-may_go_to_brace {p} {c = c} a e m g = may_return a.at (subst (λ (z : Parser). Remembers z c) e m) refl g.0.0
+pub may_go_to_brace : {p w : Parser} {c : ParserCheckpoint} → Standing p → Remembers p c → WentOn p w → MayGoBack c w
+may_go_to_brace a m g = may_return a.at m refl g.0.0
 
-pub back_to_brace : {p o w r : Parser} {c : ParserCheckpoint} → o ≡ p → p.token.kind ≡ LCurly → Remembers o c → WentOn p w → GoesBack c w r → Unmoved p r
-back_to_brace {c = c} e k m g b = went_back (ap may_be_read_again k) (subst (λ (z : Parser). Remembers z c) e m) g b
+pub back_to_brace : {p w r : Parser} {c : ParserCheckpoint} → p.token.kind ≡ LCurly → Remembers p c → WentOn p w → GoesBack c w r → Unmoved p r
+back_to_brace k m g b = went_back (ap may_be_read_again k) m g b

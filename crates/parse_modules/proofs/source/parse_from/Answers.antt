@@ -12,4 +12,4 @@ pub parse_source-requires : goal.parse_source-requires
 parse_source-requires g c = standing (from_moved c.requires c.in_ok-expect.ensures).at
 
 pub returns : goal.returns
-returns g c = from_outcome c.parse_source.result c.in_ok-expect.ensures c.parse_source.ensures
+returns g c = from_outcome c.args.p.now c.expect.new.self c.parse_source.new.p c.parse_source.result c.in_ok-expect.ensures c.parse_source.ensures
