@@ -45,6 +45,7 @@ fn put_part(alloc: Global, out: &mut Answer, asked: &str, text: &str, parsed: &P
         "tokens" => put_tokens(out, parsed),
         "trivia" => put_trivia(out, parsed),
         "names" => put_names(out, &mut Vec::new(alloc), &parsed.program.tree, text),
+        "record" => put_record(alloc, out, parsed),
         "fatal" => put_ending(out, parsed),
         _ => put_counts(out, parsed),
     }
@@ -54,6 +55,17 @@ fn put_part(alloc: Global, out: &mut Answer, asked: &str, text: &str, parsed: &P
 fn put_ending(out: &mut Answer, parsed: &ParserReturn) {
     if parsed.fatal_error {
         out.put("fatal\n");
+    }
+}
+
+/// Puts the lines of the module record.
+fn put_record(alloc: Global, out: &mut Answer, parsed: &ParserReturn) {
+    let Ok(lines) = parsed.module_record.record_lines(alloc) else {
+        return out.fail();
+    };
+    match str::from_utf8(&lines) {
+        Ok(text) => out.put(text),
+        Err(_) => out.fail(),
     }
 }
 

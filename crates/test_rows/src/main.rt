@@ -12,8 +12,8 @@
 //! - the goal and the config of a lexer, ` ¦ `, and words for its calls and for what it keeps;
 //! - a call of `js_core` by its name, and the word that it takes; or `cover` and the type of what is wanted;
 //! - `lex` or `parse`: how much is in the text;
-//! - `tokens`, `trivia`, `names` or `counts`: what the parser keeps beside the tree, the names in it, or how much of all this
-//!   there is; `fatal`: whether a fatal diagnostic ended the parse. Behind the word a goal may stand, `script`, `module` or
+//! - `tokens`, `trivia`, `names`, `record` or `counts`: what the parser keeps beside the tree, the names in it, its module
+//!   record, or how much of all this there is; `fatal`: whether a fatal diagnostic ended the parse. Behind the word a goal may stand, `script`, `module` or
 //!   `commonjs`, and `v8` behind that.
 #![tactic(auto)]
 

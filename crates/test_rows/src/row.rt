@@ -63,7 +63,7 @@ pub(crate) fn put_answer(alloc: Global, out: &mut Answer, asked: &str, text: &st
     let (word, words) = asked.split_once(' ').unwrap_or((asked, ""));
     match word {
         "lex" => put_pass(alloc, out, text),
-        "parse" | "tokens" | "trivia" | "names" | "counts" | "fatal" => {
+        "parse" | "tokens" | "trivia" | "names" | "record" | "counts" | "fatal" => {
             put_parsed(alloc, out, word, words, text)
         }
         _ => put_called(alloc, out, asked, text),
