@@ -1,5 +1,5 @@
 -- Exports of all names of a module, of some, and of bindings of this one (ECMA-262, 16.2.3).
-use Rattle.std.proofs.Common.{ℕ, ◌≡◌, ◌<◌, ◌≤◌, ◌⊎◌, inl, inr, max, List, [], ◌∷◌, ◌++◌, length, Option, Some, None, Bool, true, false, not, IsTrue, refl, sym, ap, subst, arith, ◌∙◌}
+use Rattle.std.proofs.Common.{ℕ, ◌≡◌, ◌<◌, ◌≤◌, ◌⊎◌, inl, inr, max, List, [], ◌∷◌, ◌++◌, length, take, Option, Some, None, Bool, true, false, not, IsTrue, refl, sym, ap, subst, arith, ◌∙◌}
 use Rattle.std.specs.Prelude.{IfOk, Result, Ok, Err}
 use Rattle.std.proofs.lemmas.Bool.{and_from, false≢true}
 use Rattle.js_base.specs.Kinds.{one_of_kinds, same_kind}
@@ -58,7 +58,7 @@ use Rattle.laws_statements.proofs.Statements.{whole_semicolon}
 use Rattle.laws_primary.proofs.Arrays.{turned}
 use Rattle.laws_primary.proofs.Wholes.{whole_part}
 use Rattle.laws_operators.specs.Arrows.{Unmoved, WentOn}
-use Rattle.laws_operators.proofs.Arrows.{before_unmoved, went_back}
+use Rattle.laws_operators.proofs.Arrows.{before_unmoved, dropped, went_back}
 use Rattle.laws_modules.specs.declared.forms.ModuleSource.{ModuleSource}
 use Rattle.laws_modules.specs.declared.forms.NameList.{NameList}
 use Rattle.laws_modules.specs.declared.forms.NameList.TheVariants.{Exports, References}
@@ -402,5 +402,5 @@ module _ (start : ℕ) (p o q : Parser) (e : o ≡ p) where
 pub may_go_to_brace : {p w : Parser} {c : ParserCheckpoint} → Standing p → Remembers p c → WentOn p w → MayGoBack c w
 may_go_to_brace a m g = may_return a.at m refl g.0.0
 
-pub back_to_brace : {p w r : Parser} {c : ParserCheckpoint} → p.token.kind ≡ LCurly → Remembers p c → WentOn p w → GoesBack c w r → Unmoved p r
-back_to_brace k m g b = went_back (ap may_be_read_again k) m g b
+pub back_to_brace : {p w r q : Parser} {c : ParserCheckpoint} {n : ℕ} → p.token.kind ≡ LCurly → n ≡ length p.nodes → Remembers p c → WentOn p w → GoesBack c w r → q ≡ record r { nodes = take n r.nodes } → Unmoved p q
+back_to_brace k e m g b d = dropped e (went_back (ap may_be_read_again k) m g b) d

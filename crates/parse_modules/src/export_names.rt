@@ -1,6 +1,6 @@
 //! Exports of names in braces (ECMA-262, section 16.2.3).
 
-ghost use Rattle.std.specs.Prelude.{◌≡◌, ◌≤◌, ◌∷◌, IfOk, Some};
+ghost use Rattle.std.specs.Prelude.{◌≡◌, ◌<◌, ◌≤◌, ◌∷◌, IfOk, length, Some, take};
 ghost use Rattle.parse_modules.specs.Prelude.{export_from_declaration, export_label, FindsFrom, LCurly, MadeHere, NamesBindings, NoFromBehind, Standing, TakesExport};
 
 use crate::name_list::parse_name_list;
@@ -23,12 +23,30 @@ pub fn parse_export_named_specifiers<C: ParserConfig>(
     requires before { start ≤ p.old.prev_token_end }
     ensures { TakesExport start p.old p.new result }
 {
+    let nodes = node_count(p);
     let here = p.checkpoint()?;
     if let Some(node) = parse_export_from(p, start)? {
         return Ok(node);
     }
     p.rewind(here);
+    drop_nodes(p, nodes);
     parse_export_bindings(p, start)
+}
+
+/// How many nodes there are, one at least.
+fn node_count<C: ParserConfig>(p: &ParserImpl<'_, C>) -> usize
+    ensures count { result ≡ length p.now.nodes }
+    ensures some { 0 < result }
+{
+    p.ast.len()
+}
+
+/// Keeps the first nodes, so many, and drops those that were made behind them.
+fn drop_nodes<C: ParserConfig>(p: &mut ParserImpl<'_, C>, nodes: usize)
+    requires { 0 < nodes }
+    ensures { p.new ≡ record p.old { nodes = take nodes p.old.nodes } }
+{
+    p.ast.truncate(nodes);
 }
 
 /// The names of another module, with `from` and what stands behind it; none, where no `from` stands behind them.

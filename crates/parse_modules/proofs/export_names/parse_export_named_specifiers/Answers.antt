@@ -17,14 +17,14 @@ rewind-requires-clause-may g c = may_go_to_brace c.requires.at c.in_ok-here.ensu
 pub parse_export_bindings-requires-clause-at : goal.parse_export_bindings-requires-clause-at
 parse_export_bindings-requires-clause-at g c =
     let n = none_found c.args.start c.args.p.now _ c.parse_export_from.new.p c.in_ok-here.ensures.same _ c.in_default.is c.in_ok-node.ensures in
-    standing ((back_to_brace c.requires.sign c.in_ok-here.ensures.remembers n.0 c.rewind.ensures).at _ _ c.requires.at)
+    standing ((back_to_brace c.requires.sign c.node_count-nodes.ensures.count c.in_ok-here.ensures.remembers n.0 c.rewind.ensures c.drop_nodes.ensures).at _ _ c.requires.at)
 
 pub parse_export_bindings-requires-clause-no_from : goal.parse_export_bindings-requires-clause-no_from
 parse_export_bindings-requires-clause-no_from g c =
     let n = none_found c.args.start c.args.p.now _ c.parse_export_from.new.p c.in_ok-here.ensures.same _ c.in_default.is c.in_ok-node.ensures in
-    none_from (back_to_brace c.requires.sign c.in_ok-here.ensures.remembers n.0 c.rewind.ensures) c.requires.at n.2
+    none_from (back_to_brace c.requires.sign c.node_count-nodes.ensures.count c.in_ok-here.ensures.remembers n.0 c.rewind.ensures c.drop_nodes.ensures) c.requires.at n.2
 
 pub returns : goal.returns
 returns g c =
     let n = none_found c.args.start c.args.p.now _ c.parse_export_from.new.p c.in_ok-here.ensures.same _ c.in_default.is c.in_ok-node.ensures in
-    bindings_outcome (back_to_brace c.requires.sign c.in_ok-here.ensures.remembers n.0 c.rewind.ensures) c.parse_export_bindings.new.p c.parse_export_bindings.result c.requires.sign n.1 c.parse_export_bindings.ensures
+    bindings_outcome (back_to_brace c.requires.sign c.node_count-nodes.ensures.count c.in_ok-here.ensures.remembers n.0 c.rewind.ensures c.drop_nodes.ensures) c.parse_export_bindings.new.p c.parse_export_bindings.result c.requires.sign n.1 c.parse_export_bindings.ensures
