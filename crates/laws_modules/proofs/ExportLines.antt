@@ -11,8 +11,8 @@ use Rattle.js_grammar.specs.Parsing.{Test, plain, full, still, Goes, Fails}
 use Rattle.js_grammar.specs.Productions.{G, Flags, at, mk, slot, tok, Assignment, BindingIdentifier, Decorator, ExportDecl, Lexical}
 use Rattle.js_grammar.specs.Productions.{Class as AClass, Function as AFunction, Var as AVar}
 use Rattle.js_grammar.specs.Productions.{sym as symbol}
-use Rattle.js_grammar.specs.Table.{rule, rule_of, any_function, begins_no_declaration, class_of, class_tail}
-use Rattle.js_grammar.specs.Trees.{NodeKind, Slots, end, tree, class_declaration, export_all_declaration, export_declaration, export_default_declaration, export_from_declaration, export_named_declaration, function_declaration, no_op}
+use Rattle.js_grammar.specs.Table.{rule, rule_of, any_function, begins_no_declaration, class_of}
+use Rattle.js_grammar.specs.Trees.{NodeKind, end, tree, class_declaration, export_all_declaration, export_declaration, export_default_declaration, export_from_declaration, export_named_declaration, function_declaration, no_op}
 use Rattle.js_grammar.proofs.Looks.{apart, covers}
 use Rattle.js_grammar.proofs.Calculus.{◌▹◌, fails_alt, fails_keep, fails_node, inside_full, left, right}
 use Rattle.laws_shared.specs.js_tree.Holding.{HoldsAll, Keeps}

@@ -1,17 +1,16 @@
 -- Exports of all names of a module, of some, and of bindings of this one (ECMA-262, 16.2.3).
-use Rattle.std.proofs.Common.{ℕ, ◌≡◌, ◌<◌, ◌≤◌, ◌⊎◌, inl, inr, max, List, [], ◌∷◌, ◌++◌, length, take, Option, Some, None, Bool, true, false, not, IsTrue, refl, sym, ap, subst, arith, ◌∙◌}
+use Rattle.std.proofs.Common.{ℕ, ◌≡◌, ◌≤◌, inl, inr, max, List, [], ◌∷◌, ◌++◌, length, take, Option, Some, None, Bool, true, false, not, refl, sym, ap, subst, arith, ◌∙◌}
 use Rattle.std.specs.Prelude.{IfOk, Result, Ok, Err}
-use Rattle.std.proofs.lemmas.Bool.{and_from, false≢true}
-use Rattle.js_base.specs.Kinds.{one_of_kinds, same_kind}
+use Rattle.std.proofs.lemmas.Bool.{and_from}
+use Rattle.js_base.specs.Kinds.{same_kind}
 use Rattle.js_base.specs.declared.diagnostic.Diagnostic.{Diagnostic}
 use Rattle.js_base.specs.declared.diagnostic.DiagnosticKind.TheVariants.{ExpectToken}
-use Rattle.js_base.specs.declared.kind.Kind.TheVariants.{As, Export, From, LCurly, Semicolon, Star}
+use Rattle.js_base.specs.declared.kind.Kind.TheVariants.{As, From, LCurly, Semicolon, Star}
 use Rattle.js_grammar.specs.FirstSets.{first}
-use Rattle.js_grammar.specs.Grammar.{Lexeme, Lexemes, empty_slot, ended, here, is, kept, last, may_omit, nothing, seen, semicolon, seq, Takes, is_ended, is_nothing}
-use Rattle.js_grammar.specs.Insertion.{only_by}
+use Rattle.js_grammar.specs.Grammar.{Lexeme, Lexemes, empty_slot, here, is, last, may_omit, nothing, seen, semicolon, seq, Takes, is_ended, is_nothing}
 use Rattle.js_grammar.specs.Lexed.{Lexes}
-use Rattle.js_grammar.specs.Parsing.{Test, plain, full, still, Goes, Fails}
-use Rattle.js_grammar.specs.Productions.{G, Flags, at, slot, tok, ExportDecl, ExportName}
+use Rattle.js_grammar.specs.Parsing.{plain, full, still, Goes, Fails}
+use Rattle.js_grammar.specs.Productions.{G, Flags, slot, tok, ExportName}
 use Rattle.js_grammar.specs.Productions.{sym as symbol}
 use Rattle.js_grammar.specs.Table.{rule, source}
 use Rattle.js_grammar.specs.Trees.{NodeKind, Label, Slots, append, end, hole, export_all_declaration, export_from_declaration, export_named_declaration, no_op}
@@ -23,7 +22,7 @@ use Rattle.js_grammar.proofs.FirstRules.{part}
 use Rattle.js_grammar.proofs.Frame.{append_assoc, append_end}
 use Rattle.js_base.specs.part_memory.declared.no_memory.NoMemory.{NoMemory as OutOfMemory}
 use Rattle.js_base.specs.declared.span.Span.{Span}
-use Rattle.laws_shared.specs.js_tree.Holding.{HoldsAll, Keeps}
+use Rattle.laws_shared.specs.js_tree.Holding.{HoldsAll}
 use Rattle.laws_shared.specs.js_tree.Labels.{kind_of}
 use Rattle.laws_shared.specs.js_tree.declared.kind.NodeKind.{NodeKind as Made}
 use Rattle.laws_shared.specs.js_tree.declared.op.Op.TheVariants as op
@@ -43,7 +42,6 @@ use Rattle.laws_shared.specs.Lexemes.{Lex}
 use Rattle.laws_shared.specs.Moves.{MadeHere, Moved, plain_label}
 use Rattle.laws_shared.specs.Stands.{StandsHere}
 use Rattle.laws_shared.specs.States.{At, Standing}
-use Rattle.laws_shared.specs.Statements.{StatementOutcome}
 use Rattle.laws_shared.proofs.Classes.{here_ends}
 use Rattle.laws_shared.proofs.Expected.{expected, not_due, unexpected}
 use Rattle.laws_shared.proofs.Giving.{gives_up}
@@ -63,7 +61,7 @@ use Rattle.laws_modules.specs.declared.forms.ModuleSource.{ModuleSource}
 use Rattle.laws_modules.specs.declared.forms.NameList.{NameList}
 use Rattle.laws_modules.specs.declared.forms.NameList.TheVariants.{Exports, References}
 use Rattle.laws_modules.specs.Exports.{ExportMade, FindsFrom, NamesBindings, NoFromBehind, NoLine, ReadsFrom, TakesExport, all_line, export_label, from_line, from_part, named_line}
-use Rattle.laws_modules.specs.ExportSpecifiers.{NamedAs, TakesAs}
+use Rattle.laws_modules.specs.ExportSpecifiers.{TakesAs}
 use Rattle.laws_modules.specs.ImportDeclarations.{behind_clause}
 use Rattle.laws_modules.specs.ModuleNames.{TakesExportName}
 use Rattle.laws_modules.specs.NameLists.{ListTaken, NoList, list_of}

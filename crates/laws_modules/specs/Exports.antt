@@ -8,7 +8,7 @@ use Rattle.js_grammar.specs.Parsing.{plain, full, Fails}
 use Rattle.js_grammar.specs.Productions.{G, Flags, at, slot, tok, ExportDecl, ExportName}
 use Rattle.js_grammar.specs.Productions.{sym as symbol}
 use Rattle.js_grammar.specs.Table.{rule, source}
-use Rattle.js_grammar.specs.Trees.{NodeKind, Label, Slots, end, no_op, export_all_declaration, export_from_declaration, export_named_declaration}
+use Rattle.js_grammar.specs.Trees.{NodeKind, Label, Slots, end, no_op, export_from_declaration, export_named_declaration}
 use Rattle.laws_shared.specs.js_tree.declared.id.NodeId.{NodeId}
 use Rattle.laws_shared.specs.js_cursor.Parsers.{Parser}
 use Rattle.laws_shared.specs.js_cursor.declared.stop.Stop.{Stop}
