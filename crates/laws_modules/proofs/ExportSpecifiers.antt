@@ -427,14 +427,8 @@ checked_token : {p q : Parser} → ChecksReference p q → q.token ≡ p.token
 checked_token (inl (h, e)) = ap (λ (v : Parser). v.token) e
 checked_token (inr (h, d)) = ap (λ (v : Parser). v.token) d.is
 
-pub checked_kind : {p q : Parser} {k : Kind} → p.token.kind ≡ k → ChecksReference p q → q.token.kind ≡ k
-checked_kind e c = ap (λ (t : Token). t.kind) (checked_token c) ∙ e
-
 pub checked_whole : {p q : Parser} → Standing p → one_of_kinds identifier_name_kinds p.token.kind ≡ true → ChecksReference p q → IsWholeHere q
 checked_whole a h c = word_whole (checked_at a c) (ap (λ (t : Token). one_of_kinds identifier_name_kinds t.kind) (checked_token c) ∙ h)
-
-pub checked_word : {p q : Parser} → one_of_kinds identifier_name_kinds p.token.kind ≡ true → ChecksReference p q → one_of_kinds identifier_name_kinds q.token.kind ≡ true
-checked_word h c = ap (λ (t : Token). one_of_kinds identifier_name_kinds t.kind) (checked_token c) ∙ h
 
 -- ---- the name by which it is exported
 

@@ -54,7 +54,14 @@ fn make_export_specifier<C: ParserConfig>(
     ensures { IfOk result (λ id. MadeHere (exported_label start p.old.prev_token_end) (Some local ∷ Some exported ∷ []) p.old p.new id) }
 {
     let span = p.end_span(start);
-    make_two(p, NodeKind::ExportSpecifier, Op::None, span, local, exported)
+    make_two(
+        p,
+        NodeKind::ExportSpecifier,
+        Op::None,
+        span,
+        local,
+        exported,
+    )
 }
 
 /// The name of a binding of this module. That a string or a reserved word stands there is told, and reading goes on.

@@ -1,4 +1,4 @@
-use Rattle.std.proofs.Common.{◌≡◌, ◌∷◌, ◌++◌, [], List, Option, Some, ap, refl, ◌∙◌}
+use Rattle.std.proofs.Common.{◌∷◌, ◌++◌, [], List, Option, Some, ap, refl, ◌∙◌}
 use Rattle.laws_modules.specs.laws_primary.js_tree.declared.id.NodeId.{NodeId}
 use Rattle.laws_modules.specs.laws_primary.js_tree.declared.kind.NodeKind.TheVariants as node
 use Rattle.laws_modules.proofs.Exports.{made_with}

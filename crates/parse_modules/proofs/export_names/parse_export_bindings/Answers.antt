@@ -1,6 +1,6 @@
 use Rattle.std.proofs.Common.{arith, refl}
 use Rattle.std.proofs.lemmas.Result.{err_from_is_err_and}
-use Rattle.laws_modules.proofs.Exports.{bindings_ended, bindings_made, bindings_start, bindings_unended, bindings_unlisted, list_from, made_ok}
+use Rattle.laws_modules.proofs.Exports.{bindings_made, bindings_start, bindings_unended, bindings_unlisted, list_from, made_ok}
 use Rattle.laws_modules.specs.laws_primary.js_tree.declared.kind.NodeKind.TheVariants as node
 use Rattle.parse_modules.specs.Prelude.{References}
 use Rattle.parse_modules.proofs.export_names.parse_export_bindings.Goals as goal

@@ -1,7 +1,7 @@
-use Rattle.std.proofs.Common.{◌≡◌, true, ap, inl, sym, ◌∙◌}
+use Rattle.std.proofs.Common.{ap, sym, ◌∙◌}
 use Rattle.js_base.specs.KindSets.{identifier_name_kinds}
 use Rattle.js_base.specs.Kinds.{one_of_kinds}
-use Rattle.laws_modules.proofs.ExportSpecifiers.{checked_at, checked_whole, checked_word, no_reference, string_reference, word_reference}
+use Rattle.laws_modules.proofs.ExportSpecifiers.{checked_at, checked_whole, no_reference, string_reference, word_reference}
 use Rattle.parse_modules.proofs.export_specifier.parse_exported_reference.Goals as goal
 
 pub returns-then-at : goal.returns-then-at
