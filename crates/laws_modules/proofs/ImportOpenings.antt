@@ -15,6 +15,7 @@ use Rattle.js_grammar.specs.Productions.{sym as symbol}
 use Rattle.js_grammar.specs.Table.{rule, rule_of, import_clause, source}
 use Rattle.js_grammar.specs.Trees.{Slots, end}
 use Rattle.js_grammar.proofs.Calculus.{here_at}
+use Rattle.js_grammar.proofs.Finding.{either_of}
 use Rattle.js_grammar.proofs.First.{starts, starting}
 use Rattle.js_grammar.proofs.FirstClaims.{firsts}
 use Rattle.js_grammar.proofs.Looks.{apart, covers, covered, not_both, same_self}
@@ -153,10 +154,6 @@ linked_line : (n : Symbol) → begins_so n.name ≡ true → linked (rule n) ≡
 unfolding rule
 linked_line n h = linked_at n.name n.flags h
 
-either_one : {X : Type 0} (a b : Bool) → (a || b) ≡ true → (a ≡ true → X) → (b ≡ true → X) → X
-either_one true b h f g = f refl
-either_one false b h f g = g h
-
 abbrev Words : Lexemes → Type 0
 Words ls = IsTrue (seen (is Import) (here ls))
 
@@ -174,8 +171,8 @@ goes_on {g = g} (is_look q) h w = not_elsewhere g (is_look q) w h
 goes_on {g = g} (is_text q) h w = not_elsewhere g (is_text q) w h
 goes_on {g = g} (is_ahead d) h w = not_elsewhere g (is_ahead d) w h
 goes_on {g = g} is_empty_slot h w = not_elsewhere g is_empty_slot w h
-goes_on (is_seq {a = a} {b = b} d e) h w = either_one (elsewhere (seq a b)) _ h (λ k. not_elsewhere (seq a b) (is_seq d e) w k)
-    (λ k. either_one (is_lexeme_alone a && covers (starts first b full) links) (linked a) k
+goes_on (is_seq {a = a} {b = b} d e) h w = either_of (elsewhere (seq a b)) _ h (λ k. not_elsewhere (seq a b) (is_seq d e) w k)
+    (λ k. either_of (is_lexeme_alone a && covers (starts first b full) links) (linked a) k
     (λ l. let z = and_parts (is_lexeme_alone a) _ l in behind_lexeme a z.0 d (covered (starts first b full) links z.1 _ _ _ (starting firsts full e refl)))
     (λ l. goes_on d l w))
 goes_on (is_left {a = a} d) h w = goes_on d (and_parts (linked a) _ h).0 w
@@ -183,8 +180,8 @@ goes_on (is_right {a = a} d) h w = goes_on d (and_parts (linked a) _ h).1 w
 goes_on (is_when q d) h w = goes_on d h w
 goes_on {g = g} (is_many d) h w = not_elsewhere g (is_many d) w h
 goes_on {g = g} (is_commas d) h w = not_elsewhere g (is_commas d) w h
-goes_on {g = g} (is_such {n = n} d q) h w = either_one (elsewhere g) (begins_so n.name) h (λ k. not_elsewhere g (is_such d q) w k) (λ k. goes_on d (linked_line n k) w)
-goes_on {g = g} (is_marked {n = n} d) h w = either_one (elsewhere g) (begins_so n.name) h (λ k. not_elsewhere g (is_marked d) w k) (λ k. goes_on d (linked_line n k) w)
+goes_on {g = g} (is_such {n = n} d q) h w = either_of (elsewhere g) (begins_so n.name) h (λ k. not_elsewhere g (is_such d q) w k) (λ k. goes_on d (linked_line n k) w)
+goes_on {g = g} (is_marked {n = n} d) h w = either_of (elsewhere g) (begins_so n.name) h (λ k. not_elsewhere g (is_marked d) w k) (λ k. goes_on d (linked_line n k) w)
 goes_on (is_node d) h w = goes_on d h w
 goes_on (is_ended q d e) h w = goes_on d h w
 goes_on {g = g} (is_keep d e) h w = not_elsewhere g (is_keep d e) w h

@@ -51,7 +51,7 @@ module _ {text : List ℕ} {f : Flags} {p : Parser} (a : At text f p) where
   -- ---- where no declaration begins
 
   pub other_item : (q : Parser) (r : Result NodeId Stop) → NoImportHere p → StatementOutcome text f (at ListItem f) p q r → StatementOutcome text f (at Item f) p q r
-  other_item q r n x = as_item q r (weaken_fails_on (no_declaration a n) (record { admits = λ ts vs k ls rest d e. (refl, refl) })) x
+  other_item q r n x = as_item p q r (weaken_fails_on (no_declaration a n) (record { admits = λ ts vs k ls rest d e. (refl, refl) })) x
 
   -- ---- where one begins
 

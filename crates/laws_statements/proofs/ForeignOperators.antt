@@ -1,5 +1,5 @@
 -- Operators of TypeScript behind an expression: they are told, and no statement ends before one.
-use Rattle.std.proofs.Common.{ℕ, ◌≡◌, inl, inr, Bool, true, false, not, ◌&&◌, ◌||◌, IsTrue, List, [], ◌∷◌, length, Option, None, Some, refl, sym, ap, subst, ◌∙◌}
+use Rattle.std.proofs.Common.{ℕ, ◌≡◌, inl, inr, true, false, not, ◌&&◌, IsTrue, List, [], ◌∷◌, length, Option, None, Some, refl, sym, ap, subst, ◌∙◌}
 use Rattle.std.proofs.lemmas.Bool.{and_from, false≢true, or_left}
 use Rattle.js_base.specs.declared.diagnostic.DiagnosticKind.{DiagnosticKind}
 use Rattle.js_base.specs.declared.diagnostic.DiagnosticKind.TheVariants.{AsInTs, SatisfiesInTs}
@@ -9,7 +9,7 @@ use Rattle.js_base.specs.declared.span.Span.{Span}
 use Rattle.js_base.specs.Kinds.{one_of_kinds, same_kind}
 use Rattle.js_base.specs.Texts.{words}
 use Rattle.js_grammar.specs.Trees.{Label, Slots, end, tree}
-use Rattle.js_grammar.specs.Grammar.{Lexeme, Lexemes, here, is_nothing, is_such, last, nothing, such, Takes}
+use Rattle.js_grammar.specs.Grammar.{Lexeme, Lexemes, is_nothing, is_such, last, nothing, such, Takes}
 use Rattle.js_grammar.specs.Lexed.{Lexes, NextLexeme, all_faults}
 use Rattle.js_grammar.specs.LexicalFaults.{Reached}
 use Rattle.js_grammar.specs.Marks.{BehindExpression, Mark, StandsAt, of_kinds, loose}
@@ -35,7 +35,7 @@ use Rattle.laws_shared.proofs.Here.{found, uncut}
 use Rattle.laws_shared.proofs.Paths.{read_of}
 use Rattle.laws_operators.proofs.Exponents.{longer}
 use Rattle.laws_operators.proofs.parse_targets.Covers.{all_stand}
-use Rattle.laws_statements.specs.ForeignOperators.{FindsForeign, TellsOperator}
+use Rattle.laws_statements.specs.ForeignOperators.{FindsForeign}
 
 -- a word on its line behind an expression in which nothing was found
 module _ {text : List ℕ} {f : Flags} {p q : Parser} {id : NodeId} (a : At text f p) (x : Numbered text f (at Expression f) p q id) (w : Kind) (h : StandsHere q w true) (o : q.token.is_on_new_line ≡ false) (r : same_kind RAngle w ≡ false) (n : is_last w ≡ false) (d : is_read_kind w ≡ true) where

@@ -2,10 +2,10 @@
 use Rattle.laws_shared.proofs.Escapes.{keyword_none}
 use Rattle.laws_shared.proofs.MadeNodes.{held_label, one_lies, LabelLies, from_start}
 use Rattle.std.proofs.Common.{ℕ, ◌≡◌, ◌<◌, max, List, [], ◌∷◌, ◌++◌, length, Bool, true, false, not, ◌&&◌, ◌||◌, cond, IsTrue, Option, Some, refl, sym, ap, subst, arith, ◌∙◌}
-use Rattle.std.specs.Prelude.{◌↔◌}
+use Rattle.std.specs.Prelude.{◌↔◌, Result, Ok, Err}
 use Rattle.std.proofs.lemmas.Bool.{false≢true, and_parts, and_from}
 use Rattle.js_base.specs.declared.kind.Kind.{Kind}
-use Rattle.js_base.specs.declared.kind.Kind.TheVariants.{Async, Case, Default, Eof, RCurly, Let, Str, Undetermined}
+use Rattle.js_base.specs.declared.kind.Kind.TheVariants.{Async, Case, Default, Eof, Import, RCurly, Let, Str, Undetermined}
 use Rattle.js_base.specs.declared.span.Span.{Span}
 use Rattle.js_base.specs.Contexts.{has_flag, in_flag}
 use Rattle.js_base.specs.Kinds.{same_kind, one_of_kinds}
@@ -37,17 +37,18 @@ use Rattle.laws_shared.specs.js_tree.Holding.{Holds, HoldsAll, Keeps}
 use Rattle.laws_shared.proofs.js_tree.HoldingLemmas.{HoldsAll-none, HoldsAll-next, Holds-below, Keeps-refl, Keeps-trans, Keeps-made}
 use Rattle.laws_shared.specs.js_cursor.Moves.{is_last}
 use Rattle.laws_shared.specs.js_cursor.Parsers.{Parser}
+use Rattle.laws_shared.specs.js_cursor.declared.stop.Stop.{Stop}
 use Rattle.laws_shared.specs.Lexemes.{Lex, nowhere, keyword_kind}
 use Rattle.laws_shared.specs.States.{At, Same, NodesLie}
 use Rattle.laws_shared.specs.Nesting.{room}
 use Rattle.laws_shared.specs.Moves.{MadeHere, plain_label}
 use Rattle.laws_shared.specs.Answers.{Grown, Verdict, clean, unclean, wider, Stretch, Underived, Answer, Numbered}
-use Rattle.laws_shared.specs.Statements.{statement_kinds, no_link, after_statement, NoStatement, Statement, EndsStatement, NoEnd}
+use Rattle.laws_shared.specs.Statements.{statement_kinds, no_link, after_statement, NoStatement, Statement, EndsStatement, NoEnd, StatementOutcome}
 use Rattle.laws_statements.specs.StatementLists.{at_end, ends_at, ends_list, has_directives, item_of, list_of, with_directives, statements, NoList, OneTaken, Taken, OpeningTaken}
 use Rattle.laws_statements.specs.declared.forms.StatementList.{StatementList}
 use Rattle.laws_statements.specs.declared.forms.StatementList.TheVariants.{Text, Block, Body, Clause}
 use Rattle.laws_shared.proofs.Verdicts.{verdict_of, either_way, and_then}
-use Rattle.laws_shared.proofs.Moving.{same_both, same_itself, same_with, beside_nodes}
+use Rattle.laws_shared.proofs.Moving.{same_both, same_itself, same_with, beside_nodes, stops_so}
 use Rattle.laws_shared.proofs.MadeNodes.{one_held}
 use Rattle.laws_shared.proofs.Paths.{Path, ◌⟶✗◌, not_here, fails_at, noded_by, by_symbol_as, label_here, walked_both}
 use Rattle.laws_shared.proofs.Signs.{other_kind}
@@ -142,9 +143,9 @@ no_item Body i n = n
 no_item Clause i n = n
 
 -- an item of a list, as one of a text
-pub as_item : {text : List ℕ} {f : Flags} {p : Parser} (q : Parser) (r : Result NodeId Stop) → NoImport text f p.prev_token_end → StatementOutcome text f (at ListItem f) p q r → StatementOutcome text f (at Item f) p q r
-as_item q (Ok id) n x = record { at = x.at; same = x.same; further = x.further; label = x.label; slots = x.slots; closed = x.closed; pass = x.pass; walked = x.walked; verdict = verdict_of x.verdict (λ y. item_stretch Text n y) (λ m. no_item Text n m); holds = x.holds; keeps = x.keeps }
-as_item {p = p} q (Err e) n x = stops_so p q e (λ m. no_item Text n m) x
+pub as_item : {text : List ℕ} {f : Flags} (p q : Parser) (r : Result NodeId Stop) → NoImport text f p.prev_token_end → StatementOutcome text f (at ListItem f) p q r → StatementOutcome text f (at Item f) p q r
+as_item p q (Ok id) n x = record { at = x.at; same = x.same; further = x.further; label = x.label; slots = x.slots; closed = x.closed; pass = x.pass; walked = x.walked; verdict = verdict_of x.verdict (λ y. item_stretch Text n y) (λ m. no_item Text n m); holds = x.holds; keeps = x.keeps }
+as_item p q (Err e) n x = stops_so p q e (λ m. no_item Text n m) x
 
 -- the items of another list than that of a text
 pub listed : (n : StatementList) → (n ≡ Text → ⊥) → item_of n ≡ ListItem
@@ -278,8 +279,8 @@ module _ {text : List ℕ} {f : Flags} {p : Parser} (a : At text f p) (s : p.tok
 
   -- no import begins with it
   no_import : NoImport text f p.prev_token_end
-  unfolding apart
-  no_import = fails_at a (symbol ImportDecl f) (Str ∷ []) refl (ap (one_of_kinds (Str ∷ [])) s)
+  unfolding covers apart
+  no_import = fails_at a (symbol ImportDecl f) (Import ∷ []) refl (ap (one_of_kinds (Import ∷ [])) s)
 
   no_let : LetIsName text true p.prev_token_end
   no_let = no_let_here a (λ k e. let q : Str ≡ Let = sym s ∙ k in absurd (cc)) true

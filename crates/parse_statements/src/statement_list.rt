@@ -13,7 +13,6 @@ use parse_shared::{NodeId, NodeKind, Op, ParserConfig, ParserImpl, Stop};
 
 /// The directives and the statements of a list, up to what ends it; or as far as the text's end, or to where a statement may
 /// begin and no lexeme stands.
-/// Reads: Item.
 pub fn parse_directives_and_statements<C: ParserConfig, N: Sequences<C>>(
     p: &mut ParserImpl<'_, C>,
     nested: &N,
