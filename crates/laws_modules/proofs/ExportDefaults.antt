@@ -7,11 +7,11 @@ use Rattle.js_base.specs.declared.kind.Kind.TheVariants.{At as at_sign, Class, C
 use Rattle.js_base.specs.Kinds.{one_of_kinds, same_kind}
 use Rattle.js_grammar.specs.Follow.{after, looser, row_of}
 use Rattle.js_grammar.specs.Trees.{Label, Slots, end, tree}
-use Rattle.js_grammar.specs.Grammar.{Lexeme, Lexemes, Look, here, is, may_omit, nothing, seen, semicolon, seq, Takes, is_lexeme, is_look, is_node, is_seq, is_such, ◌▸◌}
+use Rattle.js_grammar.specs.Grammar.{Lexeme, Lexemes, Look, here, is, may_omit, nothing, seen, semicolon, Takes, is_lexeme, is_look, is_node, is_seq, is_such, ◌▸◌}
 use Rattle.js_grammar.specs.Insertion.{Row, after_body, after_declarator, after_expression, after_postfix, after_word, after_yield, goes_on}
 use Rattle.js_grammar.specs.Lexed.{Lexes}
 use Rattle.js_grammar.specs.Parsing.{Test, plain, full, still, Goes, Fails}
-use Rattle.js_grammar.specs.Productions.{G, Flags, at, function_on_line, is_one_of, other, tok, Assignment, ClassExpr}
+use Rattle.js_grammar.specs.Productions.{Flags, at, function_on_line, is_one_of, other, tok, Assignment, ClassExpr}
 use Rattle.js_grammar.specs.Productions.{sym as symbol}
 use Rattle.js_grammar.specs.RightEdges.{of_assignment}
 use Rattle.js_grammar.specs.Table.{rule, rule_of}
@@ -21,7 +21,7 @@ use Rattle.js_grammar.proofs.Finding.{either_of}
 use Rattle.js_grammar.proofs.FollowLaws.{assignment_ended}
 use Rattle.js_grammar.proofs.Looks.{apart, covered, covers, not_both}
 use Rattle.js_grammar.proofs.RightEdges.{at_row}
-use Rattle.js_grammar.proofs.Calculus.{◌▹◌, by_omission, ends, ends_by, fails_alt, fails_ended, fails_semicolon, here_at, looks, right, same, slots_are, weaken_fails}
+use Rattle.js_grammar.proofs.Calculus.{◌▹◌, by_omission, ends, ends_by, fails_alt, fails_ended, fails_semicolon, here_at, looks, right, slots_are, weaken_fails}
 use Rattle.laws_shared.specs.js_tree.declared.id.NodeId.{NodeId}
 use Rattle.laws_shared.specs.js_tree.Holding.{Holds, Keeps}
 use Rattle.laws_shared.specs.js_tree.Nodes.{Node, node_at}
@@ -58,22 +58,13 @@ use Rattle.laws_shared.proofs.Verdicts.{after as grown_behind}
 use Rattle.laws_statements.proofs.Statements.{◌⟝◌, ended_so, omits_stopped, semicolon_path, unended, whole_semicolon}
 use Rattle.laws_statements.proofs.WordLookaheads.{Leads, at_once, async_named, async_word, leads_to, not_followed, stands_word, ◌⇒◌, ◌⇒✗◌}
 use Rattle.parse_declarations.specs.Declarations.{stops_row}
-use Rattle.laws_modules.specs.ExportDefaults.{default_class, default_exported, default_expression, default_function, default_line}
+use Rattle.laws_modules.specs.ExportDefaults.{default_class, default_exported, default_expression, default_function, default_function_line}
 use Rattle.laws_modules.specs.ExportedDeclarations.{NoUnlinked, UnlinkedTaken}
 use Rattle.laws_modules.proofs.ExportedDeclarations.{none_begins, unlinked_whole}
+use Rattle.laws_modules.proofs.NameLists.{regrouped}
 use Rattle.laws_modules.proofs.WholeParts.{whole_by}
 
 -- ---- where an expression stands
-
--- three parts, in whichever groups
-pub grouped : {text : List ℕ} {X : Test} {a b c : G} {s : ℕ} → Goes rule (Lex text) X end (seq (seq a b) c) s (seq a (seq b c)) s (λ us. us) (still 0)
-grouped {a = a} {b} {c} = same (λ ts us i j ls rest d. go d) (λ ts us i j ls rest d. back d)
-  where
-    go : {ts us : Slots} {i j : ℕ} {ls rest : Lexemes} → Takes rule (seq (seq a b) c) end ts i ls us j rest → Takes rule (seq a (seq b c)) end ts i ls us j rest
-    go (is_seq (is_seq d e) g) = is_seq d (is_seq e g)
-
-    back : {ts us : Slots} {i j : ℕ} {ls rest : Lexemes} → Takes rule (seq a (seq b c)) end ts i ls us j rest → Takes rule (seq (seq a b) c) end ts i ls us j rest
-    back (is_seq d (is_seq e g)) = is_seq (is_seq d e) g
 
 -- what no expression begins with
 abbrev pub declares : List Kind
@@ -102,16 +93,16 @@ module _ {text : List ℕ} {f : Flags} {p : Parser} (a : At text f p) (n : NoFun
       go true e = absurd (none e)
       go false e = ap not e
 
-  no_line : (b s : Bool) → Fails rule (Lex text) (plain full) end (default_line b s f) p.prev_token_end
+  no_line : (b s : Bool) → Fails rule (Lex text) (plain full) end (default_function_line b s f) p.prev_token_end
   unfolding covers
-  no_line false s = none_begins a {X = plain full} (default_line false s f) Function (by s) refl n.0
+  no_line false s = none_begins a {X = plain full} (default_function_line false s f) Function (by s) refl n.0
     where
-      by : (s : Bool) → covers (starts first (default_line false s f) full) (is Function) ≡ true
+      by : (s : Bool) → covers (starts first (default_function_line false s f) full) (is Function) ≡ true
       by true = refl
       by false = refl
   no_line true s = record { no = λ ts vs k ls rest l d e. go l d }
     where
-      go : {ts vs : Slots} {k : ℕ} {ls rest : Lexemes} → Lexes (Lex text) p.prev_token_end ls → Takes rule (default_line true s f) end ts p.prev_token_end ls vs k rest → ⊥
+      go : {ts vs : Slots} {k : ℕ} {ls rest : Lexemes} → Lexes (Lex text) p.prev_token_end ls → Takes rule (default_function_line true s f) end ts p.prev_token_end ls vs k rest → ⊥
       go l (is_node (is_seq (is_seq (is_lexeme {x = y} q) (is_look w)) (is_seq (is_lexeme {x = z} r) d))) = async_named a n y z l.0 q l.1.0 (and_from _ _ r w)
 
   no_function : {X : Test} → Fails rule (Lex text) X end (default_function f) p.prev_token_end
@@ -122,7 +113,7 @@ module _ {text : List ℕ} {f : Flags} {p : Parser} (a : At text f p) (n : NoFun
   no_class = fails_at_word (default_class f) class_kinds a refl refl c
 
   pub to_expression : Leads text (plain no_link) (default_exported f) p.prev_token_end (default_expression f)
-  to_expression = at_once (right no_function ▹ right no_class ▹ grouped ▹ pass_over (looks (other (is_one_of declares)) looked)) ⇒ not_followed a async_word function_on_line (async_named a n)
+  to_expression = at_once (right no_function ▹ right no_class ▹ regrouped ▹ pass_over (looks (other (is_one_of declares)) looked)) ⇒ not_followed a async_word function_on_line (async_named a n)
 
 -- ---- the expression and its semicolon
 

@@ -50,21 +50,22 @@ use Rattle.laws_shared.proofs.PlainSigns.{star_plain}
 use Rattle.laws_shared.proofs.Signs.{other_kind, plain_sign, whole_sign}
 use Rattle.laws_shared.proofs.Verdicts.{after as grown_behind}
 use Rattle.laws_statements.proofs.WordLookaheads.{async_word, followed}
-use Rattle.laws_modules.specs.ExportDefaults.{DefaultParts, TakesDefaultName, behind_name, behind_sign, default_class, default_exported, default_expression, default_function, default_line, default_slots}
+use Rattle.laws_modules.specs.ExportDefaults.{DefaultParts, TakesDefaultName, behind_name, behind_sign, default_class, default_exported, default_expression, default_function, default_function_line, default_slots}
 use Rattle.laws_modules.specs.ExportedDeclarations.{NoUnlinked, UnlinkedTaken}
-use Rattle.laws_modules.proofs.ExportDefaults.{declares, grouped}
+use Rattle.laws_modules.proofs.ExportDefaults.{declares}
 use Rattle.laws_modules.proofs.ExportedDeclarations.{unlinked_whole}
+use Rattle.laws_modules.proofs.NameLists.{regrouped}
 use Rattle.laws_modules.proofs.WholeParts.{whole_by}
 
 -- ---- the four lines
 
-four_fail : {text : List ℕ} {s : ℕ} (f : Flags) (n b : Bool) → Fails rule (Lex text) (plain full) end (default_line n b f) s → Fails rule (Lex text) (plain full) end (default_line n (not b) f) s → ((c : Bool) → Fails rule (Lex text) (plain full) end (default_line (not n) c f) s) → Fails rule (Lex text) (plain full) end (default_function f) s
+four_fail : {text : List ℕ} {s : ℕ} (f : Flags) (n b : Bool) → Fails rule (Lex text) (plain full) end (default_function_line n b f) s → Fails rule (Lex text) (plain full) end (default_function_line n (not b) f) s → ((c : Bool) → Fails rule (Lex text) (plain full) end (default_function_line (not n) c f) s) → Fails rule (Lex text) (plain full) end (default_function f) s
 four_fail f true true x y z = fails_alt (fails_alt (z false) (z true)) (fails_alt y x)
 four_fail f true false x y z = fails_alt (fails_alt (z false) (z true)) (fails_alt x y)
 four_fail f false true x y z = fails_alt (fails_alt y x) (fails_alt (z false) (z true))
 four_fail f false false x y z = fails_alt (fails_alt x y) (fails_alt (z false) (z true))
 
-line_left : {text : List ℕ} {s : ℕ} (f : Flags) (n b : Bool) → Fails rule (Lex text) (plain full) end (default_line n (not b) f) s → ((c : Bool) → Fails rule (Lex text) (plain full) end (default_line (not n) c f) s) → Goes rule (Lex text) (plain full) end (default_function f) s (default_line n b f) s (λ us. us) (still 0)
+line_left : {text : List ℕ} {s : ℕ} (f : Flags) (n b : Bool) → Fails rule (Lex text) (plain full) end (default_function_line n (not b) f) s → ((c : Bool) → Fails rule (Lex text) (plain full) end (default_function_line (not n) c f) s) → Goes rule (Lex text) (plain full) end (default_function f) s (default_function_line n b f) s (λ us. us) (still 0)
 line_left f true true x y = right (fails_alt (y false) (y true)) ▹ right x
 line_left f true false x y = right (fails_alt (y false) (y true)) ▹ left x
 line_left f false true x y = left (fails_alt (y false) (y true)) ▹ right x
@@ -111,13 +112,13 @@ module _ {text : List ℕ} {f : Flags} {p o q : Parser} (a : At text f p) (h : B
   no_star_part k = fails_at m.at (behind_sign n false f) (LParen ∷ binding_identifier_kinds) refl (ap (one_of_kinds (LParen ∷ binding_identifier_kinds)) k)
 
   -- the line without the star, or with it
-  other_line : (s : Bool) (r : Parser) → Eats Star q r s → Fails rule (Lex text) (plain full) end (default_line n (not s) f) p.prev_token_end
+  other_line : (s : Bool) (r : Parser) → Eats Star q r s → Fails rule (Lex text) (plain full) end (default_function_line n (not s) f) p.prev_token_end
   unfolding covers apart
   other_line true r (k, v) = fails_node inside_full (part_path_fails (begun false) (done ▹✗ no_star_part k.0))
   other_line false r (i, e) = fails_node inside_full (part_path_fails (begun true) (fails_at m.at (tok Star ▸ behind_sign n true f) (Star ∷ []) refl (other_kind Star q.token.kind (λ k. i (k, plain_sign Star m.at k refl refl star_plain)))))
 
   -- and those that begin with the other word
-  other_lines : (s : Bool) → Fails rule (Lex text) (plain full) end (default_line (not n) s f) p.prev_token_end
+  other_lines : (s : Bool) → Fails rule (Lex text) (plain full) end (default_function_line (not n) s f) p.prev_token_end
   other_lines s = fails_node inside_full (other_word n w)
 
   pub sign_at : (s : Bool) (r : Parser) → Eats Star q r s → At text f r
@@ -221,8 +222,8 @@ module _ {text : List ℕ} {f : Flags} {p : Parser} (a : At text f p) (h : Begin
       word w y l = rw (kind_here a w.0 refl y l, escaped_here a y l ∙ w.1) refl
 
       by : BeginsFunction p → Fails rule (Lex text) (plain full) end (begins_no_declaration ▸ default_expression f) p.prev_token_end
-      by (inl w) = grouped ▹✗ part_fails {X' = plain full} (fails_look (other (is_one_of declares)) (λ y l q. false≢true (sym (word w y l) ∙ q))) any_between
-      by (inr w) = grouped ▹✗ (pass_over (looks (other (is_one_of declares)) (λ y l. ap (λ (k : Kind). not (one_of_kinds declares k && not y.escaped)) (kind_here a w.0.0 refl y l))) ▹✗ followed a async_word function_on_line w.0 (on_line w.1))
+      by (inl w) = regrouped ▹✗ part_fails {X' = plain full} (fails_look (other (is_one_of declares)) (λ y l q. false≢true (sym (word w y l) ∙ q))) any_between
+      by (inr w) = regrouped ▹✗ (pass_over (looks (other (is_one_of declares)) (λ y l. ap (λ (k : Kind). not (one_of_kinds declares k && not y.escaped)) (kind_here a w.0.0 refl y l))) ▹✗ followed a async_word function_on_line w.0 (on_line w.1))
 
   to_function : Goes rule (Lex text) (plain full) end (default_exported f) p.prev_token_end (default_function f) p.prev_token_end (λ us. us) (still 0)
   to_function = left (fails_alt no_class no_expression)
@@ -235,6 +236,6 @@ module _ {text : List ℕ} {f : Flags} {p : Parser} (a : At text f p) (h : Begin
       let fl = line_flags r.is_async r.is_generator in
       let l : record (plain_label node.FunctionDeclaration op.None z) { flags = line_flags r.is_async r.is_generator } ≡ flagged_here function_declaration no_op fl p v = rw (b, c) refl in
       let made : MadeHere (flagged_here function_declaration no_op fl p v) (r.name ∷ Some r.parameters ∷ Some r.body ∷ []) v w id = subst (λ (u : Label). MadeHere u (r.name ∷ Some r.parameters ∷ Some r.body ∷ []) v w id) l d in
-      let y : Path text f (plain full) (default_line r.is_async r.is_generator f) p nothing v (tree (flagged_here function_declaration no_op fl p v) (x.whole.slots end)) = flagged_by a inside_full (part_path x.whole) in
+      let y : Path text f (plain full) (default_function_line r.is_async r.is_generator f) p nothing v (tree (flagged_here function_declaration no_op fl p v) (x.whole.slots end)) = flagged_by a inside_full (part_path x.whole) in
       let t : WholeTaken text f (default_function f) p w id = whole_answers x.whole.same made.stays (node_held made (x.whole.holds (length p.nodes) end (HoldsAll-none p.nodes (length p.nodes) (length p.nodes) (omega arith)))) (Keeps-trans x.whole.keeps (Keeps-made made.made)) refl (one_lies made) (line_left f r.is_async r.is_generator x.other x.others ⟼ y) in
       unlinked_whole text f (default_exported f) p w (Ok id) (whole_by text f p w (Ok id) to_function t)

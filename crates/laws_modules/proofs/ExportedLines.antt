@@ -3,17 +3,15 @@ use Rattle.std.proofs.Common.{ℕ, ◌≡◌, List, [], ◌∷◌, length, Some,
 use Rattle.std.proofs.lemmas.Bool.{and_parts}
 use Rattle.js_base.specs.Kinds.{one_of_kinds}
 use Rattle.js_base.specs.declared.kind.Kind.{Kind}
-use Rattle.js_base.specs.declared.kind.Kind.TheVariants.{As, Async, At as at_sign, Class, Const, Default, Export, From, Function, LCurly, Let, Star, Var}
+use Rattle.js_base.specs.declared.kind.Kind.TheVariants.{Default, Export, LCurly, Star}
 use Rattle.js_base.specs.declared.span.Span.{Span}
 use Rattle.js_grammar.specs.Conditions.{ends_in_sub}
 use Rattle.js_grammar.specs.Trees.{Label, end, tree, no_op, export_all_declaration, export_declaration, export_default_declaration, export_from_declaration, export_named_declaration}
 use Rattle.js_grammar.specs.Trees.{NodeKind as TreeKind}
-use Rattle.js_grammar.specs.Grammar.{ended, is, keep, kept, nothing, such, ◌▸◌, ◌◇◌}
-use Rattle.js_grammar.specs.Insertion.{only_by}
+use Rattle.js_grammar.specs.Grammar.{nothing, such, ◌▸◌, ◌◇◌}
 use Rattle.js_grammar.specs.Parsing.{Test, always, plain, full, still, Goes, Fails}
-use Rattle.js_grammar.specs.Productions.{G, Flags, at, mk, slot, tok, ExportDecl, ExportName}
-use Rattle.js_grammar.specs.Productions.{sym as symbol}
-use Rattle.js_grammar.specs.Table.{rule, rule_of, export_list, exported_reference, source}
+use Rattle.js_grammar.specs.Productions.{G, Flags, at, tok, ExportDecl}
+use Rattle.js_grammar.specs.Table.{rule, rule_of}
 use Rattle.js_grammar.proofs.Looks.{apart, covers}
 use Rattle.js_grammar.proofs.Calculus.{Heads, ◌▹◌, ◌▹✗◌, fails_node, fails_rule, inside_full, inside_plain, left, right}
 use Rattle.laws_shared.specs.js_tree.declared.id.NodeId.{NodeId}
@@ -40,62 +38,43 @@ use Rattle.laws_shared.proofs.Signs.{other_kind}
 use Rattle.laws_shared.proofs.Verdicts.{grown_then}
 use Rattle.laws_primary.proofs.Operands.{not_same}
 use Rattle.laws_statements.proofs.Statements.{by_such_statement, never_open}
-use Rattle.laws_modules.specs.ExportDefaults.{default_exported}
+use Rattle.laws_modules.specs.Exports.{all_line, from_line, named_line}
 use Rattle.laws_modules.specs.ExportedDeclarations.{NoUnlinked, UnlinkedTaken, exported, other_exports}
-
--- ---- the lines, without those that begin with decorators
-
-abbrev pub behind_star : Flags → G
-behind_star f = tok Star ▸ slot (tok As ▸ symbol ExportName f) ▸ tok From ▸ source f
-
-abbrev pub names_from : Flags → G
-names_from f = keep (export_list (symbol ExportName f) f) (tok From ▸ source f ▸ kept)
-
-abbrev pub references : Flags → G
-references f = ended (only_by (is From)) (export_list exported_reference f)
-
-abbrev pub behind_default : Flags → G
-behind_default f = tok Default ▸ default_exported f
-
--- what a declaration begins with
-abbrev declaration_kinds : List Kind
-declaration_kinds = Var ∷ Let ∷ Const ∷ Async ∷ Function ∷ at_sign ∷ Class ∷ []
-
-abbrev pub export_line : TreeKind → G → G
-export_line k g = mk k (tok Export ▸ g)
+use Rattle.laws_modules.proofs.ExportLines.{declaration_kinds, default_line, exporting}
 
 -- what is derived before what may stand behind a statement is derived before what is no link
-pub export_heads : (f : Flags) → Heads (after_statement (at ExportDecl f)) (plain no_link)
+export_heads : (f : Flags) → Heads (after_statement (at ExportDecl f)) (plain no_link)
 export_heads f = λ l cs vs y d. ((and_parts _ _ d.0).0, refl)
 
 module _ {text : List ℕ} {f : Flags} {o p : Parser} (a : At text f o) (h : StandsHere o Export true) (m : Moved text f o p) where
-  pub five_lines : {X : Test} → Goes rule (Lex text) X end (rule (at ExportDecl f)) o.prev_token_end (export_line export_all_declaration (behind_star f) ◇ export_line export_from_declaration (names_from f) ◇ export_line export_named_declaration (references f) ◇ export_line export_declaration (exported f) ◇ export_line export_default_declaration (behind_default f)) o.prev_token_end (λ us. us) (still 0)
+  -- the lines, without those that begin with decorators
+  five_lines : {X : Test} → Goes rule (Lex text) X end (rule (at ExportDecl f)) o.prev_token_end (exporting export_all_declaration (all_line f) ◇ exporting export_from_declaration (from_line f) ◇ exporting export_named_declaration (named_line f) ◇ exporting export_declaration (exported f) ◇ exporting export_default_declaration (default_line f)) o.prev_token_end (λ us. us) (still 0)
   unfolding rule rule_of covers
   five_lines = at_kind a Export h.0 refl
 
-  pub export_passed : {X : Test} {b : G} → Path text f X (tok Export ▸ b) o b p (λ us. us)
+  export_passed : {X : Test} {b : G} → Path text f X (tok Export ▸ b) o b p (λ us. us)
   export_passed = token Export a h.0 h.1 refl m
 
   -- what can't stand behind `export`
-  pub no_line : {X : Test} {k : TreeKind} {g : G} → Fails rule (Lex text) (plain full) end g p.prev_token_end → Fails rule (Lex text) X end (export_line k g) o.prev_token_end
+  no_line : {X : Test} {k : TreeKind} {g : G} → Fails rule (Lex text) (plain full) end g p.prev_token_end → Fails rule (Lex text) X end (exporting k g) o.prev_token_end
   no_line n = fails_node inside_full (export_passed ⟶✗ n)
 
   -- a declaration, where neither `*` nor `{` nor `default` stands
   module _ (n : one_of_kinds other_exports (keyword_kind p.token) ≡ false) where
-    to_exported : {X : Test} → Goes rule (Lex text) X end (rule (at ExportDecl f)) o.prev_token_end (export_line export_declaration (exported f)) o.prev_token_end (λ us. us) (still 0)
+    to_exported : {X : Test} → Goes rule (Lex text) X end (rule (at ExportDecl f)) o.prev_token_end (exporting export_declaration (exported f)) o.prev_token_end (λ us. us) (still 0)
     unfolding covers apart
-    to_exported = five_lines ▹ right (no_line (fails_at_word {X = plain full} (behind_star f) other_exports m.at refl refl n)) ▹ right (no_line (fails_at_word {X = plain full} (names_from f) other_exports m.at refl refl n)) ▹ right (no_line (fails_at_word {X = plain full} (references f) other_exports m.at refl refl n)) ▹ left (no_line (fails_at_word {X = plain full} (behind_default f) other_exports m.at refl refl n))
+    to_exported = five_lines ▹ right (no_line (fails_at_word {X = plain full} (all_line f) other_exports m.at refl refl n)) ▹ right (no_line (fails_at_word {X = plain full} (from_line f) other_exports m.at refl refl n)) ▹ right (no_line (fails_at_word {X = plain full} (named_line f) other_exports m.at refl refl n)) ▹ left (no_line (fails_at_word {X = plain full} (default_line f) other_exports m.at refl refl n))
 
   -- what is exported as the default, where that word stands
   module _ (d : StandsHere p Default true) where
-    to_default : {X : Test} → Goes rule (Lex text) X end (rule (at ExportDecl f)) o.prev_token_end (export_line export_default_declaration (behind_default f)) o.prev_token_end (λ us. us) (still 0)
+    to_default : {X : Test} → Goes rule (Lex text) X end (rule (at ExportDecl f)) o.prev_token_end (exporting export_default_declaration (default_line f)) o.prev_token_end (λ us. us) (still 0)
     unfolding covers apart
-    to_default = five_lines ▹ right (no_line (fails_at m.at {X = plain full} (behind_star f) (Star ∷ []) refl (ap (one_of_kinds (Star ∷ [])) d.0))) ▹ right (no_line (fails_at m.at {X = plain full} (names_from f) (LCurly ∷ []) refl (ap (one_of_kinds (LCurly ∷ [])) d.0))) ▹ right (no_line (fails_at m.at {X = plain full} (references f) (LCurly ∷ []) refl (ap (one_of_kinds (LCurly ∷ [])) d.0)))
+    to_default = five_lines ▹ right (no_line (fails_at m.at {X = plain full} (all_line f) (Star ∷ []) refl (ap (one_of_kinds (Star ∷ [])) d.0))) ▹ right (no_line (fails_at m.at {X = plain full} (from_line f) (LCurly ∷ []) refl (ap (one_of_kinds (LCurly ∷ [])) d.0))) ▹ right (no_line (fails_at m.at {X = plain full} (named_line f) (LCurly ∷ []) refl (ap (one_of_kinds (LCurly ∷ [])) d.0)))
         ▹ right (no_line (fails_at m.at {X = plain full} (exported f) declaration_kinds refl (ap (one_of_kinds declaration_kinds) d.0)))
 
   -- ---- a line with one child
 
-  module _ (k : NodeKind) {g : G} (to : Goes rule (Lex text) (plain no_link) end (rule (at ExportDecl f)) o.prev_token_end (export_line (kind_of k) g) o.prev_token_end (λ us. us) (still 0)) where
+  module _ (k : NodeKind) {g : G} (to : Goes rule (Lex text) (plain no_link) end (rule (at ExportDecl f)) o.prev_token_end (exporting (kind_of k) g) o.prev_token_end (λ us. us) (still 0)) where
     line_stops : (q : Parser) (e : Stop) → Stops p q e (NoUnlinked text g p.prev_token_end) → Stops o q e (NoStatement text (at ExportDecl f) o.prev_token_end)
     unfolding covers
     line_stops q e z = stops_behind q e m.same (λ d. grown_then m.kept d) (λ n. fails_rule {X' = plain no_link} (export_heads f) (to ▹✗ fails_node (inside_plain refl) (export_passed ⟶✗ n))) z
@@ -133,8 +112,8 @@ module _ {text : List ℕ} {f : Flags} {o p : Parser} (a : At text f o) (h : Sta
 
   -- the default
   module _ (d : StandsHere p Default true) where
-    pub default_stops : (q : Parser) (e : Stop) → Stops p q e (NoUnlinked text (behind_default f) p.prev_token_end) → Stops o q e (NoStatement text (at ExportDecl f) o.prev_token_end)
+    pub default_stops : (q : Parser) (e : Stop) → Stops p q e (NoUnlinked text (default_line f) p.prev_token_end) → Stops o q e (NoStatement text (at ExportDecl f) o.prev_token_end)
     default_stops q e z = line_stops a h m node.ExportDefaultDeclaration (to_default a h m d) q e z
 
-    pub default_answers : {q w : Parser} {child id : NodeId} (s : Span) → UnlinkedTaken text f (behind_default f) p q child → s.start ≡ o.token.span.start → s.end ≡ q.prev_token_end → MadeHere (plain_label node.ExportDefaultDeclaration op.None s) (Some child ∷ []) q w id → Statement text f (at ExportDecl f) o w id
+    pub default_answers : {q w : Parser} {child id : NodeId} (s : Span) → UnlinkedTaken text f (default_line f) p q child → s.start ≡ o.token.span.start → s.end ≡ q.prev_token_end → MadeHere (plain_label node.ExportDefaultDeclaration op.None s) (Some child ∷ []) q w id → Statement text f (at ExportDecl f) o w id
     default_answers s x b e n = line_answers a h m node.ExportDefaultDeclaration (to_default a h m d) x refl s b e n

@@ -6,6 +6,9 @@ pub mod TokenMarks
 pub mod StringUnits
 pub mod ModuleNames
 pub mod ImportSpecifiers
+pub mod Leaves
+pub mod ReferencesAsNames
+pub mod ExportSpecifiers
 pub mod Attributes
 pub mod Endings
 pub mod Sources
@@ -15,6 +18,8 @@ pub mod ExportedLines
 pub mod ExportedDeclarations
 pub mod ExportDefaults
 pub mod ExportedFunctions
+pub mod ExportLines
+pub mod Exports
 pub mod ImportOpenings
 pub mod Items
 pub use Rattle.laws_primary.proofs as laws_primary

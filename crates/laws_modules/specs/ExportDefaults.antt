@@ -52,8 +52,8 @@ abbrev pub default_slots : Bool → Bool → Flags → G
 default_slots a s f = only a (tok Async ▸ no_newline) ▸ tok a_function ▸ only s (tok Star) ▸ behind_sign a s f
 
 -- its line
-abbrev pub default_line : Bool → Bool → Flags → G
-default_line a s f = function_of function_declaration (slot (symbol BindingIdentifier f)) a s f
+abbrev pub default_function_line : Bool → Bool → Flags → G
+default_function_line a s f = function_of function_declaration (slot (symbol BindingIdentifier f)) a s f
 
 -- Its name, or none.
 abbrev pub TakesDefaultName : Parser → Parser → Result (Option NodeId) Stop → Type 0
@@ -64,8 +64,8 @@ TakesDefaultName old new (Err e) = OnlyMemory e
 -- Its parts were read, of one of the four lines; of the others none is derived.
 pub record DefaultParts (text : List ℕ) (f : Flags) (old new : Parser) (r : FunctionParts) : Type 0 where
   pub whole : Partway text f (default_slots r.is_async r.is_generator f) nothing old new [] (r.name ∷ Some r.parameters ∷ Some r.body ∷ [])
-  pub other : Fails rule (Lex text) (plain full) no_slots (default_line r.is_async (not r.is_generator) f) old.prev_token_end
-  pub others : (b : Bool) → Fails rule (Lex text) (plain full) no_slots (default_line (not r.is_async) b f) old.prev_token_end
+  pub other : Fails rule (Lex text) (plain full) no_slots (default_function_line r.is_async (not r.is_generator) f) old.prev_token_end
+  pub others : (b : Bool) → Fails rule (Lex text) (plain full) no_slots (default_function_line (not r.is_async) b f) old.prev_token_end
 
 abbrev pub TakesDefaultParts : Parser → Parser → Result FunctionParts Stop → Type 0
 TakesDefaultParts old new (Ok r) = (text : List ℕ) (f : Flags) → At text f old → DefaultParts text f old new r

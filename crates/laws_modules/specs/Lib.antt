@@ -8,5 +8,6 @@ pub mod ImportDeclarations
 pub mod Exports
 pub mod ExportedDeclarations
 pub mod ExportDefaults
+pub mod ExportSpecifiers
 pub mod Items
 pub use Rattle.laws_primary.specs as laws_primary

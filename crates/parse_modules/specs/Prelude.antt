@@ -2,14 +2,15 @@
 pub use Rattle.js_base.specs.Contexts.{has_flag, in_flag}
 pub use Rattle.js_base.specs.Kinds.{one_of_kinds}
 pub use Rattle.js_base.specs.Spans.{LiesIn}
-pub use Rattle.js_base.specs.declared.kind.Kind.TheVariants.{Default, Eq, Export, RCurly, Star, Str}
+pub use Rattle.js_base.specs.declared.kind.Kind.TheVariants.{Default, Eq, Export, LCurly, RCurly, Star, Str}
 pub use Rattle.js_grammar.specs.Marks.{Mark}
 pub use Rattle.js_grammar.specs.Productions.{ExportDecl, Function, ImportDecl, Item, at, bare_flag, flag, sym}
-pub use Rattle.js_grammar.specs.Trees.{import_declaration}
+pub use Rattle.js_grammar.specs.Trees.{export_all_declaration, export_from_declaration, import_declaration}
 pub use Rattle.laws_modules.specs.Attributes.{BeginsClause, ClauseOf, FindsClause, NoClauseOf, TakesAttributes, key_part}
 pub use Rattle.laws_modules.specs.ExportDefaults.{TakesDefaultName, TakesDefaultParts, default_exported}
+pub use Rattle.laws_modules.specs.ExportSpecifiers.{ChecksReference, ExportsAs, TakesAs, TakesReference, exported_label, may_refer, misnamed_kind}
 pub use Rattle.laws_modules.specs.ExportedDeclarations.{ReadsUnlinked, exported, other_exports}
-pub use Rattle.laws_modules.specs.Exports.{TakesExport}
+pub use Rattle.laws_modules.specs.Exports.{FindsFrom, NamesBindings, NoFromBehind, ReadsFrom, TakesExport, export_label}
 pub use Rattle.laws_modules.specs.ImportClauses.{ImportsStop, ImportsTaken, NoOthers, OthersTaken, default_part, namespace_part}
 pub use Rattle.laws_modules.specs.ImportDeclarations.{FindsImports, ImportsEnd, import_label}
 pub use Rattle.laws_modules.specs.ImportSpecifiers.{BindsSingle, BoundMarked, IsExportName, ReadsBound, StringBound, specifier_label, string_bound, word_bound}
@@ -17,7 +18,7 @@ pub use Rattle.laws_modules.specs.Items.{ChecksGoal, ImportHere, outside_module}
 pub use Rattle.laws_modules.specs.ModuleNames.{SpellsExport, TakesExportName, export_node, is_paired, lone_surrogate}
 pub use Rattle.laws_modules.specs.NameLists.{ListTaken, NoList, ReadsNamed, TakesListed}
 pub use Rattle.laws_modules.specs.Sources.{ReadsSource}
-pub use Rattle.laws_modules.specs.declared.forms.NameList.TheVariants.{Attributes, Imports}
+pub use Rattle.laws_modules.specs.declared.forms.NameList.TheVariants.{Attributes, Exports, Imports, References}
 pub use Rattle.laws_modules.specs.laws_primary.Classes.{class_label}
 pub use Rattle.laws_modules.specs.laws_primary.Decorators.{ClassHere}
 pub use Rattle.laws_modules.specs.laws_primary.Functions.{BeginsFunction, NoFunctionHere}
