@@ -192,7 +192,7 @@ taken_answer {text} {s} {o} {asks} {p} {ids} span nodes out kept early covers w 
         let none_left : told_in text Anywhere h.slots ≡ [] → initialised_in h.slots ≡ [] → out.errors ≡ [] = λ y z. found_is ∙ (left_is ∙ (λ j. leftover (y j) (map placed (z j)))) in
         let left_none : out.errors ≡ [] → (told_in text Anywhere h.slots ≡ []) × (initialised_in h.slots ≡ []) = λ z. leftover_none (told_in text Anywhere h.slots) (initialised_in h.slots) (sym left_is ∙ (sym found_is ∙ z)) in
         let none : (out.errors ≡ [] → ⊥) → HasNoReading text (goal_of s) (options_of o) = λ z. none_leftover (λ x y. z (none_left (sym told_outside ∙ x) (sym outside ∙ y))) read in
-        let left_marked : All (Mark (goal_of s) text) (leftover early covers) = subst (All (Mark (goal_of s) text)) (sym left_is) (leftover_marked (goal_of s) text (told_in text Anywhere h.slots) (initialised_in h.slots) (early_marked read.reading slots_inside) (subst (All (Marked text)) outside (spans_marked read.reading)) (spans_lie text h.slots slots_inside)) in
+        let left_marked : All (Mark (goal_of s) text) (leftover early covers) = subst (All (Mark (goal_of s) text)) (sym left_is) (leftover_marked (goal_of s) text (told_in text Anywhere h.slots) (initialised_in h.slots) (early_marked (characters h.is_of) read.reading slots_inside) (subst (All (Marked text)) outside (spans_marked read.reading)) (spans_lie text h.slots slots_inside)) in
         let left_lie : All (λ d. LiesIn d.span text) (leftover early covers) = each_lies h.is_of (leftover early covers) left_marked in
         record {
           told = record {

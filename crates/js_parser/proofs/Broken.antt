@@ -1,5 +1,5 @@
 -- The walk that finds the nodes that break an early rule.
-use Rattle.std.proofs.Common.{◌≡◌, ℕ, ◌+◌, ◌<◌, ◌≤◌, Bool, true, false, ◌||◌, cond, List, [], ◌∷◌, ◌++◌, length, map, take, drop, Option, Some, None, get_or, nat_lt, refl, ap, sym, ◌∙◌, subst, arith, lt-ltb, ltb-true, ltb-false, append_assoc, append-nil}
+use Rattle.std.proofs.Common.{◌≡◌, ℕ, ◌+◌, ◌<◌, ◌≤◌, Bool, true, false, ◌&&◌, ◌||◌, cond, List, [], ◌∷◌, ◌++◌, length, map, take, drop, Option, Some, None, get_or, nat_lt, refl, ap, sym, ◌∙◌, subst, arith, lt-ltb, ltb-true, ltb-false, append_assoc, append-nil}
 use Rattle.std.specs.Prelude.{is_some}
 use Rattle.std.proofs.lemmas.List.{map-append}
 use Rattle.std.proofs.lemmas.Bool.{false≢true, or_parts}
@@ -15,8 +15,10 @@ use Rattle.js_tree.specs.Parts.{below_all}
 use Rattle.js_tree.proofs.CountLemmas.{children_lighter}
 use Rattle.js_tree.proofs.StackLemmas.{Stacked, bottom, Stacked-push, Stacked-pop, Stacked-none}
 use Rattle.js_tree.proofs.WeightLemmas.{stack_weight}
+use Rattle.js_parser.specs.AttributeKeys.{told_of_keys, keys_in, keys_at, told_keys_at, is_clause, has_keys}
 use Rattle.js_parser.specs.Broken.{past, within, broken_rule, told_rule, told_here, told_in, rule_at, told_of, name_fault, told_fault, child_labels, name_fault_at, breaks, pending, pending_within, pending_alike, first_end}
 use Rattle.js_grammar.specs.EarlyRules.{is_member}
+use Rattle.js_parser.proofs.ClauseKeys.{keys_kept, few_keys}
 use Rattle.js_parser.proofs.MemberNames.{fault_kept, no_member, past_all}
 use Rattle.js_parser.specs.declared.early.Pending.{Pending}
 use Rattle.js_parser.specs.declared.early.Position.{Position}
@@ -110,7 +112,7 @@ opened {text} {ns} n m ps u told whole e (stands {cs} {rs} k h a) r q =
     rw e record {
       rest = inner ++ u;
       stacked = stacked_all (within n.position one.kind) ps u a r;
-      parts = q ∙ (ap (λ (v : Option Diagnostic). told ++ (((rule ++ told_fault v) ++ inner) ++ u)) (fault_kept text one a) ∙ regrouped told (rule ++ told_fault (name_fault text one (child_labels ns (get_or ns k empty_program).children))) inner u);
+      parts = q ∙ ((λ i. told ++ (((rule ++ (told_fault (fault_kept text one a i) ++ keys_kept text one.kind a (omega arith) i)) ++ inner) ++ u)) ∙ regrouped told (rule ++ (told_fault (name_fault text one (child_labels ns (get_or ns k empty_program).children)) ++ told_of_keys text one.kind (keys_at ns (get_or ns k empty_program).children))) inner u);
     }
   where
     regrouped : (a b c d : List Diagnostic) → a ++ ((b ++ c) ++ d) ≡ (a ++ b) ++ (c ++ d)
@@ -140,8 +142,11 @@ is_none : {X : Type 0} (o : Option X) → is_some o ≡ false → o ≡ None
 is_none None e = refl
 is_none (Some x) e = absurd (false≢true (sym e))
 
-neither_broken : (text : List ℕ) (ns : List Node) (id : NodeId) → breaks text ns id ≡ false → (rule_at text ns id InTemplate ≡ None) × (name_fault_at text ns id ≡ None)
-neither_broken text ns id e = let p = or_parts (is_some (rule_at text ns id InTemplate)) (is_some (name_fault_at text ns id)) e in (is_none (rule_at text ns id InTemplate) p.0, is_none (name_fault_at text ns id) p.1)
+neither_broken : (text : List ℕ) (ns : List Node) (id : NodeId) → breaks text ns id ≡ false → (rule_at text ns id InTemplate ≡ None) × (name_fault_at text ns id ≡ None) × (told_keys_at text ns id ≡ [])
+neither_broken text ns id e =
+    let p = or_parts (is_some (rule_at text ns id InTemplate)) (is_some (name_fault_at text ns id) || has_keys ns id) e in
+    let q = or_parts (is_some (name_fault_at text ns id)) (has_keys ns id) p.1 in
+    (is_none (rule_at text ns id InTemplate) p.0, is_none (name_fault_at text ns id) q.0, few_keys text ns (kind_of (node_at ns id).kind) (node_at ns id).children q.1)
 
 module _ (text : List ℕ) {ns : List Node} (n : (id : NodeId) → id.0 < length ns → breaks text ns id ≡ false) where
   mutual
@@ -151,8 +156,9 @@ module _ (text : List ℕ) {ns : List Node} (n : (id : NodeId) → id.0 < length
         let f = neither_broken text ns (record { 0 = id }) (n (record { 0 = id }) h) in
         let none : broken_rule p one.kind (characters_at text one) ≡ None = most_asked p one.kind (characters_at text one) f.0 in
         let unnamed : name_fault text one cs ≡ None = fault_kept text one a ∙ f.1 in
+        let keys : told_of_keys text one.kind (keys_in cs) ≡ [] = keys_kept text one.kind a (omega arith) ∙ f.2 in
         let inner = none_all (within p one.kind) a in
-        λ i. (told_rule (none i) (placed one.span) ++ told_fault (unnamed i)) ++ inner i
+        λ i. (told_rule (none i) (placed one.span) ++ (told_fault (unnamed i) ++ keys i)) ++ inner i
 
     none_all : {b : ℕ} {ids : List (Option NodeId)} {cs : Slots} {rs : List ℕ} (p : Position) → StandsAll ns b ids cs rs → told_in text p cs ≡ []
     none_all p no_slots = refl
@@ -171,8 +177,8 @@ one_more text ns i n e id h = go (nat_lt id.0 i) refl
     go false q = let w = ltb-false id.0 i q in let z : id.0 ≡ i = omega arith in subst (λ (m : ℕ). breaks text ns (record { 0 = m }) ≡ false) (sym z) e
 
 -- what a kind alone tells
-pub by_kind_none : (text : List ℕ) (ns : List Node) (id : NodeId) → ((p : Position) (w : List ℕ) → broken_rule p (kind_of (node_at ns id).kind) w ≡ None) → is_member (kind_of (node_at ns id).kind) ≡ false → breaks text ns id ≡ false
-by_kind_none text ns id r m = λ i. is_some (r InTemplate (characters_at text (label (node_at ns id))) i) || is_some (no_member text (label (node_at ns id)) (child_labels ns (node_at ns id).children) m i)
+pub by_kind_none : (text : List ℕ) (ns : List Node) (id : NodeId) → ((p : Position) (w : List ℕ) → broken_rule p (kind_of (node_at ns id).kind) w ≡ None) → is_member (kind_of (node_at ns id).kind) ≡ false → is_clause (kind_of (node_at ns id).kind) ≡ false → breaks text ns id ≡ false
+by_kind_none text ns id r m k = λ i. is_some (r InTemplate (characters_at text (label (node_at ns id))) i) || (is_some (no_member text (label (node_at ns id)) (child_labels ns (node_at ns id).children) m i) || (k i && nat_lt 1 (length (node_at ns id).children)))
 
 -- as soon as the first is one, or by the second
 pub first_broken : (a b : Bool) → a ≡ true → (a || b) ≡ true
@@ -181,7 +187,7 @@ first_broken false b e = absurd (false≢true e)
 
 -- of a number without a node nothing is told
 pub none_there : (text : List ℕ) (ns : List Node) (n : Pending) → length ns ≤ n.id.0 → told_of text ns n ≡ []
-none_there text ns n h = ap (λ (m : Node). told_rule (broken_rule n.position (kind_of m.kind) (characters_at text (label m))) m.span ++ told_fault (name_fault text (label m) (child_labels ns m.children))) (past_all ns n.id.0 h) ∙ none_of n.position
+none_there text ns n h = ap (λ (m : Node). told_rule (broken_rule n.position (kind_of m.kind) (characters_at text (label m))) m.span ++ (told_fault (name_fault text (label m) (child_labels ns m.children)) ++ told_of_keys text (kind_of m.kind) (keys_at ns m.children))) (past_all ns n.id.0 h) ∙ none_of n.position
   where
     none_of : (p : Position) → told_rule (broken_rule p program (characters_at text (label empty_program))) (empty_program.span) ++ [] ≡ []
     none_of Anywhere = refl

@@ -2,9 +2,9 @@
 use Rattle.std.proofs.Common.{ℕ, ◌≡◌, ◌+◌, ◌/◌, ◌%◌, ◌-◌, Bool, true, false, not, cond, ◌&&◌, ◌||◌, List, [], ◌++◌, refl, sym, subst, ap, ◌∙◌, rules, IsTrue, arith, eqb-true}
 use Rattle.std.specs.Prelude.{codes, nat_eq}
 use Rattle.std.proofs.lemmas.Bool.{false≢true, not-true, and_parts, and_from}
-use Rattle.js_grammar.specs.Trees.{NodeKind, switch_statement, switch_case, try_statement, template_literal, with_clause, import_declaration, export_all_declaration, export_from_declaration, export_named_declaration, export_declaration, export_default_declaration, function_expression, arrow_function_expression, Op, no_op, Label, Span, Slots, end, hole, tree, Tree, append, identifier_name, private_identifier, string_literal, method_op, constructor_op}
+use Rattle.js_grammar.specs.Trees.{NodeKind, switch_statement, switch_case, try_statement, template_literal, with_clause, export_all_declaration, export_from_declaration, export_named_declaration, export_declaration, export_default_declaration, function_expression, arrow_function_expression, Op, no_op, Label, Span, Slots, end, hole, tree, Tree, append, identifier_name, private_identifier, string_literal, method_op, constructor_op}
 use Rattle.js_grammar.specs.Grammar.{Make, Lexemes, ◌▸◌, ◌◇◌, empty_slot, ahead, seq, alt, when, many, commas, such, marked, node, ended, keep, label_of, Takes, Derives, is_nothing, is_lexeme, is_look, is_text, is_ahead, is_empty_slot, is_seq, is_left, is_right, is_when, is_many, is_commas, is_such, is_marked, is_node, is_ended, is_keep, is_kept}
-use Rattle.js_grammar.specs.Productions.{Flags, Name, Symbol, G, at, tok, opt, mk, parens, braces, slot, Program, Case, Switch, Try, Expression, Block, Catch, ListItem, ImportDecl, Spec, ExportName, Attrs, Attr, ExportDecl, pure_flag, has_flag, with_pife, async_flag, computed_flag, generator_flag, static_flag, without_flag}
+use Rattle.js_grammar.specs.Productions.{Flags, Name, Symbol, G, at, tok, opt, mk, parens, braces, slot, Program, Case, Switch, Try, Expression, Block, Catch, ListItem, Attrs, Attr, ExportDecl, pure_flag, has_flag, with_pife, async_flag, computed_flag, generator_flag, static_flag, without_flag}
 use Rattle.js_grammar.specs.Productions.{sym as symbol}
 use Rattle.js_base.specs.declared.kind.Kind.TheVariants.{Colon}
 use Rattle.js_grammar.specs.Words.{'default', 'finally', 'switch', 'try'}
@@ -15,22 +15,16 @@ use Rattle.js_grammar.proofs.CoverInitialisers.{line_marked}
 use Rattle.js_grammar.proofs.Renamed.{remarked, first_of, second_of, mark_of}
 use Rattle.js_grammar.proofs.CoreTrees.{pife_apart}
 use Rattle.js_grammar.proofs.EachNode.{append_each, tree_each, root_each, each_so, without_marks}
+use Rattle.js_parser.proofs.AttributeKeys.{named, keys_named, differ, each_two, from_each_two}
 use Rattle.js_grammar.specs.TreeForms.{with_labels, not_pure, without_pure}
 
 -- nonterminals that no production that is built leads to
 abbrev pub far : Name → Bool
-far ImportDecl = true
-far Spec = true
-far ExportName = true
-far Attrs = true
-far Attr = true
 far ExportDecl = true
 far _ = false
 
 -- kinds of nodes that only those make
 abbrev absent : NodeKind → Bool
-absent with_clause = true
-absent import_declaration = true
 absent export_all_declaration = true
 absent export_from_declaration = true
 absent export_named_declaration = true
@@ -42,6 +36,7 @@ absent _ = false
 abbrev shaped : NodeKind → Bool
 shaped switch_statement = true
 shaped try_statement = true
+shaped with_clause = true
 shaped _ = false
 
 -- a node of another kind than the absent ones, without the mark
@@ -49,7 +44,7 @@ abbrev plain : NodeKind → ℕ → Bool
 plain k n = not (absent k) && not (has_flag pure_flag n)
 
 abbrev pub fine_label : Rule
-fine_label l cs = plain l.kind l.flags && (one_default l cs && catch_or_finally l cs)
+fine_label l cs = plain l.kind l.flags && (one_default l cs && (catch_or_finally l cs && keys_named l cs))
 
 -- ---- the roots of what is derived: only Case has a SwitchCase there
 
@@ -129,7 +124,7 @@ append_no_case (tree l cs a) b h k = let x = and_parts (not (is_switch_case l.ki
 not_so : (b : Bool) → b ≡ false → not b ≡ true
 not_so b e = ap not e
 
-pife_kind : (l : Label) → (with_pife l).kind ≡ l.kind
+pub pife_kind : (l : Label) → (with_pife l).kind ≡ l.kind
 pife_kind l = go l.kind l.op l.flags l.span
   where
     go : (k : NodeKind) (o : Op) (n : ℕ) (s : Span) → (with_pife (record { kind = k; op = o; flags = n; span = s })).kind ≡ k
@@ -209,12 +204,33 @@ try_shape : {f : Flags} {ks cs : Slots} {i j : ℕ} {ls rest : Lexemes} → Take
 try_shape (is_seq (is_lexeme a) (is_seq (is_such x c) (is_left (is_seq (is_such y d) z)))) o n s = refl
 try_shape (is_seq (is_lexeme a) (is_seq (is_such x c) (is_right (is_seq is_empty_slot (is_seq (is_lexeme b) (is_such y d)))))) o n s = refl
 
+-- ---- a WithClause
+
+-- a key is a name or a string
+key_taken : {f : Flags} {ks ts us : Slots} {i j : ℕ} {ls rest : Lexemes} → Takes rule (symbol Attr f) ks ts i ls us j rest → named us ≡ true → named ts ≡ true
+unfolding rule rule_of
+key_taken (is_such (is_node (is_seq (is_left (is_such (is_node (is_lexeme a)) d)) (is_seq (is_lexeme b) v))) c) h = h
+key_taken (is_such (is_node (is_seq (is_right (is_node (is_lexeme a))) (is_seq (is_lexeme b) v))) c) h = h
+
+keys_taken : {f : Flags} {ks ts us : Slots} {i j : ℕ} {ls rest : Lexemes} → Takes rule (commas true (symbol Attr f)) ks ts i ls us j rest → named us ≡ true → named ts ≡ true
+keys_taken (is_commas (is_seq x (is_right is_nothing))) h = key_taken x h
+keys_taken (is_commas (is_seq x (is_left (is_seq (is_lexeme a) (is_right is_nothing))))) h = key_taken x h
+keys_taken (is_commas (is_seq x (is_left (is_seq (is_lexeme a) (is_left y))))) h = key_taken x (keys_taken y h)
+
+abbrev entries : Flags → G
+entries f = braces (opt (commas true (symbol Attr f)))
+
+clause_shape : {f : Flags} {ks cs : Slots} {i j : ℕ} {ls rest : Lexemes} → Takes rule (entries f) ks cs i ls end j rest → named cs ≡ true
+clause_shape (is_seq (is_lexeme a) (is_seq (is_left x) (is_lexeme b))) = keys_taken x refl
+clause_shape (is_seq (is_lexeme a) (is_seq (is_right is_nothing) (is_lexeme b))) = refl
+
 -- ---- all nodes
 
 -- the nonterminals whose node is of such a kind
 abbrev is_shaped : Name → Bool
 is_shaped Switch = true
 is_shaped Try = true
+is_shaped Attrs = true
 is_shaped _ = false
 
 abbrev Either : Bool → Type 0 → Type 0 → Type 0
@@ -281,7 +297,8 @@ line_fine n f = refl
 shaped_at : (n : Name) → is_shaped n ≡ true → (f : Flags) → Fine (rule_of n f)
 unfolding rule_of
 shaped_at Switch e f = ((λ ks cs i j ls rest x s. and_from _ _ (switch_shape x) refl), is_fine (switch_slots f) refl refl)
-shaped_at Try e f = ((λ ks cs i j ls rest x s. try_shape x no_op 0 s), is_fine (try_slots f) refl refl)
+shaped_at Attrs e f = let shape = (λ (ks cs : Slots) (i j : ℕ) (ls rest : Lexemes) (x : Takes rule (entries f) ks cs i ls end j rest) (s : Span). clause_shape x) in ((tt, (shape, is_fine (entries f) refl refl)), (tt, (tt, (shape, is_fine (entries f) refl refl))))
+shaped_at Try e f = ((λ ks cs i j ls rest x s. and_from _ _ (try_shape x no_op 0 s) refl), is_fine (try_slots f) refl refl)
 shaped_at n e f = absurd (false≢true e)
 
 fine_at : (n : Name) → far n ≡ false → (f : Flags) → Fine (rule_of n f)
@@ -299,6 +316,7 @@ fine_line n e = fine_at n.name e n.flags
 unshaped_fine : (k : NodeKind) (o : Op) (n : ℕ) (s : Span) (cs : Slots) → shaped k ≡ false → plain k n ≡ true → fine_label (record { kind = k; op = o; flags = n; span = s }) cs ≡ true
 unshaped_fine switch_statement o n s cs e h = absurd (false≢true (sym e))
 unshaped_fine try_statement o n s cs e h = absurd (false≢true (sym e))
+unshaped_fine with_clause o n s cs e h = absurd (false≢true (sym e))
 unshaped_fine k o n s cs e h = and_from _ _ h refl
 
 node_fine : (m : Make) (a : G) → Either (shaped m.kind) (Shape m a) (plain m.kind m.flags ≡ true) → {ks cs : Slots} {i j : ℕ} {ls rest : Lexemes} → Takes rule a ks cs i ls end j rest → (s : Span) → fine_label (record { kind = m.kind; op = m.op; flags = m.flags; span = s }) cs ≡ true
@@ -352,21 +370,13 @@ default_spared : Spares one_default
 default_spared l cs h = (and_parts (one_default l cs) _ (and_parts (plain l.kind l.flags) _ h).1).0
 
 catch_spared : Spares catch_or_finally
-catch_spared l cs h = (and_parts (one_default l cs) _ (and_parts (plain l.kind l.flags) _ h).1).1
+catch_spared l cs h = (and_parts (catch_or_finally l cs) _ (and_parts (one_default l cs) _ (and_parts (plain l.kind l.flags) _ h).1).1).0
+
+pub named_fine : (us : Slots) → everywhere fine_label us ≡ true → everywhere keys_named us ≡ true
+named_fine us h = each_so fine_label keys_named (λ l cs f. (and_parts (catch_or_finally l cs) _ (and_parts (one_default l cs) _ (and_parts (plain l.kind l.flags) _ f).1).1).1) us h
 
 here_not_absent : (l : Label) (cs : Slots) → fine_label l cs ≡ true → absent l.kind ≡ false
 here_not_absent l cs h = not-true (absent l.kind) (and_parts (not (absent l.kind)) _ (and_parts (plain l.kind l.flags) _ h).0).0
-
--- a rule of nodes of the absent kinds
-abbrev OfAbsent : Rule → Type 0
-OfAbsent r = (k : NodeKind) (o : Op) (n : ℕ) (s : Span) (cs : Slots) → absent k ≡ false → r (record { kind = k; op = o; flags = n; span = s }) cs ≡ true
-
-of_absent : (r : Rule) → OfAbsent r → Spares r
-of_absent r f l cs h = f l.kind l.op l.flags l.span cs (here_not_absent l cs h)
-
-keys_spared : (text : List ℕ) → OfAbsent (attribute_keys_differ text)
-keys_spared text with_clause o n s cs h = absurd (false≢true (sym h))
-keys_spared text k o n s cs h = refl
 
 -- All early rules hold of it, if those hold that such trees may break.
 pub early_fine : (text : List ℕ) (t : Tree) → everywhere fine_label (tree t.label t.slots end) ≡ true → MeetsEarlyRules text t → EarlyOk text t
@@ -375,7 +385,7 @@ early_fine text t h m = let us = tree t.label t.slots end in record {
   catch_or_finally = all_spared catch_or_finally catch_spared us h;
   not_u_and_v = m.not_u_and_v;
   templates_cooked = m.cooked;
-  attribute_keys_differ = all_spared (attribute_keys_differ text) (of_absent (attribute_keys_differ text) (keys_spared text)) us h;
+  attribute_keys_differ = m.attribute_keys_differ;
   no_private_constructor = m.no_private_constructor;
   no_field_constructor = m.no_field_constructor;
   no_static_prototype = m.no_static_prototype;
@@ -530,11 +540,46 @@ stays w (tree l cs us) =
 cooked_without : (w : List ℕ) (t : Tree) → IsTrue (templates_cooked w (tree t.label t.slots end)) → IsTrue (templates_cooked w (tree (without_pure t).label (without_pure t).slots end))
 cooked_without w t h = (stays w (tree t.label t.slots end)).0 anywhere h
 
+-- Keys that differ do so without the mark.
+two_keys : (text : List ℕ) (l m j k : Label) (ds es : Slots) → differ text (tree l ds (tree m es end)) ≡ true → differ text (tree j (unmarked ds) (tree k (unmarked es) end)) ≡ true
+two_keys text l m j k end end h = h
+two_keys text l m j k end (hole es) h = h
+two_keys text l m j k end (tree a cs es) h = h
+two_keys text l m j k (hole ds) end h = h
+two_keys text l m j k (hole ds) (hole es) h = h
+two_keys text l m j k (hole ds) (tree a cs es) h = h
+two_keys text l m j k (tree b bs ds) end h = h
+two_keys text l m j k (tree b bs ds) (hole es) h = h
+two_keys text l m j k (tree b bs ds) (tree a cs es) h = h
+
+keys_stay : (text : List ℕ) (l j : Label) (ds us : Slots) → differ text (tree l ds us) ≡ true → differ text (tree j (unmarked ds) (unmarked us)) ≡ true
+keys_stay text l j ds end h = refl
+keys_stay text l j ds (hole us) h = keys_stay text l j ds us h
+keys_stay text l j ds (tree m es us) h = let p = each_two text l m ds es us h in from_each_two text j (not_pure m) (unmarked ds) (unmarked es) (unmarked us) (two_keys text l m j (not_pure m) ds es p.0) (keys_stay text l j ds us p.1) (keys_stay text m (not_pure m) es us p.2)
+
+all_stay : (text : List ℕ) (us : Slots) → differ text us ≡ true → differ text (unmarked us) ≡ true
+all_stay text end h = refl
+all_stay text (hole us) h = all_stay text us h
+all_stay text (tree m es us) h = keys_stay text m (not_pure m) es us h
+
+clause_stays : (text : List ℕ) (k : NodeKind) (o : Op) (n : ℕ) (s : Span) (cs : Slots) → attribute_keys_differ text (record { kind = k; op = o; flags = n; span = s }) cs ≡ true → attribute_keys_differ text (not_pure (record { kind = k; op = o; flags = n; span = s })) (unmarked cs) ≡ true
+clause_stays text with_clause o n s cs h = all_stay text cs h
+clause_stays text k o n s cs h = refl
+
+keys_without : (w : List ℕ) (us : Slots) → everywhere (attribute_keys_differ w) us ≡ true → everywhere (attribute_keys_differ w) (unmarked us) ≡ true
+keys_without w end h = refl
+keys_without w (hole us) h = keys_without w us h
+keys_without w (tree l cs us) h =
+    let p = and_parts (attribute_keys_differ w l cs) _ h in
+    let q = and_parts (everywhere (attribute_keys_differ w) cs) _ p.1 in
+    and_from _ _ (clause_stays w l.kind l.op l.flags l.span cs p.0) (and_from _ _ (keys_without w cs q.0) (keys_without w us q.1))
+
 -- The early rules that such trees may break hold without the mark, where all hold with it.
 pub rules_without : (w : List ℕ) (t : Tree) → EarlyOk w t → MeetsEarlyRules w (without_pure t)
 rules_without w t e = record {
   not_u_and_v = names_without (not_u_and_v w) t (flags_blind w) e.not_u_and_v;
   cooked = cooked_without w t e.templates_cooked;
+  attribute_keys_differ = keys_without w (tree t.label t.slots end) e.attribute_keys_differ;
   no_private_constructor = names_without (no_private_constructor w) t (private_blind w) e.no_private_constructor;
   no_field_constructor = names_without (no_field_constructor w) t (field_blind w) e.no_field_constructor;
   no_static_prototype = names_without (no_static_prototype w) t (prototype_blind w) e.no_static_prototype;

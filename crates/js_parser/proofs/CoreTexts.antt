@@ -107,7 +107,7 @@ module _ {text : List ℕ} (u : IsUtf8 text) (s : CoreSource text) where
         let n = at Program (program_flags script (core_options o.allow_v8)) in
         let p = pure_plain t (derived_plain n t refl r.derived) in
         let e = early_spared text t (derived_spared n t refl (subst (λ (v : Tree). Derives core_rule n v 0 r.lexemes r.end (last r.final)) (sym p) r.derived)) in
-        record { not_u_and_v = e.not_u_and_v; cooked = e.templates_cooked; no_private_constructor = e.no_private_constructor; no_field_constructor = e.no_field_constructor; no_static_prototype = e.no_static_prototype; plain_constructor = e.plain_constructor }
+        record { not_u_and_v = e.not_u_and_v; cooked = e.templates_cooked; attribute_keys_differ = e.attribute_keys_differ; no_private_constructor = e.no_private_constructor; no_field_constructor = e.no_field_constructor; no_static_prototype = e.no_static_prototype; plain_constructor = e.plain_constructor }
 
     pub to_reading : (t : Tree) → IsReading text o.allow_v8 t → Reading text goal o t
     to_reading t r =

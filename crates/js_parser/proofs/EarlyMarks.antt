@@ -1,14 +1,14 @@
--- A regular expression in a tree stands where a lexeme does, and so does a name of a member; a template's part stands between the delimiters of one. So what is told of them has its mark.
+-- A regular expression in a tree stands where a lexeme does, and so does a name of a member; a template's part stands between the delimiters of one. So what is told of them has its mark; what is told of keys has it by `KeyMarks`.
 use Rattle.std.proofs.Common.{ℕ, ◌≡◌, Bool, true, false, not, cond, ◌||◌, List, [], ◌++◌, Option, Some, None, nat_eq, ◌&&◌, ◌≤◌, ◌+◌, ◌-◌, arith, refl, sym, ap, subst, ◌∙◌}
 use Rattle.std.specs.List.{All}
-use Rattle.std.specs.Prelude.{is_some, IsTrue}
+use Rattle.std.specs.Prelude.{is_some, IsTrue, IsUtf8}
 use Rattle.std.proofs.lemmas.Bool.{false≢true, not-true, and_parts, eqb-true}
 use Rattle.std.proofs.lemmas.List.Elements.{All-nil, All-cons, All-append}
 use Rattle.js_base.specs.part_text.Decoding.{cooked}
 use Rattle.js_base.specs.Spans.{LiesIn}
 use Rattle.js_base.specs.declared.diagnostic.DiagnosticKind.{DiagnosticKind}
 use Rattle.js_base.specs.declared.diagnostic.DiagnosticKind.TheVariants.{RegExpFlagUAndV, TemplateLiteral, PrivateNameConstructor, StaticPrototype, FieldConstructor, ConstructorAccessor, ConstructorGetterSetter, ConstructorAsync, ConstructorGenerator}
-use Rattle.js_grammar.specs.Trees.{NodeKind, reg_exp_literal, template_element, identifier_name, string_literal, private_identifier, function_expression, arrow_function_expression, Label, Op, Span, Slots, end, hole, tree, Tree, append}
+use Rattle.js_grammar.specs.Trees.{NodeKind, reg_exp_literal, template_element, with_clause, identifier_name, string_literal, private_identifier, function_expression, arrow_function_expression, Label, Op, Span, Slots, end, hole, tree, Tree, append}
 use Rattle.js_grammar.specs.Grammar.{Look, seen, Extent, exact, inside, whole_text, Make, Lexeme, Lexemes, next, lexeme, ahead, seq, alt, when, many, commas, marked, node, ended, keep, span_of, label_of, commas_once, Takes, Derives, is_nothing, is_lexeme, is_look, is_text, is_ahead, is_empty_slot, is_seq, is_left, is_right, is_when, is_many, is_commas, is_such, is_marked, is_node, is_ended, is_keep, is_kept, nothing, never, look, text, empty_slot, such, kept}
 use Rattle.js_grammar.specs.Lexed.{Lexes}
 use Rattle.js_grammar.specs.Productions.{G, Flags, Name, Symbol, at, with_pife, Program}
@@ -22,7 +22,9 @@ use Rattle.js_grammar.proofs.CoverInitialisers.{Led, line_marked}
 use Rattle.js_grammar.proofs.Renamed.{remarked, first_of, second_of, mark_of}
 use Rattle.js_grammar.proofs.Finding.{holds_if}
 use Rattle.js_tree.specs.Covering.{placed}
+use Rattle.js_parser.specs.AttributeKeys.{told_of_keys, keys_in, is_clause}
 use Rattle.js_parser.specs.Broken.{past, within as inner, broken_rule, told_rule, told_here, told_in, fault_at, name_fault, told_fault}
+use Rattle.js_parser.proofs.KeyMarks.{KeysMarked, Clauses, clauses_marked}
 use Rattle.js_parser.proofs.MemberNames.{each_told_at, is_name_kind, unnamed}
 use Rattle.js_parser.specs.FlagScans.{has_both}
 use Rattle.js_parser.specs.NodeSpans.{SlotsLie}
@@ -220,13 +222,18 @@ module _ (goal : Goal) (text : List ℕ) where
       go true q = let x = e.0 q in each_told_at (Mark goal text) (placed k.span) (one PrivateNameConstructor (λ y. (y, (refl, refl))) x) (one StaticPrototype (λ y. (y, (refl, refl))) x) (one FieldConstructor (λ y. (y, (refl, refl))) x) (one ConstructorAccessor (λ y. (y, (refl, refl))) x) (one ConstructorGetterSetter (λ y. (y, (refl, refl))) x) (one ConstructorAsync (λ y. (y, (refl, refl))) x) (one ConstructorGenerator (λ y. (y, (refl, refl))) x) text l (tree k ks us)
       go false q = subst (λ (r : Option DiagnosticKind). All (Mark goal text) (told_fault (fault_at r (placed k.span)))) (sym (unnamed text l k ks us (name_lexical k.kind q))) (All-nil (Mark goal text))
 
-  all_marked : (p : Position) (us : Slots) → Each Edged us → SlotsLie text us → All (Mark goal text) (told_in text p us)
-  all_marked p end e h = All-nil (Mark goal text)
-  all_marked p (hole us) e h = all_marked p us e h
-  all_marked p (tree l cs us) e h =
-      All-append (Mark goal text) (told_here text p l cs) (told_in text (inner p l.kind) cs ++ told_in text (past p) us)
-      (All-append (Mark goal text) (told_rule (broken_rule p l.kind (characters_at text l)) (placed l.span)) (told_fault (name_fault text l cs)) (own_marked p l.kind (characters_at text l) l.span e.0 h.0) (name_marked l cs e.1.0 h.1))
-      (All-append (Mark goal text) (told_in text (inner p l.kind) cs) (told_in text (past p) us) (all_marked (inner p l.kind) cs e.1.0 h.1) (all_marked (past p) us e.1.1 h.2))
+  of_keys_marked : (k : NodeKind) (cs : Slots) → (is_clause k ≡ true → KeysMarked goal text cs) → SlotsLie text cs → All (Mark goal text) (told_of_keys text k (keys_in cs))
+  of_keys_marked with_clause cs f h = f refl h
+  of_keys_marked k cs f h = All-nil (Mark goal text)
 
-  pub told_marked : (f : Flags) (t : Tree) {i j : ℕ} {ls rest : Lexemes} → Lexes (Led text) i ls → Derives rule (at Program f) t i ls j rest → SlotsLie text t.slots → All (Mark goal text) (told_in text Anywhere t.slots)
-  told_marked f t l d h = all_marked Anywhere t.slots (each_in Edged (Led text) edged d (rule_fits (at Program f)) l tt tt).1.0 h
+  all_marked : (p : Position) (us : Slots) → Each Edged us → Clauses goal text us → SlotsLie text us → All (Mark goal text) (told_in text p us)
+  all_marked p end e c h = All-nil (Mark goal text)
+  all_marked p (hole us) e c h = all_marked p us e c h
+  all_marked p (tree l cs us) e c h =
+      All-append (Mark goal text) (told_here text p l cs) (told_in text (inner p l.kind) cs ++ told_in text (past p) us)
+      (All-append (Mark goal text) (told_rule (broken_rule p l.kind (characters_at text l)) (placed l.span)) (told_fault (name_fault text l cs) ++ told_of_keys text l.kind (keys_in cs)) (own_marked p l.kind (characters_at text l) l.span e.0 h.0)
+      (All-append (Mark goal text) (told_fault (name_fault text l cs)) (told_of_keys text l.kind (keys_in cs)) (name_marked l cs e.1.0 h.1) (of_keys_marked l.kind cs c.0 h.1)))
+      (All-append (Mark goal text) (told_in text (inner p l.kind) cs) (told_in text (past p) us) (all_marked (inner p l.kind) cs e.1.0 c.1.0 h.1) (all_marked (past p) us e.1.1 c.1.1 h.2))
+
+  pub told_marked : (f : Flags) (t : Tree) {j : ℕ} {ls rest : Lexemes} → IsUtf8 text → Lexes (Led text) 0 ls → Derives rule (at Program f) t 0 ls j rest → SlotsLie text t.slots → All (Mark goal text) (told_in text Anywhere t.slots)
+  told_marked f t u l d h = all_marked Anywhere t.slots (each_in Edged (Led text) edged d (rule_fits (at Program f)) l tt tt).1.0 (clauses_marked goal text f t u l d) h

@@ -23,7 +23,7 @@ use Rattle.js_tree.specs.declared.kind.NodeKind.{NodeKind as NodeKind'}
 use Rattle.js_tree.specs.declared.kind.NodeKind.TheVariants as node
 use Rattle.js_core.specs.laws_shared.NodeTexts.{NodeFits, Texted, IsKept, IsKeptPrivate}
 use Rattle.js_parser.specs.MemberNodes.{is_small}
-use Rattle.js_grammar.specs.EarlyRules.{is_named, is_private_constructor, same_value}
+use Rattle.js_grammar.specs.EarlyRules.{is_named, key_units, is_private_constructor, same_value}
 use Rattle.js_grammar.proofs.CoreOmission.{one_truth}
 use Rattle.js_parser.proofs.Cooked.{feeds}
 
@@ -152,6 +152,10 @@ spelling (Some ps) name s e = go (list_all is_scalar ps) e
 abbrev points_value : Option (List ℕ) → Option (List ℕ)
 points_value v = elim v [ None ↦ None | Some cs ↦ Some (code_units cs) ]
 
+-- the value of a word as a key
+word_units : (text : List ℕ) (k : NodeKind) (o : Op) (n : ℕ) (s : Span) (ps : List ℕ) → k ≡ identifier_name → name_points (chars (slice_range text s.from s.to)) ≡ Some ps → key_units text (record { kind = k; op = o; flags = n; span = s }) ≡ Some (code_units ps)
+word_units text k o n s ps e p = subst (λ (j : NodeKind). key_units text (record { kind = j; op = o; flags = n; span = s }) ≡ Some (code_units ps)) (sym e) (ap points_value p)
+
 word_named : (text name : List ℕ) (k : NodeKind) (o : Op) (n : ℕ) (s : Span) (ps : List ℕ) → k ≡ identifier_name → name_points (chars (slice_range text s.from s.to)) ≡ Some ps → is_named text k name (record { kind = k; op = o; flags = n; span = s }) ≡ bytes_eq (code_units ps) name
 word_named text name k o n s ps e p = subst (λ (j : NodeKind). is_named text j name (record { kind = j; op = o; flags = n; span = s }) ≡ bytes_eq (code_units ps) name) (sym e) (ap (λ (v : Option (List ℕ)). same_value (points_value v) (Some name)) p)
 
@@ -170,27 +174,44 @@ module _ (text : List ℕ) (n : Node) (u : IsUtf8 text) (fits : NodeFits text n)
   utf8 : IsUtf8 (text_of n text)
   utf8 = IsUtf8-between text n.span.start n.span.end u fits.lies.ordered fits.lies.starts_whole fits.lies.ends_whole
 
+  module _ (k : n.kind ≡ node.IdentifierName) where
+    kept : IsKept n.name cs
+    kept = subst (λ (j : NodeKind'). Texted j n.name cs) k fits.texted
+
+    -- a word that is written without an escape
+    plain_points : is_some n.name ≡ false → name_points cs ≡ Some cs
+    plain_points e = points-plain in_name cs (none_escaped cs (sym kept.where_escaped ∙ e))
+
+    -- one with an escape
+    escaped_points : is_some n.name ≡ true → Spelling (name_points cs) n.name
+    escaped_points e = spelling (name_points cs) n.name e (kept.is ∙ ap (λ (t : Bool). cond t (name_text cs) None) (sym kept.where_escaped ∙ e))
+
+    -- the value of either as a key
+    pub plain_value : is_some n.name ≡ false → key_units text (label n) ≡ Some (code_units cs)
+    plain_value e = word_units text (label n).kind (label n).op (label n).flags (label n).span cs (ap kind_of k) (plain_points e)
+
+    pub escaped_value : is_some n.name ≡ true → (name : List ℕ) → IsUtf8 name → name ≡ name_of n text → key_units text (label n) ≡ Some (code_units (chars name))
+    escaped_value e name w i =
+        let s = escaped_points e in
+        let same : chars name ≡ s.word = encodes_same (chars name) s.word (encodes-chars name w ∙ (i ∙ s.name_is _)) in
+        word_units text (label n).kind (label n).op (label n).flags (label n).span s.word (ap kind_of k) s.points_are ∙ ap (λ (v : List ℕ). Some (code_units v)) (sym same)
+
   module _ (name : List ℕ) (small : list_all is_small name ≡ true) where
     abbrev is_it : Bool
     is_it = is_named text (kind_of n.kind) name (label n)
 
     module _ (k : n.kind ≡ node.IdentifierName) where
-      kept : IsKept n.name cs
-      kept = subst (λ (j : NodeKind'). Texted j n.name cs) k fits.texted
-
       -- a word that is written without an escape
       pub plain_word : is_some n.name ≡ false → bytes_eq (text_of n text) name ≡ is_it
       plain_word e =
-          let p : name_points cs ≡ Some cs = points-plain in_name cs (none_escaped cs (sym kept.where_escaped ∙ e)) in
           spelled_same (text_of n text) cs name small (sym (encodes-chars (text_of n text) utf8))
           ∙ (units_same cs name small
-          ∙ sym (word_named text name (label n).kind (label n).op (label n).flags (label n).span cs (ap kind_of k) p))
+          ∙ sym (word_named text name (label n).kind (label n).op (label n).flags (label n).span cs (ap kind_of k) (plain_points k e)))
 
       -- one with an escape
       pub escaped_word : is_some n.name ≡ true → bytes_eq (name_of n text) name ≡ is_it
       escaped_word e =
-          let b : has_backslash cs ≡ true = sym kept.where_escaped ∙ e in
-          let s = spelling (name_points cs) n.name e (kept.is ∙ ap (λ (t : Bool). cond t (name_text cs) None) b) in
+          let s = escaped_points k e in
           spelled_same (name_of n text) s.word name small (s.name_is _)
           ∙ (units_same s.word name small
           ∙ sym (word_named text name (label n).kind (label n).op (label n).flags (label n).span s.word (ap kind_of k) s.points_are))

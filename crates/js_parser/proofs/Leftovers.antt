@@ -1,18 +1,18 @@
 -- From what the cover grammar derives to readings: where no shorthand has an initialiser (ECMA-262, 13.2.5.1), and no early rule is broken.
 use Rattle.std.proofs.Common.{Bool, ℕ, ◌≡◌, ◌∙◌, ap, Option, inl, List, [], ◌∷◌, ◌++◌, map, cond, append-nil, true, false, refl, sym, subst}
 use Rattle.std.specs.List.{All}
-use Rattle.std.specs.Prelude.{None, Some, is_some}
+use Rattle.std.specs.Prelude.{None, Some, is_some, IsUtf8}
 use Rattle.std.proofs.lemmas.List.Elements.{All-nil, All-cons, All-head, All-tail, All-append, All-map, All-weaker}
 use Rattle.js_base.specs.declared.diagnostic.Diagnostic.{Diagnostic}
 use Rattle.js_base.specs.declared.diagnostic.DiagnosticKind.{DiagnosticKind}
-use Rattle.js_base.specs.declared.diagnostic.DiagnosticKind.TheVariants.{CoverInitializedName, RegExpFlagUAndV, TemplateLiteral}
+use Rattle.js_base.specs.declared.diagnostic.DiagnosticKind.TheVariants.{CoverInitializedName, Redeclaration, RegExpFlagUAndV, TemplateLiteral}
 use Rattle.js_base.specs.declared.diagnostic.DiagnosticClass.TheVariants.{Early}
 use Rattle.js_base.specs.part_text.Decoding.{cooked}
 use Rattle.js_base.specs.Diagnostics.{class_of}
 use Rattle.js_base.specs.declared.span.Span.{Span}
 use Rattle.js_base.specs.Spans.{LiesIn}
 use Rattle.js_grammar.specs.NodeNames.{characters_at}
-use Rattle.js_grammar.specs.Trees.{NodeKind, reg_exp_literal, template_element, Slots, end, hole, tree, Tree, Span as TreeSpan, program}
+use Rattle.js_grammar.specs.Trees.{NodeKind, reg_exp_literal, template_element, with_clause, Label, Slots, end, hole, tree, Tree, Span as TreeSpan, program}
 use Rattle.js_grammar.specs.Grammar.{Lexemes, last, next}
 use Rattle.js_grammar.specs.Lexed.{Lexes}
 use Rattle.js_grammar.specs.LexicalFaults.{Reached}
@@ -21,7 +21,7 @@ use Rattle.js_grammar.specs.CoverInitialisers.{initialised_in, with_cover}
 use Rattle.js_grammar.specs.Options.{Options}
 use Rattle.js_grammar.specs.Settings.{Goal}
 use Rattle.js_grammar.proofs.CoverInitialisers.{Each, Led, Marked, each_listed, initialisers_marked, program_loosely, program_strictly, strict_has_none, placed}
-use Rattle.js_grammar.specs.Productions.{Program}
+use Rattle.js_grammar.specs.Productions.{at, Program}
 use Rattle.js_tree.specs.Covering.{placed as made}
 use Rattle.js_tree.specs.Holding.{program_tree}
 use Rattle.js_cursor.specs.js_lex.declared.output.LexerOutput.{LexerOutput}
@@ -32,6 +32,7 @@ use Rattle.js_core.specs.laws_shared.Told.{unrelated_at}
 use Rattle.js_core.proofs.laws_shared.Kept.{faults_aside}
 use Rattle.js_core.proofs.laws_shared.Verdicts.{ending}
 use Rattle.js_core.specs.Kept.{IsKeptOf}
+use Rattle.js_parser.specs.AttributeKeys.{same_before, told_again, told_keys, told_of_keys, keys_in}
 use Rattle.js_parser.specs.Broken.{past, within, broken_rule, told_rule, told_here, told_in, name_fault, told_fault}
 use Rattle.js_parser.proofs.MemberNames.{each_told, no_member}
 use Rattle.js_parser.specs.FlagScans.{has_both}
@@ -40,6 +41,7 @@ use Rattle.js_parser.specs.declared.early.Position.TheVariants.{Anywhere, InTemp
 use Rattle.js_parser.specs.Leftover.{told_at, leftover, with_leftover}
 use Rattle.js_parser.specs.NodeSpans.{SlotsLie}
 use Rattle.js_core.specs.Readings.{parameters, AreRead, from_text_start, behind_a_hashbang, ReadingBy, IsOnlyReadingBy, HasNoReadingBy, IsOnlyReading, HasNoReading}
+use Rattle.js_parser.proofs.BuiltTrees.{derived_fine, named_fine}
 use Rattle.js_parser.proofs.EarlyErrors.{none_broken, nothing_told}
 use Rattle.js_core.proofs.Lists.{first_empty}
 use Rattle.js_parser.proofs.EarlyMarks.{told_marked}
@@ -63,7 +65,7 @@ module _ {text : List ℕ} {goal : Goal} {o : Options} where
   -- and no rule is broken
   pub only_read : {t : Tree} → told_in text Anywhere (tree t.label t.slots end) ≡ [] → initialised_in (tree t.label t.slots end) ≡ [] → IsOnlyReadingBy true text goal o t → IsOnlyReading text goal o t
   only_read {t} b e x = let y = only_strict e x in record {
-    reading = record { strict = y.reading; early = none_broken text t b };
+    reading = record { strict = y.reading; early = none_broken text t (named_fine (tree t.label t.slots end) (derived_fine (at Program (with_cover true (parameters goal o))) t refl ((x.reading).derived))) b };
     only = λ u r. y.only u r.strict;
   }
 
@@ -91,8 +93,8 @@ led_read text goal ls (behind_a_hashbang b) = subst (λ (v : Lexemes). Lexes (Le
 pub spans_marked : {text : List ℕ} {goal : Goal} {o : Options} {t : Tree} → ReadingBy true text goal o t → All (Marked text) (initialised_in (tree t.label t.slots end))
 spans_marked {text} {goal} {o} {t} r = initialisers_marked text (with_cover true (parameters goal o)) refl t (led_read text goal r.lexemes r.lexed) r.derived
 
-pub early_marked : {text : List ℕ} {goal : Goal} {o : Options} {t : Tree} → ReadingBy true text goal o t → SlotsLie text t.slots → All (Mark goal text) (told_in text Anywhere t.slots)
-early_marked {text} {goal} {o} {t} r h = told_marked goal text (with_cover true (parameters goal o)) t (led_read text goal r.lexemes r.lexed) r.derived h
+pub early_marked : {text : List ℕ} {goal : Goal} {o : Options} {t : Tree} → IsUtf8 text → ReadingBy true text goal o t → SlotsLie text t.slots → All (Mark goal text) (told_in text Anywhere t.slots)
+early_marked {text} {goal} {o} {t} u r h = told_marked goal text (with_cover true (parameters goal o)) t u (led_read text goal r.lexemes r.lexed) r.derived h
 
 -- the spans of nodes lie in the text
 abbrev Lies : List ℕ → TreeSpan → Type 0
@@ -116,7 +118,7 @@ pub in_program : (t : Tree) → t.label.kind ≡ program → initialised_in (tre
 in_program t k = rw k (append-nil (initialised_in t.slots))
 
 pub told_in_program : (text : List ℕ) (s : Span) (cs : Slots) → told_in text Anywhere (tree (program_tree s cs).label cs end) ≡ told_in text Anywhere cs
-told_in_program text s cs = ap (λ (v : Option Diagnostic). told_fault v ++ (told_in text Anywhere cs ++ [])) (no_member text (program_tree s cs).label cs refl) ∙ append-nil (told_in text Anywhere cs)
+told_in_program text s cs = ap (λ (v : Option Diagnostic). (told_fault v ++ []) ++ (told_in text Anywhere cs ++ [])) (no_member text (program_tree s cs).label cs refl) ∙ append-nil (told_in text Anywhere cs)
 
 -- what is told of the shorthands has its mark
 module _ (goal : Goal) (text : List ℕ) where
@@ -143,12 +145,25 @@ rule_early InTemplate template_element w s = one_early (is_some (cooked w))
     one_early false = All-cons IsEarly (unrelated_at TemplateLiteral s) [] refl (All-nil IsEarly)
 rule_early p k w s = All-nil IsEarly
 
+again_early : (k : Label) (o : Option Label) → All IsEarly (told_again k o)
+again_early k None = All-nil IsEarly
+again_early k (Some b) = All-cons IsEarly (record { kind = Redeclaration; span = made k.span; first = Some (made b.span); second = None }) [] refl (All-nil IsEarly)
+
+keys_early : (text : List ℕ) (before ks : List Label) → All IsEarly (told_keys text before ks)
+keys_early text before [] = All-nil IsEarly
+keys_early text before (k ∷ ks) = All-append IsEarly (told_again k (same_before text before k)) (told_keys text (k ∷ before) ks) (again_early k (same_before text before k)) (keys_early text (k ∷ before) ks)
+
+of_keys_early : (text : List ℕ) (k : NodeKind) (ks : List Label) → All IsEarly (told_of_keys text k ks)
+of_keys_early text with_clause ks = keys_early text [] ks
+of_keys_early text k ks = All-nil IsEarly
+
 pub all_early : (text : List ℕ) (p : Position) (us : Slots) → All IsEarly (told_in text p us)
 all_early text p end = All-nil IsEarly
 all_early text p (hole us) = all_early text p us
 all_early text p (tree l cs us) =
     All-append IsEarly (told_here text p l cs) (told_in text (within p l.kind) cs ++ told_in text (past p) us)
-    (All-append IsEarly (told_rule (broken_rule p l.kind (characters_at text l)) (made l.span)) (told_fault (name_fault text l cs)) (rule_early p l.kind (characters_at text l) (made l.span)) (each_told IsEarly (λ s. refl) (λ s. refl) (λ s. refl) (λ s. refl) (λ s. refl) (λ s. refl) (λ s. refl) text l cs))
+    (All-append IsEarly (told_rule (broken_rule p l.kind (characters_at text l)) (made l.span)) (told_fault (name_fault text l cs) ++ told_of_keys text l.kind (keys_in cs)) (rule_early p l.kind (characters_at text l) (made l.span))
+    (All-append IsEarly (told_fault (name_fault text l cs)) (told_of_keys text l.kind (keys_in cs)) (each_told IsEarly (λ s. refl) (λ s. refl) (λ s. refl) (λ s. refl) (λ s. refl) (λ s. refl) (λ s. refl) text l cs) (of_keys_early text l.kind (keys_in cs))))
     (All-append IsEarly (told_in text (within p l.kind) cs) (told_in text (past p) us) (all_early text (within p l.kind) cs) (all_early text (past p) us))
 
 told_early : (kind : DiagnosticKind) → class_of kind ≡ Early → (spans : List Span) → All IsEarly (told_at kind spans)

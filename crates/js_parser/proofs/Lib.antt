@@ -7,8 +7,14 @@ pub mod Broken
 pub mod Cooked
 pub mod KeyNames
 pub mod MemberNames
+pub mod AttributeKeys
+pub mod ClauseKeys
 mod NameExamples
+mod KeyExamples
 pub mod EarlyErrors
+pub mod PlainKinds
+pub mod KeyUnits
+pub mod KeyMarks
 pub mod EarlyMarks
 pub mod Leftovers
 pub mod BuiltTrees

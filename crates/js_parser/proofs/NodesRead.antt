@@ -1,57 +1,33 @@
 -- Each node of a tree that is derived from a text is read from it: a name there is well-formed, and a string literal is one.
-use Rattle.std.proofs.Common.{ℕ, ◌≡◌, ◌==◌, ◌++◌, drop, Bool, true, false, List, [], ◌∷◌, Option, Some, None, inl, inr, if◌then◌else◌, refl, sym, ap, subst, arith, ◌∙◌}
+use Rattle.std.proofs.Common.{ℕ, ◌≡◌, ◌==◌, ◌++◌, drop, Bool, true, false, List, [], ◌∷◌, Option, Some, None, if◌then◌else◌, refl, sym, ap, subst, arith, ◌∙◌}
 use Rattle.std.specs.Prelude.{chars, encode_utf8, encode_utf8_all, slice_range, IsSome, IsUtf8}
-use Rattle.std.proofs.lemmas.Bool.{false≢true, eqb-true}
+use Rattle.std.proofs.lemmas.Bool.{eqb-true}
 use Rattle.std.proofs.lemmas.Str.{IsUtf8-between, chars_past_char, encode_ascii, encodes-chars}
-use Rattle.js_base.specs.Kinds.{same_kind, one_of_kinds}
+use Rattle.js_base.specs.Kinds.{same_kind}
 use Rattle.js_base.proofs.KindLemmas.{kind_of_same}
-use Rattle.js_base.specs.KindSets.{identifier_name_kinds}
 use Rattle.js_base.specs.Spans.{LiesIn}
 use Rattle.js_base.specs.declared.kind.Kind.{Kind}
-use Rattle.js_base.specs.declared.kind.Kind.TheVariants.{PrivateIdentifier, RegExp, TemplateMiddle, TemplateTail, HashbangComment, Str}
+use Rattle.js_base.specs.declared.kind.Kind.TheVariants.{PrivateIdentifier, Str}
 use Rattle.js_base.specs.part_text.Characters.{is_decimal}
 use Rattle.js_base.specs.part_text.Decoding.{name_text}
 use Rattle.js_grammar.specs.Characters.{begins}
-use Rattle.js_grammar.specs.Grammar.{Look}
-use Rattle.js_grammar.specs.Lexemes.{LexicalGoal, division, regular_expression, template_tail, hashbang, Opening, a_name, a_private_name, is_word, kind_in, kind_of, opening}
+use Rattle.js_grammar.specs.Lexemes.{division, Opening, a_name, a_private_name, is_word, kind_in, kind_of, opening}
 use Rattle.js_grammar.specs.Names.{name_of, private_of}
 use Rattle.js_grammar.specs.NodeNames.{without_sign, IsReadAs, AreReadFrom}
 use Rattle.js_grammar.specs.Strings.{string_kind}
 use Rattle.js_grammar.specs.Trees.{NodeKind, identifier_reference, binding_identifier, label_identifier, identifier_name, private_identifier, string_literal, Op, Span, Slots, end, hole, tree}
-use Rattle.js_grammar.proofs.Looks.{covers, covered}
+use Rattle.js_grammar.proofs.Looks.{covered}
 use Rattle.js_cursor.proofs.js_lex.Given.{string_of_kind}
 use Rattle.js_cursor.proofs.js_lex.NamesGiven.{name_of_kind, name_stands_for, word_opened}
-use Rattle.js_cursor.proofs.part_words.KindsOfLexemes.{opened, opened_is, plain_end, pattern_is, tail_is, hashbang_is}
+use Rattle.js_cursor.proofs.part_words.KindsOfLexemes.{opened, opened_is, plain_end}
+use Rattle.js_parser.proofs.PlainKinds.{plainly, a_word, a_name_kind, words_are, same_opening}
 use Rattle.js_parser.specs.NodeSpans.{SlotsLie}
 use Rattle.js_parser.specs.SameSource.{IsOneLexeme, HasSource, HaveSources, source_of}
 
--- ---- the plain goal
-
--- a kind of no other goal is one of the plain goal
-plainly : (passes : Kind → Bool) → passes RegExp ≡ false → passes TemplateMiddle ≡ false → passes TemplateTail ≡ false → passes HashbangComment ≡ false
-    → (g : LexicalGoal) (w rest : List ℕ) (k : Kind) → kind_in g w rest ≡ Some k → passes k ≡ true → kind_in division w rest ≡ Some k
-plainly passes a b c d division w rest k h p = h
-plainly passes a b c d regular_expression w rest k h p = absurd (false≢true (sym a ∙ ap passes (sym (pattern_is w k h)) ∙ p))
-plainly passes a b c d template_tail w rest k h p = absurd (elim (tail_is w k h) [ inl e ↦ false≢true (sym b ∙ ap passes (sym e) ∙ p) | inr e ↦ false≢true (sym c ∙ ap passes (sym e) ∙ p) ])
-plainly passes a b c d hashbang w rest k h p = absurd (false≢true (sym d ∙ ap passes (sym (hashbang_is w k h)) ∙ p))
-
 -- ---- names
-
-abbrev a_word : Look
-a_word k w e = is_word k
-
-abbrev a_name_kind : Look
-a_name_kind k w e = one_of_kinds identifier_name_kinds k
-
-words_are : covers a_word a_name_kind ≡ true
-unfolding covers
-words_are = refl
 
 opens_sign : (d : Bool) → opening 35 d ≡ a_private_name
 opens_sign d = refl
-
-same_opening : (a b : Opening) → Some a ≡ Some b → a ≡ b
-same_opening a b e = cc
 
 names_apart : a_name ≡ a_private_name → ⊥
 names_apart e = absurd cc

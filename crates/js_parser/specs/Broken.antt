@@ -14,6 +14,7 @@ use Rattle.js_tree.specs.Covering.{placed}
 use Rattle.js_tree.specs.Labels.{kind_of}
 use Rattle.js_tree.specs.Nodes.{Node, label, node_at}
 use Rattle.js_tree.specs.Sources.{text_of}
+use Rattle.js_parser.specs.AttributeKeys.{told_of_keys, keys_in, told_keys_at, has_keys}
 use Rattle.js_parser.specs.FlagScans.{has_both}
 use Rattle.js_core.specs.laws_shared.Told.{unrelated_at}
 use Rattle.js_parser.specs.declared.early.Pending.{Pending}
@@ -78,7 +79,7 @@ told_fault (Some d) = d ∷ []
 
 -- of a node alone
 abbrev pub told_here : List ℕ → Position → Label → Slots → List Diagnostic
-told_here text p l cs = told_rule (broken_rule p l.kind (characters_at text l)) (placed l.span) ++ told_fault (name_fault text l cs)
+told_here text p l cs = told_rule (broken_rule p l.kind (characters_at text l)) (placed l.span) ++ (told_fault (name_fault text l cs) ++ told_of_keys text l.kind (keys_in cs))
 
 abbrev pub told_in : List ℕ → Position → Slots → List Diagnostic
 told_in text p end = []
@@ -103,11 +104,11 @@ abbrev pub rule_at : List ℕ → List Node → NodeId → Position → Option D
 rule_at text ns id p = broken_rule p (kind_of (node_at ns id).kind) (chars (text_of (node_at ns id) text))
 
 abbrev pub told_of : List ℕ → List Node → Pending → List Diagnostic
-told_of text ns n = told_rule (rule_at text ns n.id n.position) (node_at ns n.id).span ++ told_fault (name_fault_at text ns n.id)
+told_of text ns n = told_rule (rule_at text ns n.id n.position) (node_at ns n.id).span ++ (told_fault (name_fault_at text ns n.id) ++ told_keys_at text ns n.id)
 
--- whether the node breaks a rule where most is asked
+-- whether the node breaks a rule where most is asked, or has keys that may stand again
 abbrev pub breaks : List ℕ → List Node → NodeId → Bool
-breaks text ns id = is_some (rule_at text ns id InTemplate) || is_some (name_fault_at text ns id)
+breaks text ns id = is_some (rule_at text ns id InTemplate) || (is_some (name_fault_at text ns id) || has_keys ns id)
 
 -- the children whose number is below a bound, the last one first
 abbrev pub pending : Position → ℕ → List (Option NodeId) → List Pending

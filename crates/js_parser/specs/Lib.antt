@@ -1,6 +1,7 @@
 pub mod FlagScans
 pub mod Broken
 pub mod MemberNodes
+pub mod AttributeKeys
 pub mod Parsed
 pub mod Recorded
 pub mod NodeSpans

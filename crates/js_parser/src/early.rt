@@ -13,9 +13,11 @@ ghost use Rattle.js_parser.specs.declared.early.Position.TheVariants.{Anywhere, 
 ghost use Rattle.js_parser.specs.Broken as broken;
 ghost use Rattle.js_parser.specs.Broken.{past, within, rule_at, breaks, name_fault_at, told_of, told_fault, told_in, told_rule, pending, pending_within, pending_alike, first_end};
 ghost use Rattle.js_grammar.specs.EarlyRules.{is_member};
+ghost use Rattle.js_parser.specs.AttributeKeys.{is_clause};
 ghost use Rattle.js_core.specs.laws_shared.NodeTexts.{NodeFits};
 ghost use Rattle.js_core.specs.laws_shared.States.{NodesLie};
 
+use crate::attribute_keys::{has_keys, tell_keys};
 use crate::flags::has_u_and_v;
 use crate::member_names::name_fault;
 use js_base::{Diagnostic, DiagnosticKind, Diagnostics, NoMemory};
@@ -70,8 +72,8 @@ struct Pending {
 
 /// A diagnostic for each node of the tree that breaks a rule, in its order: a regular expression with the flags `u` and
 /// `v`, both (section 22.2.3.4), a part without a cooked text of a template that isn't tagged (sections 13.2.8.1 and
-/// 12.9.6.2), and a member of a class that may not be named as it is (section 15.7.1), which is told at its key. The only
-/// error is want of memory.
+/// 12.9.6.2), a member of a class that may not be named as it is (section 15.7.1), which is told at its key, and a key that
+/// stands again in its WithClause (section 16.2.2.1). The only error is want of memory.
 pub fn early_errors(alloc: Global, tree: &Tree, source: &str) -> Result<Diagnostics, NoMemory>
     requires { NodesLie source.now tree.now }
     ensures { IfOk result (λ told. (t : SeenTree) → IsTree tree.now t → told ≡ told_in source.now Anywhere t.slots) }
@@ -94,7 +96,8 @@ pub fn early_errors(alloc: Global, tree: &Tree, source: &str) -> Result<Diagnost
     Ok(told)
 }
 
-/// Whether any node breaks a rule where most is asked, in the tree or not. A walk of the tree is due only then.
+/// Whether any node breaks a rule where most is asked, or has keys that may stand again, in the tree or not. A walk of
+/// the tree is due only then.
 fn has_suspect(alloc: Global, tree: &Tree, source: &str) -> Result<bool, NoMemory>
     requires { NodesLie source.now tree.now }
     ensures some { IfOk result (λ found. found ≡ true → 0 < length tree.now) }
@@ -108,7 +111,7 @@ fn has_suspect(alloc: Global, tree: &Tree, source: &str) -> Result<bool, NoMemor
     Ok(false)
 }
 
-/// Whether the node breaks a rule where most is asked.
+/// Whether the node breaks a rule where most is asked, or has keys that may stand again.
 #[inline(always)]
 fn breaks_in_template(
     alloc: Global,
@@ -128,14 +131,15 @@ fn breaks_in_template(
         return Ok(true);
     }
     let fault = name_fault(alloc, tree, id, source)?;
-    Ok(fault.is_some())
+    Ok(fault.is_some() || has_keys(tree, id))
 }
 
-/// Whether a node of this kind breaks a rule, by what its text is and where it stands, or by its name.
+/// Whether a node of this kind breaks a rule, by what its text is and where it stands, by its name or by its keys.
 #[inline(always)]
 fn may_break(kind: NodeKind) -> bool
     ensures rule { result ≡ false → (p : Standing) (w : List ℕ) → broken.broken_rule p (kind_of kind) w ≡ None }
     ensures name { result ≡ false → is_member (kind_of kind) ≡ false }
+    ensures keys { result ≡ false → is_clause (kind_of kind) ≡ false }
 {
     matches!(
         kind,
@@ -144,6 +148,7 @@ fn may_break(kind: NodeKind) -> bool
             | NodeKind::MethodDefinition
             | NodeKind::PropertyDefinition
             | NodeKind::AccessorProperty
+            | NodeKind::WithClause
     )
 }
 
@@ -212,7 +217,8 @@ fn tell(
         return Ok(());
     }
     tell_rule(told, alloc, tree, node, source)?;
-    tell_name(told, alloc, tree, node.id, source)
+    tell_name(told, alloc, tree, node.id, source)?;
+    tell_keys(told, alloc, tree, node.id, source)
 }
 
 /// Tells that it breaks one by what its text is and where it stands.

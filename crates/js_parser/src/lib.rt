@@ -2,8 +2,10 @@
 #![tactic(auto)]
 
 mod answer;
+mod attribute_keys;
 mod early;
 mod flags;
+mod key_value;
 pub mod laws;
 mod member_names;
 mod parser;

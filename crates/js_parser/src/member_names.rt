@@ -68,7 +68,7 @@ fn member_key(tree: &Tree, id: NodeId) -> Option<NodeId>
 }
 
 /// The child in a slot of the node, if there is one.
-fn child_at(tree: &Tree, id: NodeId, slot: usize) -> Option<NodeId>
+pub fn child_at(tree: &Tree, id: NodeId, slot: usize) -> Option<NodeId>
     requires { id.0 < length tree.now }
     ensures is { result ≡ child_at tree.now id slot }
     ensures contained { (child : Id) → result ≡ Some child → child.0 < length tree.now }

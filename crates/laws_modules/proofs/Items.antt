@@ -1,6 +1,6 @@
 -- An item of a text: a declaration of an import, told outside modules, or an item of a list of statements (ECMA-262, 16.1, 16.2).
-use Rattle.std.proofs.Common.{ℕ, ◌≡◌, inl, inr, max, List, Bool, true, false, ◌||◌, IsTrue, refl, sym, ap, subst, arith, ◌∙◌}
-use Rattle.std.specs.Prelude.{◌↔◌, Result}
+use Rattle.std.proofs.Common.{ℕ, ◌≡◌, inl, inr, max, List, Bool, true, false, not, ◌||◌, IsTrue, refl, sym, ap, subst, arith, ◌∙◌}
+use Rattle.std.specs.Prelude.{◌↔◌, IfOk, Result, Ok, Err}
 use Rattle.std.proofs.lemmas.Bool.{or_right}
 use Rattle.js_base.specs.KindSets.{binding_identifier_kinds}
 use Rattle.js_base.specs.Kinds.{one_of_kinds}
@@ -24,7 +24,7 @@ use Rattle.laws_shared.specs.js_cursor.Moves.{KeepsDiagnostic}
 use Rattle.laws_shared.specs.js_cursor.Parsers.{Parser}
 use Rattle.laws_shared.specs.js_cursor.Starts.{is_module}
 use Rattle.laws_shared.specs.js_cursor.declared.stop.Stop.{Stop}
-use Rattle.laws_shared.specs.Answers.{Grown, Numbered, Stops, Stretch, Underived, Verdict, clean, unclean, wider}
+use Rattle.laws_shared.specs.Answers.{Grown, Numbered, Stops, Stretch, Underived, Verdict, clean, unclean, wider, Outcome}
 use Rattle.laws_shared.specs.Lexemes.{Lex}
 use Rattle.laws_shared.specs.States.{At, Same}
 use Rattle.laws_shared.specs.Statements.{NoStatement, Statement, StatementOutcome, after_statement, statement_kinds}
@@ -38,8 +38,12 @@ use Rattle.laws_primary.proofs.ImportWords.{module_so}
 use Rattle.laws_statements.proofs.Statements.{never_open, no_label_at, no_symbol, statement_fails}
 use Rattle.laws_statements.proofs.WordLookaheads.{no_async_here, no_let_here}
 use Rattle.laws_statements.proofs.StatementLists.{as_item}
-use Rattle.laws_modules.specs.Items.{BeginsImport, ChecksGoal, ImportHere, NoImportHere, outside_module}
-use Rattle.laws_modules.proofs.ImportOpenings.{no_declaration, no_expression}
+use Rattle.laws_shared.specs.js_cursor.Moves.{Peeks}
+use Rattle.laws_shared.specs.Stands.{StandsHere}
+use Rattle.js_base.specs.declared.token.Token.{Token}
+use Rattle.js_grammar.proofs.Looks.{apart, not_both}
+use Rattle.laws_modules.specs.Items.{BeginsImport, ChecksGoal, ImportHere, NoImportHere, import_links, import_openings, outside_module}
+use Rattle.laws_modules.proofs.ImportOpenings.{no_declaration, no_expression, peeked_none}
 
 -- what was told before what was read in wider forms
 told_before : {W K : Type 0} {p q r : List K} {C B D E : Type 0} → W → Grown p q → Verdict W q r C B → (C → D) → (B → E) → Verdict W p r D E
@@ -110,16 +114,20 @@ module _ {text : List ℕ} {f : Flags} {p : Parser} (a : At text f p) where
     read_said : is_module p.source_type ≡ true → {w : Parser} {id : NodeId} → kind_of (node_at w.nodes id).kind ≡ import_declaration → Numbered text f (at ImportDecl f) p w id → Statement text f (at Item f) p w id
     read_said i k x = taken {es = p.errors} x same_itself k (verdict_of x.answer.verdict (λ y. item_read (allowed i ∙ or_right f.wide true refl) y) (λ n. no_import_there n))
 
-    pub import_item : {q w : Parser} {id : NodeId} → ChecksGoal p q → kind_of (node_at w.nodes id).kind ≡ import_declaration → Numbered text f (at ImportDecl f) q w id → Statement text f (at Item f) p w id
+    import_item : {q w : Parser} {id : NodeId} → ChecksGoal p q → kind_of (node_at w.nodes id).kind ≡ import_declaration → Numbered text f (at ImportDecl f) q w id → Statement text f (at Item f) p w id
     import_item {q} {w} {id} (inl (i, k)) j x =
         let y = subst (λ (u : Parser). Numbered text f (at ImportDecl f) u w id) k.is x in
         taken y (subst (λ (u : Parser). Same p u) k.is (told_same k refl)) j (told_said y i (subst (λ (u : Parser). Grown p.errors u.errors) k.is (kept_one k)))
     import_item {q} {w} {id} (inr (i, k)) j x = read_said i j (subst (λ (u : Parser). Numbered text f (at ImportDecl f) u w id) k x)
 
-    pub import_stops : {q : Parser} (w : Parser) (e : Stop) → ChecksGoal p q → Stops q w e (Underived text (at ImportDecl f) q.prev_token_end) → Stops p w e (NoStatement text (at Item f) p.prev_token_end)
+    import_stops : {q : Parser} (w : Parser) (e : Stop) → ChecksGoal p q → Stops q w e (Underived text (at ImportDecl f) q.prev_token_end) → Stops p w e (NoStatement text (at Item f) p.prev_token_end)
     import_stops {q} w e (inl (i, k)) x =
         stops_behind w e (told_same k refl) (λ g. grown_both (kept_one k) g) (λ n. no_import_there n) (subst (λ (v : ℕ). Stops q w e (Underived text (at ImportDecl f) v)) (ap (λ (u : Parser). u.prev_token_end) k.is) x)
     import_stops {q} w e (inr (i, k)) x = stops_so p w e (λ n. no_import_there n) (subst (λ (u : Parser). Stops u w e (Underived text (at ImportDecl f) u.prev_token_end)) k x)
+
+    pub item_outcome : {q : Parser} (w : Parser) (r : Result NodeId Stop) → ChecksGoal p q → IfOk r (λ id. kind_of (node_at w.nodes id).kind ≡ import_declaration) → Outcome text f (at ImportDecl f) q w r → StatementOutcome text f (at Item f) p w r
+    item_outcome w (Ok id) c k x = import_item c k x
+    item_outcome w (Err e) c k x = import_stops w e c x
 
     pub checked_at : {q : Parser} → ChecksGoal p q → At text f q
     checked_at (inl (i, k)) = told_at k a
@@ -129,6 +137,20 @@ module _ {text : List ℕ} {f : Flags} {p : Parser} (a : At text f p) where
 pub goal_checked : (p q : Parser) (b : Bool) → IsTrue b ↔ (is_goal p.source_type ≡ source.Module) → (b ≡ false → KeepsDiagnostic (outside_module p.token.span) p q) → (b ≡ true → q ≡ p) → ChecksGoal p q
 goal_checked p q true h k e = inr (module_so p.source_type true h, e refl)
 goal_checked p q false h k e = inl (module_so p.source_type false h, k refl)
+
+-- what a peek behind the word tells
+pub by_peek : {p q : Parser} {t : Token} (b : Bool) → StandsHere p Import true → Peeks p t → q ≡ p → b ≡ one_of_kinds import_links t.kind → ImportHere p q (not b)
+unfolding apart
+by_peek {t = t} true s h e k = (e, inr (s, peeked_none import_openings refl h (apart_so (one_of_kinds import_openings t.kind) refl)))
+  where
+    apart_so : (c : Bool) → one_of_kinds import_openings t.kind ≡ c → c ≡ false
+    apart_so true i = absurd (not_both (λ k w e. one_of_kinds import_openings k) (λ k w e. one_of_kinds import_links k) refl t.kind false false i (sym k))
+    apart_so false i = refl
+by_peek false s h e k = (e, (s, peeked_none import_links refl h (sym k)))
+
+-- where it doesn't stand
+pub no_word : {p : Parser} → StandsHere p Import false → ImportHere p p false
+no_word s = (refl, inl s)
 
 -- whether one begins, as it is asked
 pub here_so : (p q : Parser) {r b : Bool} → r ≡ b → ImportHere p q r → ImportHere p q b

@@ -14,7 +14,7 @@ pub use Rattle.laws_modules.specs.Exports.{FindsFrom, NamesBindings, NoFromBehin
 pub use Rattle.laws_modules.specs.ImportClauses.{ImportsStop, ImportsTaken, NoOthers, OthersTaken, default_part, namespace_part}
 pub use Rattle.laws_modules.specs.ImportDeclarations.{FindsImports, ImportsEnd, import_label}
 pub use Rattle.laws_modules.specs.ImportSpecifiers.{BindsSingle, BoundMarked, IsExportName, ReadsBound, StringBound, specifier_label, string_bound, word_bound}
-pub use Rattle.laws_modules.specs.Items.{ChecksGoal, ImportHere, outside_module}
+pub use Rattle.laws_modules.specs.Items.{ChecksGoal, ImportHere, import_links, outside_module}
 pub use Rattle.laws_modules.specs.ModuleNames.{SpellsExport, TakesExportName, export_node, is_paired, lone_surrogate}
 pub use Rattle.laws_modules.specs.NameLists.{ListTaken, NoList, ReadsNamed, TakesListed}
 pub use Rattle.laws_modules.specs.Sources.{ReadsSource}

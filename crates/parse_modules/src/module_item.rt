@@ -2,7 +2,8 @@
 
 ghost use Rattle.std.specs.Prelude.{◌≡◌, ◌+◌, IfOk, MatchResult, true};
 ghost use Rattle.js_base.specs.Contexts.{has_flag, in_flag};
-ghost use Rattle.parse_modules.specs.Prelude.{at, CanNest, ChecksGoal, goal, ImportHere, IsAt, Item, Mark, OnlyMemory, outside_module, room, Standing, TakesStatement};
+ghost use Rattle.js_base.specs.Kinds.{one_of_kinds};
+ghost use Rattle.parse_modules.specs.Prelude.{at, CanNest, ChecksGoal, goal, import_links, ImportHere, IsAt, Item, Mark, OnlyMemory, outside_module, room, Standing, TakesStatement};
 
 use crate::import_declaration::parse_import_declaration;
 use js_base::{DiagnosticKind, Kind, NoMemory};
@@ -40,7 +41,14 @@ fn import_stands<C: ParserConfig>(p: &mut ParserImpl<'_, C>) -> Result<bool, Sto
         return Ok(false);
     }
     let next = p.peek_token()?;
-    Ok(!matches!(next.kind(), Kind::LParen | Kind::Dot))
+    Ok(!is_link(next.kind()))
+}
+
+/// Whether an expression goes on behind `import` with a lexeme of this kind (ECMA-262, sections 13.3.10 and 13.3.12).
+fn is_link(kind: Kind) -> bool
+    ensures { result ≡ one_of_kinds import_links kind }
+{
+    matches!(kind, Kind::LParen | Kind::Dot)
 }
 
 /// Tells of a declaration that begins here in a text that is no module.
