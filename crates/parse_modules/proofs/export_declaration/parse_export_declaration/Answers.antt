@@ -1,13 +1,12 @@
 use Rattle.std.proofs.Common.{ap, arith, refl, sym, ◌∙◌}
 use Rattle.js_base.specs.Contexts.{has_flag, in_flag}
-use Rattle.js_base.specs.declared.kind.Kind.TheVariants.{Export, LCurly, Star}
+use Rattle.js_base.specs.declared.kind.Kind.TheVariants.{Export}
 use Rattle.laws_modules.specs.laws_primary.laws_shared.Lexemes.{keyword_kind}
 use Rattle.laws_modules.proofs.laws_primary.Functions.{room_less}
 use Rattle.laws_modules.proofs.laws_primary.laws_shared.Escapes.{keyword_is}
 use Rattle.laws_modules.proofs.laws_primary.laws_shared.Moving.{standing}
 use Rattle.laws_modules.proofs.laws_primary.laws_shared.Nesting.{nests_later}
 use Rattle.laws_modules.proofs.laws_primary.laws_shared.Signs.{whole_sign}
-use Rattle.laws_modules.proofs.ExportedLines.{no_other_export}
 use Rattle.parse_modules.proofs.export_declaration.parse_export_declaration.Goals as goal
 
 pub advance-requires-clause-whole : goal.advance-requires-clause-whole

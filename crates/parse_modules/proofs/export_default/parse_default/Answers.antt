@@ -1,4 +1,4 @@
-use Rattle.std.proofs.Common.{◌≡◌, true, false, ap, arith, subst, sym, ◌∙◌}
+use Rattle.std.proofs.Common.{ap, arith, subst, sym, ◌∙◌}
 use Rattle.js_base.specs.Contexts.{has_flag, in_flag}
 use Rattle.laws_modules.specs.ExportDefaults.{default_exported}
 use Rattle.laws_modules.specs.laws_primary.Functions.{NoFunctionHere}

@@ -1,6 +1,5 @@
 use Rattle.std.proofs.Common.{arith}
 use Rattle.std.proofs.lemmas.Result.{err_from_is_err_and}
-use Rattle.laws_modules.proofs.laws_primary.laws_shared.Nesting.{nests_later}
 use Rattle.laws_modules.proofs.laws_primary.laws_shared.js_tree.HoldingLemmas.{Holds-below}
 use Rattle.laws_modules.proofs.ExportDefaults.{class_stops, class_taken}
 use Rattle.parse_modules.proofs.export_default.parse_default_class.Goals as goal
