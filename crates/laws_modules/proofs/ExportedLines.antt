@@ -1,8 +1,7 @@
 -- The lines of an export declaration (ECMA-262, 16.2.3): which of them is left, by what stands behind `export`; and the answer of one with a single child.
-use Rattle.std.proofs.Common.{ℕ, ◌≡◌, List, [], ◌∷◌, length, Some, true, false, refl, ap, subst, ◌∙◌}
+use Rattle.std.proofs.Common.{ℕ, ◌≡◌, List, [], ◌∷◌, length, Some, true, false, refl, ap, subst}
 use Rattle.std.proofs.lemmas.Bool.{and_parts}
 use Rattle.js_base.specs.Kinds.{one_of_kinds}
-use Rattle.js_base.specs.declared.kind.Kind.{Kind}
 use Rattle.js_base.specs.declared.kind.Kind.TheVariants.{Default, Export, LCurly, Star}
 use Rattle.js_base.specs.declared.span.Span.{Span}
 use Rattle.js_grammar.specs.Conditions.{ends_in_sub}
@@ -34,9 +33,7 @@ use Rattle.laws_shared.proofs.Giving.{fails_at_word}
 use Rattle.laws_shared.proofs.MadeNodes.{one_held, one_lies}
 use Rattle.laws_shared.proofs.Moving.{same_both, stops_behind}
 use Rattle.laws_shared.proofs.Paths.{Path, ◌⟶◌, ◌⟶✗◌, ◌⟼◌, at_kind, by_symbol_as, fails_at, label_here, noded_by, token}
-use Rattle.laws_shared.proofs.Signs.{other_kind}
 use Rattle.laws_shared.proofs.Verdicts.{grown_then}
-use Rattle.laws_primary.proofs.Operands.{not_same}
 use Rattle.laws_statements.proofs.Statements.{by_such_statement, never_open}
 use Rattle.laws_modules.specs.Exports.{all_line, from_line, named_line}
 use Rattle.laws_modules.specs.ExportedDeclarations.{NoUnlinked, UnlinkedTaken, exported, other_exports}
@@ -94,10 +91,6 @@ module _ {text : List ℕ} {f : Flags} {o p : Parser} (a : At text f o) (h : Sta
           let held : Holds q.nodes (length o.nodes) (length q.nodes) child.0 x.label x.slots = subst (λ (ns : List Node). Holds q.nodes (length ns) (length q.nodes) child.0 x.label x.slots) m.nodes x.holds in
           let keeps : Keeps o.nodes q.nodes = subst (λ (ns : List Node). Keeps ns q.nodes) m.nodes x.keeps in
           by_such_statement line_path (never_open (label_here (kind_of k) no_op o q) (tree x.label x.slots end) c) (same_both m.same x.same) made.stays (one_held o.nodes made held) (Keeps-trans keeps (Keeps-made made.made)) refl (one_lies made)
-
--- what is none of these
-pub no_other_export : (k : Kind) → (k ≡ Star → ⊥) → (k ≡ LCurly → ⊥) → (k ≡ Default → ⊥) → one_of_kinds other_exports k ≡ false
-no_other_export k a b c = not_same Star k _ a ∙ (not_same LCurly k _ b ∙ other_kind Default k c)
 
 -- ---- the answers
 
