@@ -93,7 +93,7 @@ fn parse_default_class<C: ParserConfig, N: Nested<C>>(
 }
 
 /// Makes the node of a class anew, as that of a declaration.
-fn declare_class<C: ParserConfig>(
+pub(crate) fn declare_class<C: ParserConfig>(
     p: &mut ParserImpl<'_, C>,
     start: u32,
     class: NodeId,

@@ -2,6 +2,7 @@
 #![tactic(auto)]
 
 pub mod attributes;
+pub mod decorated_export;
 pub mod export_all;
 pub mod export_declaration;
 pub mod export_default;
