@@ -1,4 +1,4 @@
--- From core lexemes the productions that are built and the core grammar derive the same.
+-- From core lexemes the table and the core grammar derive the same.
 use Rattle.std.proofs.Common.{ℕ, ◌≡◌, Bool, true, false, not, cond, ◌||◌, List, [], ◌∷◌, IsTrue, refl, sym, subst}
 use Rattle.std.proofs.lemmas.Bool.{false≢true, not-true, or_left, or_right, and_parts, and_from}
 use Rattle.js_base.specs.declared.kind.Kind.{Kind}

@@ -1,8 +1,8 @@
--- The core grammar is what is left of the whole one on core lexemes, line by line, and of the productions that are built.
+-- The core grammar is what is left of the whole one on core lexemes, line by line.
 use Rattle.std.specs.Prelude.{Bool, true, false, not, ◌||◌}
 use Rattle.js_grammar.specs.Grammar.{Grammar, never, ◌◇◌}
 use Rattle.js_grammar.specs.Productions.{Flags, Name, Program, ForInit, Element, DecoratorMember, Property, TargetProperty, PatternProperty, Spec, ExportName, Attr, LooseHead}
-use Rattle.js_grammar.specs.Table.{rule_of, unbuilt_of}
+use Rattle.js_grammar.specs.Table.{rule_of}
 use Rattle.js_grammar.specs.Pruning.{is_never, alt_of, pruned}
 use Rattle.js_grammar.specs.CoreGrammar.{core_kinds, core_of, dead, needs_more, stands_inside}
 use Rattle.std.proofs.Common.{refl, sym, ap, ◌∙◌, ◌≡◌}
@@ -23,19 +23,6 @@ core_at ExportName f h = absurd (false≢true (sym h))
 core_at Attr f h = absurd (false≢true (sym h))
 core_at LooseHead f h = absurd (false≢true (sym h))
 core_at n f h = refl
-
--- with the lines that aren't built
-unbuilt_at : (n : Name) (f : Flags) → pruned dead core_kinds (unbuilt_of n f) ≡ never
-unfolding unbuilt_of
-unbuilt_at Program f = refl
-unbuilt_at n f = refl
-
-or_never : {N : Type 0} (g : Grammar N) → alt_of g never ≡ g
-or_never never = refl
-or_never g = refl
-
-pub whole_at : (n : Name) (f : Flags) → stands_inside n ≡ false → pruned dead core_kinds (rule_of n f ◇ unbuilt_of n f) ≡ core_of n f
-whole_at n f h = ap (λ g. alt_of (pruned dead core_kinds (rule_of n f)) g) (unbuilt_at n f) ∙ (or_never (pruned dead core_kinds (rule_of n f)) ∙ core_at n f h)
 
 -- Where a nonterminal needs another lexeme, nothing is left.
 dead_check : (n : Name) (f : Flags) → (not (needs_more n) || is_never (pruned dead core_kinds (rule_of n f))) ≡ true

@@ -14,8 +14,6 @@ use Rattle.js_grammar.specs.CoreTexts.{CoreSource}
 use Rattle.js_grammar.specs.CoreReadings.{core_options, IsReading, AllCore, CoreDerivations}
 use Rattle.js_grammar.specs.CoreLaws.{SameForCore, CoreParameters, Validity}
 use Rattle.js_grammar.specs.Readings.{IsWhole, whole_by}
-use Rattle.js_grammar.specs.TableLaws.{begins_unbuilt, BeginNoUnbuilt}
-use Rattle.js_grammar.proofs.BuiltLines.{in_whole, by_built}
 use Rattle.js_grammar.proofs.CoreDerivations.{core_derives, every_at}
 use Rattle.js_grammar.proofs.CoreLexed.{core_lexemes, are_pieces, pieces_lexed}
 use Rattle.js_grammar.proofs.CoreParameters.{same_parameters}
@@ -29,16 +27,11 @@ to_whole {f} {g} s t {i} {j} {ls} {rest} c d = (core_derives (at Program g) t i 
 pub to_core : {f g : Flags} → SameForCore f g → (t : Tree) {i j : ℕ} {ls rest : Lexemes} → AllCore ls → Derives rule (at Program f) t i ls j rest → Derives core_rule (at Program g) t i ls j rest
 to_core {f} {g} s t {i} {j} {ls} {rest} c d = same_parameters (at Program f) (at Program g) (refl, refl, λ k. record g { in_ = sym s.in_ k; v8 = sym s.v8 k; wide = sym s.wide k }) t c ((core_derives (at Program f) t i j ls rest refl c).0 d)
 
--- no core lexeme begins a line that isn't built
-begin_no_unbuilt : (ls : Lexemes) → AllCore ls → BeginNoUnbuilt ls
-begin_no_unbuilt (last x) c = every_at (λ k. not (begins_unbuilt k)) core_kinds x.kind (and_parts _ _ c).0 refl
-begin_no_unbuilt (next x ls) c = (every_at (λ k. not (begins_unbuilt k)) core_kinds x.kind (and_parts _ _ c.0).0 refl, begin_no_unbuilt ls c.1)
-
 pub core_in_whole : CoreDerivations
-core_in_whole n t i j ls rest h c = let both = core_derives n t i j ls rest h c in (λ d. both.0 (by_built n t (begin_no_unbuilt ls c) d), λ d. in_whole n t (both.1 d))
+core_in_whole n t i j ls rest h c = core_derives n t i j ls rest h c
 
 pub core_parameters : CoreParameters
-core_parameters f g t i j ls rest s c d = in_whole (at Program g) t (to_whole (record { in_ = refl; v8 = refl; wide = refl }) t c (to_core s t c (by_built (at Program f) t (begin_no_unbuilt ls c) d)))
+core_parameters f g t i j ls rest s c d = to_whole (record { in_ = refl; v8 = refl; wide = refl }) t c (to_core s t c d)
 
 module _ {text : List ℕ} (goal : Goal) (o : Options) (u : IsUtf8 text) (s : CoreSource text) where
   whole : (t : Tree) → IsReading text o.allow_v8 (without_pure t) → IsWhole Program text goal o t
@@ -51,7 +44,7 @@ module _ {text : List ℕ} (goal : Goal) (o : Options) (u : IsUtf8 text) (s : Co
           lexed = pieces_lexed goal u r.core r.lexed;
           end = r.end;
           final = r.final;
-          derived = in_whole (at Program (program_flags goal o)) (without_pure t) (to_whole (record { in_ = refl; v8 = refl; wide = refl }) (without_pure t) (core_lexemes text u s script r.lexemes (pieces_lexed script u r.core r.lexed)) r.derived);
+          derived = to_whole (record { in_ = refl; v8 = refl; wide = refl }) (without_pure t) (core_lexemes text u s script r.lexemes (pieces_lexed script u r.core r.lexed)) r.derived;
         };
         early = early_spared text t h;
         exports = differ_by_record text t (record_spared text t h);
@@ -64,7 +57,7 @@ module _ {text : List ℕ} (goal : Goal) (o : Options) (u : IsUtf8 text) (s : Co
     lexed = are_pieces u s d.lexed;
     end = d.end;
     final = d.final;
-    derived = let c = core_lexemes text u s goal d.lexemes d.lexed in to_core (record { in_ = refl; v8 = refl; wide = refl }) (without_pure t) c (by_built (at Program (program_flags goal o)) (without_pure t) (begin_no_unbuilt d.lexemes c) d.derived);
+    derived = let c = core_lexemes text u s goal d.lexemes d.lexed in to_core (record { in_ = refl; v8 = refl; wide = refl }) (without_pure t) c d.derived;
   }
 
   pub core_validity : o.preserve_parens ≡ true → Validity text goal o

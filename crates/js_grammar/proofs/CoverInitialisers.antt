@@ -16,7 +16,6 @@ use Rattle.js_base.specs.Kinds.{same_kind}
 use Rattle.js_grammar.specs.LexicalFaults.{Reached}
 use Rattle.js_grammar.proofs.Behind.{lexed_behind}
 use Rattle.js_grammar.proofs.Renamed.{renamed, remarked, first_of, second_of, symbol_of, mark_of}
-use Rattle.js_grammar.proofs.BuiltLines.{in_whole}
 use Rattle.js_grammar.proofs.Loose.{strict_is_cover, strict_is_loose, is_property_line}
 use Rattle.js_grammar.proofs.Finding.{either_of}
 
@@ -504,7 +503,7 @@ marked_at w f c l cs i j ls rest m d e =
       flags = f;
       tree = record { label = l; slots = cs };
       rest = rest;
-      derived = in_whole (at Property (loose f)) (record { label = l; slots = cs }) (strict_is_loose (at Property f) (record { label = l; slots = cs }) d);
+      derived = strict_is_loose (at Property f) (record { label = l; slots = cs }) d;
       passes = x.0;
     })
 

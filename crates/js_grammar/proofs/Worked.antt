@@ -20,7 +20,7 @@ use Rattle.js_grammar.specs.Settings.{Goal}
 use Rattle.js_grammar.specs.Options.{program_flags}
 use Rattle.js_grammar.specs.Productions.{Symbol, Program, Expression, at}
 use Rattle.js_grammar.specs.Readings.{IsDerived}
-use Rattle.js_grammar.specs.Table.{whole}
+use Rattle.js_grammar.specs.Table.{rule}
 use Rattle.js_grammar.proofs.LongestLemmas.{both}
 use Rattle.js_grammar.proofs.Places.{At, at-chars, at-behind}
 use Rattle.js_grammar.proofs.Standing.{lexeme_of, stand}
@@ -115,18 +115,18 @@ is_last (next x ls) = false
 
 -- the symbol derives the tree from all of these lexemes but the last
 abbrev pub derives : Symbol → Lexemes → Label → Slots → Bool
-derives n ls l cs = check whole 40 undo_pife 300 n l cs 0 ls (λ j rest. is_last rest)
+derives n ls l cs = check rule 40 undo_pife 300 n l cs 0 ls (λ j rest. is_last rest)
 
 -- it does, up to the last one
 pub record DerivesAll (n : Symbol) (ls : Lexemes) (t : Tree) : Type 0 where
   pub end : ℕ
   pub final : Lexeme
-  pub derived : Derives whole n t 0 ls end (last final)
+  pub derived : Derives rule n t 0 ls end (last final)
 
 pub derives_right : (n : Symbol) (ls : Lexemes) (l : Label) (cs : Slots) → derives n ls l cs ≡ true → DerivesAll n ls (record { label = l; slots = cs })
-derives_right n ls l cs e = let d = checked whole 40 undo_pife 300 n l cs 0 ls (λ j rest. is_last rest) e in go d.0 d.1 d.2 d.3
+derives_right n ls l cs e = let d = checked rule 40 undo_pife 300 n l cs 0 ls (λ j rest. is_last rest) e in go d.0 d.1 d.2 d.3
   where
-    go : (j : ℕ) (rest : Lexemes) → Derives whole n (record { label = l; slots = cs }) 0 ls j rest → is_last rest ≡ true → DerivesAll n ls (record { label = l; slots = cs })
+    go : (j : ℕ) (rest : Lexemes) → Derives rule n (record { label = l; slots = cs }) 0 ls j rest → is_last rest ≡ true → DerivesAll n ls (record { label = l; slots = cs })
     go j (last x) d q = record { end = j; final = x; derived = d }
     go j (next x more) d q = absurd (false≢true q)
 

@@ -16,7 +16,6 @@ use Rattle.js_grammar.specs.Settings.{script}
 use Rattle.js_grammar.specs.Options.{program_flags}
 use Rattle.js_grammar.specs.Readings.{IsDerived}
 use Rattle.js_grammar.specs.Table.{rule, rule_of}
-use Rattle.js_grammar.proofs.BuiltLines.{in_whole}
 use Rattle.js_grammar.specs.Longest.{joined}
 use Rattle.js_grammar.specs.Numbers.{stops_number}
 use Rattle.js_grammar.proofs.LongestLemmas.{both, both-left, both-right}
@@ -153,8 +152,8 @@ nested_arrays = record {
   lexed = record { lexes = all_right in_script brackets 0 (first 300 the_end) (others 300 the_end []) (spells_right brackets (characters (first 300 the_end) (others 300 the_end [])) refl) (pairs_stand 300 0 the_end [] refl (λ a. refl)); ends = refl };
   end = 600;
   final = end_at 600;
-  derived = in_whole (program_at script false false) _ (subst (λ (ls : Lexemes). Derives rule (program_at script false false) (record { label = label program no_op 0 0 600; slots = tree (label expression_statement no_op 0 0 600) (arrays 300 0) end }) 0 ls 600 (last (end_at 600))) (sym (pairs_are 300 0 the_end []))
-      (alone refl refl refl refl (expression (arrays_derived 299 0 (last (end_at 600))))));
+  derived = subst (λ (ls : Lexemes). Derives rule (program_at script false false) (record { label = label program no_op 0 0 600; slots = tree (label expression_statement no_op 0 0 600) (arrays 300 0) end }) 0 ls 600 (last (end_at 600))) (sym (pairs_are 300 0 the_end []))
+      (alone refl refl refl refl (expression (arrays_derived 299 0 (last (end_at 600)))));
 }
 
 -- Parentheses, in each an assignment, and in the innermost a number: `(a = ` so many times, `1`, and as many `)`.
@@ -319,7 +318,7 @@ nested_assignments = record {
   };
   end = 1801;
   final = end_at 1801;
-  derived = in_whole (program_at script false false) _ (subst (λ (ls : Lexemes). Derives rule (program_at script false false) (record { label = label program no_op 0 0 1801; slots = tree (label expression_statement no_op 0 0 1801) (tree (node_label 300 0) (node_slots 300 0) end) end }) 0 ls 1801 (last (end_at 1801)))
+  derived = subst (λ (ls : Lexemes). Derives rule (program_at script false false) (record { label = label program no_op 0 0 1801; slots = tree (label expression_statement no_op 0 0 1801) (tree (node_label 300 0) (node_slots 300 0) end) end }) 0 ls 1801 (last (end_at 1801)))
       (sym (ap (λ (ls : Lexemes). next (placed LParen 0 []) ls) (inside_are 299 0 the_end [] (assignments_are 299 4 shut (the_end ∷ [])))))
-      (alone refl refl refl refl (expression (assignments_derived 300 0 0 (last (end_at 1801))))));
+      (alone refl refl refl refl (expression (assignments_derived 300 0 0 (last (end_at 1801)))));
 }

@@ -12,7 +12,7 @@ use Rattle.js_grammar.specs.Lexemes.{division}
 use Rattle.js_grammar.specs.Lexed.{in_script}
 use Rattle.js_grammar.specs.Settings.{script}
 use Rattle.js_grammar.specs.Readings.{IsDerived}
-use Rattle.js_grammar.specs.Table.{rule_of, whole}
+use Rattle.js_grammar.specs.Table.{rule, rule_of}
 use Rattle.js_grammar.proofs.Places.{At}
 use Rattle.js_grammar.proofs.QuickLexemes.{trivia_stands}
 use Rattle.js_grammar.proofs.Worked.{Written, lexeme, lexeme_at, label, program_at, stands, stands_right}
@@ -57,9 +57,9 @@ stands_at n = trivia_true (trivia_stands true (pieces n) []) (trivia_of n)
     trivia_true : (b : Bool) → b ≡ true → (b && true) ≡ true
     trivia_true b h = rw h refl
 
-derived_to : (n : ℕ) → Derives whole (program_at script false false) (record { label = label program no_op 0 0 (lexeme_at 0 (the_end n)).to; slots = end }) 0 (last (lexeme_at 0 (the_end n))) 0 (last (lexeme_at 0 (the_end n)))
-unfolding whole rule_of
-derived_to n = is_left (is_node (is_seq (is_right is_nothing) (is_seq (is_many (is_right is_nothing)) (is_right is_nothing))))
+derived_to : (n : ℕ) → Derives rule (program_at script false false) (record { label = label program no_op 0 0 (lexeme_at 0 (the_end n)).to; slots = end }) 0 (last (lexeme_at 0 (the_end n))) 0 (last (lexeme_at 0 (the_end n)))
+unfolding rule rule_of
+derived_to n = is_node (is_seq (is_right is_nothing) (is_seq (is_many (is_right is_nothing)) (is_right is_nothing)))
 
 spaces_derived : (n : ℕ) → IsDerived (program_at script false false) script (spaces n) (record { label = label program no_op 0 0 n; slots = end })
 spaces_derived n = subst (λ (m : ℕ). IsDerived (program_at script false false) script (spaces n) (record { label = label program no_op 0 0 m; slots = end })) e

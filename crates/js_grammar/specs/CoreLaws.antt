@@ -3,7 +3,7 @@ use Rattle.std.specs.Prelude.{ℕ, ◌≡◌, true, List, IsUtf8}
 use Rattle.js_grammar.specs.Trees.{Tree}
 use Rattle.js_grammar.specs.Grammar.{Lexemes, Derives}
 use Rattle.js_grammar.specs.Productions.{Flags, Program, at}
-use Rattle.js_grammar.specs.Table.{whole}
+use Rattle.js_grammar.specs.Table.{rule}
 use Rattle.js_grammar.specs.Settings.{Goal}
 use Rattle.js_grammar.specs.Options.{Options}
 use Rattle.js_grammar.specs.TreeForms.{without_pure}
@@ -19,7 +19,7 @@ pub record SameForCore (f g : Flags) : Type 0 where
 
 -- Under such parameters Program derives the same trees from core lexemes.
 abbrev pub CoreParameters : Type 0
-CoreParameters = (f g : Flags) (t : Tree) (i j : ℕ) (ls rest : Lexemes) → SameForCore f g → AllCore ls → Derives whole (at Program f) t i ls j rest → Derives whole (at Program g) t i ls j rest
+CoreParameters = (f g : Flags) (t : Tree) (i j : ℕ) (ls rest : Lexemes) → SameForCore f g → AllCore ls → Derives rule (at Program f) t i ls j rest → Derives rule (at Program g) t i ls j rest
 
 -- For a core text the trees that are valid, by all productions and early errors, are its readings. No node of a reading has the mark `pure`, which validity doesn't look at.
 pub record Validity (text : List ℕ) (goal : Goal) (o : Options) : Type 0 where

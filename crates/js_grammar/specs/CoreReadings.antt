@@ -7,7 +7,7 @@ use Rattle.js_grammar.specs.Trees.{Slots, end, Tree}
 use Rattle.js_grammar.specs.Grammar.{Lexeme, Lexemes, here, last, next, seen, may_omit, Takes, Derives, ◌◇◌}
 use Rattle.js_grammar.specs.Insertion.{assign_operators, binary_operators, by_edge}
 use Rattle.js_grammar.specs.Productions.{Name, Flags, Program, Expression, Symbol, G, at, sym}
-use Rattle.js_grammar.specs.Table.{rule_of, unbuilt_of, whole, string}
+use Rattle.js_grammar.specs.Table.{rule, rule_of, string}
 use Rattle.js_grammar.specs.Pruning.{pruned}
 use Rattle.js_grammar.specs.CoreGrammar.{core_kinds, dead, stands_inside, core_of, core_rule}
 use Rattle.js_grammar.specs.CoreTexts.{CoreSource}
@@ -46,13 +46,13 @@ continues before k = one_of_kinds binary_operators k || (one_of_kinds assign_ope
 abbrev pub permitted_core : Lexeme → Lexeme → Bool
 permitted_core before y = same_kind Eof y.kind || (y.newline && (not (same_kind Semicolon y.kind) && (one_of_kinds (Plus2 ∷ Minus2 ∷ []) y.kind || not (continues before.kind y.kind))))
 
--- Program derives the tree from the text's lexemes by the whole table.
+-- Program derives the tree from the text's lexemes by the table.
 pub record IsDerivedByWhole (text : List ℕ) (v8 : Bool) (t : Tree) : Type 0 where
   pub lexemes : Lexemes
   pub lexed : Lexed script text lexemes
   pub end : ℕ
   pub final : Lexeme
-  pub derived : Derives whole (at Program (program_flags script (core_options v8))) t 0 lexemes end (last final)
+  pub derived : Derives rule (at Program (program_flags script (core_options v8))) t 0 lexemes end (last final)
 
 -- On core texts that is the same.
 abbrev pub CoreReading : Type 0
@@ -89,8 +89,8 @@ CorePieces = (text : List ℕ) → IsUtf8 text → (c : CoreSource text) (goal :
 
 -- From core lexemes the whole grammar and the core grammar derive the same: Program does, and all that it reaches.
 abbrev pub CoreDerivations : Type 0
-CoreDerivations = (n : Symbol) (t : Tree) (i j : ℕ) (ls rest : Lexemes) → stands_inside n.name ≡ false → AllCore ls → (Derives whole n t i ls j rest → Derives core_rule n t i ls j rest) × (Derives core_rule n t i ls j rest → Derives whole n t i ls j rest)
+CoreDerivations = (n : Symbol) (t : Tree) (i j : ℕ) (ls rest : Lexemes) → stands_inside n.name ≡ false → AllCore ls → (Derives rule n t i ls j rest → Derives core_rule n t i ls j rest) × (Derives core_rule n t i ls j rest → Derives rule n t i ls j rest)
 
 -- Each line of the core grammar is the line of the whole one, cut down to core lexemes.
 abbrev pub CoreLines : Type 0
-CoreLines = (n : Name) (f : Flags) → stands_inside n ≡ false → pruned dead core_kinds (rule_of n f ◇ unbuilt_of n f) ≡ core_of n f
+CoreLines = (n : Name) (f : Flags) → stands_inside n ≡ false → pruned dead core_kinds (rule_of n f) ≡ core_of n f

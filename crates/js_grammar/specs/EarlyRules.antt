@@ -207,7 +207,7 @@ pub record EarlyOk (text : List ℕ) (t : Tree) : Type 0 where
   pub no_static_prototype : IsTrue (everywhere (no_static_prototype text) (tree t.label t.slots end))
   pub plain_constructor : IsTrue (everywhere (plain_constructor text) (tree t.label t.slots end))
 
--- Those that a tree may break that the productions derive which are built: not that of `default` and that of `try`, which the table leaves out.
+-- Those that a tree may break that the productions derive: not that of `default` and that of `try`, which the table leaves out.
 pub record MeetsEarlyRules (text : List ℕ) (t : Tree) : Type 0 where
   pub not_u_and_v : IsTrue (everywhere (not_u_and_v text) (tree t.label t.slots end))
   pub cooked : IsTrue (templates_cooked text (tree t.label t.slots end))

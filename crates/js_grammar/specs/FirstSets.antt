@@ -1,4 +1,4 @@
--- What a derivation of each nonterminal by the productions that are built may begin with, whatever its parameters.
+-- What a derivation of each nonterminal may begin with, whatever its parameters.
 use Rattle.std.specs.Prelude.{Bool, true, false, not, ◌&&◌, ◌||◌, [], ◌∷◌}
 use Rattle.js_base.specs.declared.kind.Kind.{Kind}
 use Rattle.js_base.specs.declared.kind.Kind.TheVariants.{LParen, LCurly, LBrack, Semicolon, Dot3, At, Tilde, Bang, Plus, Plus2, Minus, Minus2, Star, Percent, Eq, PrivateIdentifier, Str, RegExp, NoSubstitutionTemplate, TemplateHead}
@@ -41,7 +41,7 @@ begins_binding k = may_bind k || one_of_kinds (LBrack ∷ LCurly ∷ []) k
 abbrev pub first_of : Name → Kind → Bool
 first_of Program k = true
 first_of Directive k = same_kind Str k
-first_of Item k = begins_statement k || (begins_expression k || same_kind 'const' k)
+first_of Item k = begins_statement k || (begins_expression k || one_of_kinds ('const' ∷ 'export' ∷ []) k)
 first_of ListItem k = begins_statement k || (begins_expression k || same_kind 'const' k)
 first_of Statement k = begins_statement k
 first_of Sub k = begins_statement k || (begins_expression_statement k || same_kind 'function' k)

@@ -56,6 +56,5 @@ pub mod TableLaws
 pub mod CoverInitialisers
 pub mod ReadLexemes
 pub mod TextReadings
-pub mod BuiltTexts
 pub mod Outputs
 pub mod ExportLaws

@@ -13,7 +13,7 @@ use Rattle.js_grammar.specs.Trees.{NodeKind, logical_expression, unary_expressio
 use Rattle.js_grammar.specs.Grammar.{Lexeme, Lexemes, last, next, here, Derives}
 use Rattle.js_grammar.specs.Insertion.{assign_operators, begins_name}
 use Rattle.js_grammar.specs.Productions.{Flags, Name, Property, Expression, Short, Unary, Primary, SimpleTarget, Target, at}
-use Rattle.js_grammar.specs.Table.{rule, whole}
+use Rattle.js_grammar.specs.Table.{rule}
 use Rattle.js_grammar.specs.Settings.{Goal}
 use Rattle.js_grammar.specs.Characters.{width}
 use Rattle.js_grammar.specs.Longest.{joined}
@@ -217,7 +217,7 @@ pub record DerivedAt (n : Name) (test : Tree → Lexemes → Lexeme → Bool) (t
   pub flags : Flags
   pub tree : Tree
   pub rest : Lexemes
-  pub derived : Derives whole (at n (loose flags)) tree place lexemes s.end rest
+  pub derived : Derives rule (at n (loose flags)) tree place lexemes s.end rest
   pub passes : IsTrue (test tree lexemes (here rest))
 
 abbrev is_unary : NodeKind → Bool
@@ -259,9 +259,9 @@ pub record Mixed (text : List ℕ) (s : Span) : Type 0 where
   pub operator : Lexeme
   pub behind : Lexemes
   pub rest : Lexemes
-  pub left_derived : Derives whole (at Short (loose flags)) left place lexemes middle (next operator behind)
+  pub left_derived : Derives rule (at Short (loose flags)) left place lexemes middle (next operator behind)
   pub is_operator : operator.kind ≡ Question2
-  pub right_derived : Derives whole (at Short (loose flags)) right operator.to behind s.end rest
+  pub right_derived : Derives rule (at Short (loose flags)) right operator.to behind s.end rest
   pub mixed : IsTrue (is_or_and left.label.kind left.label.op || is_or_and right.label.kind right.label.op)
 
 -- one or more of these lexemes, up to a place, and what is left
@@ -269,7 +269,7 @@ pub data Front (to : ℕ) : Lexemes → Lexemes → Type 0 where
   one : {x : Lexeme} {ls : Lexemes} → x.to ≡ to → Front to (next x ls) ls
   more : {x : Lexeme} {ls rest : Lexemes} → Front to ls rest → Front to (next x ls) rest
 
--- Under some setting of the parameters the lexemes at the span are no tree of this nonterminal, by the productions that are built.
+-- Under some setting of the parameters the lexemes at the span are no tree of this nonterminal.
 pub record UnderivedAt (n : Name) (text : List ℕ) (s : Span) : Type 0 where
   pub place : ℕ
   pub lexemes : Lexemes
@@ -308,7 +308,7 @@ pub record BehindExpression (k : Kind) (text : List ℕ) (s : Span) : Type 0 whe
   pub tree : Tree
   pub end : ℕ
   pub rest : Lexemes
-  pub derived : Derives whole (at Expression (loose flags)) tree place lexemes end rest
+  pub derived : Derives rule (at Expression (loose flags)) tree place lexemes end rest
   pub is : Is (here rest) s
   pub word : IsTrue (of_kinds (k ∷ []) (here rest) && not (here rest).newline)
 

@@ -4,7 +4,6 @@ use Rattle.std.specs.List.{All}
 use Rattle.js_base.specs.declared.diagnostic.Diagnostic.{Diagnostic}
 use Rattle.js_base.specs.Spans.{LiesIn}
 use Rattle.js_grammar.specs.Trees.{Tree}
-use Rattle.js_grammar.specs.BuiltTexts.{IsBuilt}
 use Rattle.js_grammar.specs.Found.{AreOf}
 use Rattle.js_grammar.specs.Lines.{tree_text, diagnostic_text}
 use Rattle.js_grammar.specs.Options.{options_of, read_at}
@@ -18,22 +17,22 @@ use Rattle.js_grammar.specs.TreeForms.{without_pure}
 abbrev pub Valid : Settings → List ℕ → Tree → Type 0
 Valid s text t = IsWhole Program text (read_at s.goal) (options_of s) t
 
--- The output is the lines of the text's only reading. It is valid, and no other tree is, but for the mark `pure`; in a module, where no lexeme begins a production that isn't built.
+-- The output is the lines of the text's only reading. It is valid, and no other tree is, but for the mark `pure`.
 pub record AcceptsText (s : Settings) (text out : List ℕ) : Type 0 where
   pub tree : Tree
   pub only : IsOnlyReading text (read_at s.goal) (options_of s) tree
   pub lines : out ≡ tree_text tree
   pub valid : Valid s text tree
-  pub only_valid : (t : Tree) (v : Valid s text t) → IsBuilt (read_at s.goal) v.derived.lexemes → without_pure t ≡ tree
+  pub only_valid : (t : Tree) → Valid s text t → without_pure t ≡ tree
 
--- The text has no reading, and no valid tree, in a module none over lexemes that begin no production that isn't built; the output is the lines of diagnostics, one at least, each at a span inside the text.
+-- The text has no reading, and no valid tree; the output is the lines of diagnostics, one at least, each at a span inside the text.
 pub record RefusesText (s : Settings) (text out : List ℕ) : Type 0 where
   pub found : List Diagnostic
   pub some : found ≡ [] → ⊥
   pub inside : All (λ d. LiesIn d.span text) found
   pub lines : out ≡ diagnostic_text found
   pub none : HasNoReading text (read_at s.goal) (options_of s)
-  pub none_valid : (t : Tree) (v : Valid s text t) → IsBuilt (read_at s.goal) v.derived.lexemes → ⊥
+  pub none_valid : (t : Tree) → Valid s text t → ⊥
 
 -- The same, and each diagnostic has what its kind says at its span.
 pub record RefusesByMarks (s : Settings) (text out : List ℕ) : Type 0 where

@@ -3,7 +3,7 @@ use Rattle.std.specs.Prelude.{ℕ, ◌≡◌, ◌≤◌, Bool, true, false, ◌&
 use Rattle.js_grammar.specs.Trees.{NodeKind, import_declaration, export_all_declaration, export_from_declaration, export_named_declaration, export_declaration, export_default_declaration, import_meta, await_expression, function_declaration, function_expression, arrow_function_expression, static_block, Slots, end, hole, tree, Tree}
 use Rattle.js_grammar.specs.Grammar.{Lexeme, Lexemes, last, Derives}
 use Rattle.js_grammar.specs.Productions.{Name, Program, Expression, Symbol, at}
-use Rattle.js_grammar.specs.Table.{whole}
+use Rattle.js_grammar.specs.Table.{rule}
 use Rattle.js_grammar.specs.Lexed.{Lexed}
 use Rattle.js_grammar.specs.CoreTexts.{max_len}
 use Rattle.js_grammar.specs.Settings.{Goal, script, module_goal}
@@ -18,7 +18,7 @@ pub record IsDerived (n : Symbol) (goal : Goal) (text : List ℕ) (t : Tree) : T
   pub lexed : Lexed goal text lexemes
   pub end : ℕ
   pub final : Lexeme
-  pub derived : Derives whole n t 0 lexemes end (last final)
+  pub derived : Derives rule n t 0 lexemes end (last final)
 
 -- A tree that may stand for the whole text, by the productions and the early errors; marks of comments aside.
 pub record IsWhole (n : Name) (text : List ℕ) (goal : Goal) (o : Options) (t : Tree) : Type 0 where

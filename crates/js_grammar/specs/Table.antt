@@ -1,4 +1,4 @@
--- The grammar of JavaScript (ECMA-262, 16th edition, chapters 11 to 16 and annex B.3), a line for each production, in the order of the standard where it has one; the lines that are not built yet come last. Left recursion stands as in the standard. A symbol derives a node, and most lines say which; a line without one passes on the node of another symbol.
+-- The grammar of JavaScript (ECMA-262, 16th edition, chapters 11 to 16 and annex B.3), a line for each production, in the order of the standard where it has one. Left recursion stands as in the standard. A symbol derives a node, and most lines say which; a line without one passes on the node of another symbol.
 use Rattle.std.specs.Prelude.{ℕ, ◌+◌, Bool, true, false, not, cond, ◌&&◌, ◌||◌, List, [], ◌∷◌, codes, bytes_eq}
 use Rattle.js_base.specs.declared.kind.Kind.{Kind}
 use Rattle.js_base.specs.declared.kind.Kind.TheVariants.{LCurly, LBrack, RBrack, Semicolon, Comma, Colon, Dot, Dot3, Arrow, At, Tilde, Bang, Question, QuestionDot, Question2, Plus, Plus2, Minus, Minus2, Star, Star2, Slash, Percent, Eq, Eq2, Eq3, Neq, Neq2, LAngle, LtEq, RAngle, GtEq, ShiftLeft, ShiftRight, ShiftRight3, Amp, Amp2, Pipe, Pipe2, Caret, PrivateIdentifier, Str, Decimal, Float, Binary, Octal, Hex, PositiveExponential, NegativeExponential, DecimalBigInt, BinaryBigInt, OctalBigInt, HexBigInt, RegExp, NoSubstitutionTemplate, TemplateHead, TemplateMiddle, TemplateTail, HashbangComment}
@@ -158,7 +158,7 @@ rule_of Program f = node (record { kind = program; op = no_op; flags = 0; extent
 -- a Directive Prologue (11.2.1)
 rule_of Directive f = mk directive (ended by_edge string)
 -- ScriptBody (16.1), ModuleItem (16.2)
-rule_of Item f = sym ListItem f ◇ when f.module_goal (sym ImportDecl f)
+rule_of Item f = sym ListItem f ◇ when f.module_goal (sym ImportDecl f ◇ sym ExportDecl f)
 -- StatementListItem (14.2); an expression statement here does not begin with `let` and a name or `{`
 rule_of ListItem f = sym Statement f ◇ not_then (is 'let') (word_or (LCurly ∷ [])) ▸ sym ExprStmt f ◇ sym Function f ◇ sym Class f ◇ sym Lexical f
 -- a Statement as the body of another; function declarations there (B.3.1, B.3.3)
@@ -391,17 +391,7 @@ rule_of ExportDecl f = mk export_all_declaration (tok 'export' ▸ tok Star ▸ 
 -- The head of an arrow function with its parameters in parentheses, before what stands behind `=>` is looked at (CoverParenthesizedExpressionAndArrowParameterList, 13.2; CoverCallExpressionAndAsyncArrowHead, 13.3): a newline may stand before `=>`.
 rule_of LooseHead f = each (λ a. only a (tok 'async' ▸ no_newline) ▸ sym Params (record f { await_ = f.await_ || a }) ▸ tok Arrow)
 
--- The lines of the language that no parse function reads yet, beside those above: export declarations.
-unfoldable pub unbuilt_of : Name → Flags → G
-unbuilt_of Item f = when f.module_goal (sym ExportDecl f)  -- ModuleItem (16.2)
-unbuilt_of _ f = never
-
--- The productions that are built.
+-- All productions: the language.
 unfoldable pub rule : Symbol → G
 unfolding rule_of
 rule s = rule_of s.name s.flags
-
--- All productions: the language.
-unfoldable pub whole : Symbol → G
-unfolding rule_of unbuilt_of
-whole s = rule_of s.name s.flags ◇ unbuilt_of s.name s.flags

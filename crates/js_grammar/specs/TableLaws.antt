@@ -1,14 +1,12 @@
--- Laws of the table as a whole: of the productions that are built, and how they lie in all.
+-- Laws of the table as a whole.
 use Rattle.std.specs.Prelude.{ℕ, List, [], ◌∷◌, Bool, not, ◌≡◌, IsTrue}
 use Rattle.js_base.specs.declared.kind.Kind.{Kind}
 use Rattle.js_base.specs.declared.kind.Kind.TheVariants.{RCurly, Slash, RegExp, TemplateMiddle, TemplateTail}
-use Rattle.js_base.specs.Kinds.{same_kind}
-use Rattle.js_grammar.specs.Words.{'export'}
 use Rattle.js_grammar.specs.Trees.{Tree, end, put}
 use Rattle.js_grammar.specs.Grammar.{Lexemes, last, next, here, seen, may_omit, Derives}
 use Rattle.js_grammar.specs.Insertion.{by_edge}
 use Rattle.js_grammar.specs.Productions.{Flags, Symbol, at, Expression}
-use Rattle.js_grammar.specs.Table.{rule, whole}
+use Rattle.js_grammar.specs.Table.{rule}
 use Rattle.js_grammar.specs.Brackets.{Runs}
 use Rattle.js_grammar.specs.FirstSets.{first}
 use Rattle.js_grammar.specs.Marks.{loose}
@@ -39,17 +37,3 @@ pub record GoalsAlike : Type 0 where
 -- Where a semicolon may be left out behind an expression, the expression can't go on (12.10).
 abbrev pub OmissionEnds : Type 0
 OmissionEnds = (f : Flags) (t : Tree) (i j : ℕ) (ls rest : Lexemes) → Derives rule (at Expression f) t i ls j rest → IsTrue (seen (may_omit (by_edge (here ls) (put t end))) (here rest)) → IsTrue (seen (follow (at Expression f) (edge_of t.label t.slots)) (here rest))
-
--- with what each line begins that isn't built
-abbrev pub begins_unbuilt : Kind → Bool
-begins_unbuilt k = same_kind 'export' k
-
--- none of these lexemes begins such a line
-abbrev pub BeginNoUnbuilt : Lexemes → Type 0
-BeginNoUnbuilt (last x) = IsTrue (not (begins_unbuilt x.kind))
-BeginNoUnbuilt (next x ls) = IsTrue (not (begins_unbuilt x.kind)) × BeginNoUnbuilt ls
-
--- What is derived by the productions that are built, the whole grammar derives too, as the same tree. Of lexemes that begin no other line it derives no more.
-pub record BuiltInWhole : Type 0 where
-  pub into : (n : Symbol) (t : Tree) (i j : ℕ) (ls rest : Lexemes) → Derives rule n t i ls j rest → Derives whole n t i ls j rest
-  pub back : (n : Symbol) (t : Tree) (i j : ℕ) (ls rest : Lexemes) → BeginNoUnbuilt ls → Derives whole n t i ls j rest → Derives rule n t i ls j rest

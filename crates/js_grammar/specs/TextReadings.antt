@@ -1,4 +1,4 @@
--- What it is that a tree is a reading of a text: by the productions that are built, over lexemes that are read.
+-- What it is that a tree is a reading of a text, over lexemes that are read.
 use Rattle.std.specs.Prelude.{ℕ, ◌≡◌, Bool, false, List}
 use Rattle.js_base.specs.declared.kind.Kind.TheVariants.{Eof}
 use Rattle.js_grammar.specs.Trees.{Tree}
@@ -30,7 +30,7 @@ pub data AreRead (text : List ℕ) (goal : Goal) (ls : Lexemes) : Type 0 where
   from_text_start : Lexes (Faultless goal text) 0 ls → AreRead text goal ls
   behind_a_hashbang : BehindHashbang text goal ls → AreRead text goal ls
 
--- Program derives the tree, by the productions that are built, from lexemes of the text, from its start to its end; by the cover grammar, in which a shorthand may have an initialiser (13.2.5), where `cover` is true.
+-- Program derives the tree from lexemes of the text, from its start to its end; by the cover grammar, in which a shorthand may have an initialiser (13.2.5), where `cover` is true.
 pub record ReadingBy (cover : Bool) (text : List ℕ) (goal : Goal) (o : Options) (t : Tree) : Type 0 where
   pub lexemes : Lexemes
   pub lexed : AreRead text goal lexemes

@@ -1,7 +1,7 @@
 //! Laws about the table of the whole language, each computed from its lines.
 
 ghost use Rattle.js_grammar.specs.CoverInitialisers.{StrictInCover};
-ghost use Rattle.js_grammar.specs.TableLaws.{BeginsWithFirst, BracketsMatch, BuiltInWhole, StrictIsLoose, GoalsAlike, OmissionEnds};
+ghost use Rattle.js_grammar.specs.TableLaws.{BeginsWithFirst, BracketsMatch, StrictIsLoose, GoalsAlike, OmissionEnds};
 
 /// A derivation begins with a lexeme of its nonterminal's first set.
 pub fn law_of_first_sets()
@@ -31,9 +31,4 @@ pub fn law_of_omission()
 /// A program is derived strictly exactly where it is derived by the cover grammar and no shorthand has an initialiser.
 pub fn law_of_cover_initialisers()
     ensures { StrictInCover }
-{}
-
-/// What the productions that are built derive, the whole grammar derives; where no lexeme begins another one, it derives no more.
-pub fn law_of_built_lines()
-    ensures { BuiltInWhole }
 {}

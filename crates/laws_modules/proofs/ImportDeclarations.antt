@@ -48,7 +48,7 @@ use Rattle.laws_modules.proofs.KeptParts.{kept_behind_fails, kept_fails, kept_re
 use Rattle.laws_modules.proofs.Sources.{part_then}
 
 -- what is behind a clause ends in the slots that are kept
-kept_last : (f : Flags) → EndsKept (behind_clause f)
+pub kept_last : (f : Flags) → EndsKept (behind_clause f)
 kept_last f = kept_behind refl (kept_behind refl kept_alone)
 
 -- and begins with `from`

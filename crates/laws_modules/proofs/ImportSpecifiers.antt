@@ -90,11 +90,11 @@ word_names : {f : Flags} {ts vs : Slots} {i k : ℕ} {ls rest : Lexemes} → Tak
 unfolding rule rule_of
 word_names (is_such d c) = is_such (is_left (is_such d c)) refl
 
-any_between : {X : Test} {a b : G} {s : ℕ} → Between rule X (plain full) end a b s
+pub any_between : {X : Test} {a b : G} {s : ℕ} → Between rule X (plain full) end a b s
 any_between = record { admits = λ ts us vs j k ls mid rest d d' e. (refl, refl) }
 
 -- what stands behind a lookahead fails
-behind_ahead : {text : List ℕ} {X X' : Test} {a b : G} {s : ℕ} → ((ts us : Slots) (y : Lexeme) → Admits X ts y → Admits X' us y) → Fails rule (Lex text) X' end b s → Fails rule (Lex text) X end (seq (ahead a) b) s
+pub behind_ahead : {text : List ℕ} {X X' : Test} {a b : G} {s : ℕ} → ((ts us : Slots) (y : Lexeme) → Admits X ts y → Admits X' us y) → Fails rule (Lex text) X' end b s → Fails rule (Lex text) X end (seq (ahead a) b) s
 behind_ahead {text} {X} {X'} {a} {b} {s} c n = record { no = λ ts vs k ls rest l d e. go ts vs k ls rest l d e }
   where
     go : (ts vs : Slots) (k : ℕ) (ls rest : Lexemes) → Lexes (Lex text) s ls → Takes rule (seq (ahead a) b) end ts s ls vs k rest → Admits X ts (here rest) → ⊥

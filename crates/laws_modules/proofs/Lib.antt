@@ -6,11 +6,20 @@ pub mod TokenMarks
 pub mod StringUnits
 pub mod ModuleNames
 pub mod ImportSpecifiers
+pub mod Leaves
+pub mod ReferencesAsNames
+pub mod ExportSpecifiers
 pub mod Attributes
 pub mod Endings
 pub mod Sources
 pub mod ImportClauses
 pub mod ImportDeclarations
+pub mod ExportedLines
+pub mod ExportedDeclarations
+pub mod ExportDefaults
+pub mod ExportedFunctions
+pub mod ExportLines
+pub mod Exports
 pub mod ImportOpenings
 pub mod Items
 pub use Rattle.laws_primary.proofs as laws_primary

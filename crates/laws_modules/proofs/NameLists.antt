@@ -8,7 +8,7 @@ use Rattle.js_base.specs.declared.span.Span.{Span}
 use Rattle.js_base.specs.Kinds.{same_kind, one_of_kinds}
 use Rattle.js_grammar.specs.Trees.{Slots, end, tree, Label}
 use Rattle.js_grammar.specs.Grammar.{Lexemes, Look, commas, is, seq, nothing, Takes, is_seq, after_comma, after_item}
-use Rattle.js_grammar.specs.Parsing.{plain, full, still, Goes, Fails}
+use Rattle.js_grammar.specs.Parsing.{Test, plain, full, still, Goes, Fails}
 use Rattle.js_grammar.specs.Productions.{G, Flags, Symbol, tok}
 use Rattle.js_grammar.specs.Table.{rule}
 use Rattle.js_grammar.proofs.Looks.{covers, apart, not_both}
@@ -47,7 +47,7 @@ use Rattle.laws_shared.proofs.Verdicts.{after as grown_behind}
 use Rattle.laws_primary.proofs.ArgumentLists.{none_there, is_one}
 use Rattle.laws_primary.proofs.Arrays.{turned}
 use Rattle.laws_modules.specs.declared.forms.NameList.{NameList}
-use Rattle.laws_modules.specs.declared.forms.NameList.TheVariants.{Imports, Attributes}
+use Rattle.laws_modules.specs.declared.forms.NameList.TheVariants.{Imports, Exports, References, Attributes}
 use Rattle.laws_modules.specs.NameLists.{item_of, items_left, list_of, ListTaken, TakesListed}
 
 -- ---- the list, by what stands where an item may begin, or behind one
@@ -63,6 +63,8 @@ next_kinds k w e = one_of_kinds (Comma ∷ RParen ∷ RBrack ∷ RCurly ∷ []) 
 ends_there : (l : NameList) (f : Flags) → covers (starts first_of (after_item true (item_of l f)) (is RCurly)) next_kinds ≡ true
 unfolding covers
 ends_there Imports f = refl
+ends_there Exports f = refl
+ends_there References f = refl
 ends_there Attributes f = refl
 
 abbrev closing : Look
@@ -71,13 +73,15 @@ closing k w e = one_of_kinds (RCurly ∷ template_tails) k
 begins_apart : (l : NameList) (f : Flags) → apart (starts first_of (item_of l f) full) closing ≡ true
 unfolding apart
 begins_apart Imports f = refl
+begins_apart Exports f = refl
+begins_apart References f = refl
 begins_apart Attributes f = refl
 
 closes_behind : (l : NameList) (f : Flags) → covers (starts first_of (tok RCurly) full) (is RCurly) ≡ true
 unfolding covers
 closes_behind l f = refl
 
-regrouped : {text : List ℕ} {a b c : G} {s : ℕ} → Goes rule (Lex text) (plain full) end (seq (seq a b) c) s (seq a (seq b c)) s (λ us. us) (still 0)
+pub regrouped : {text : List ℕ} {X : Test} {a b c : G} {s : ℕ} → Goes rule (Lex text) X end (seq (seq a b) c) s (seq a (seq b c)) s (λ us. us) (still 0)
 regrouped = same (λ ts us i j ls rest d. one ts us i j ls rest d) (λ ts us i j ls rest d. two ts us i j ls rest d)
   where
     one : {rule' : Symbol → G} {a b c : G} {ks : Slots} (ts us : Slots) (i j : ℕ) (ls rest : Lexemes) → Takes rule' (seq (seq a b) c) ks ts i ls us j rest → Takes rule' (seq a (seq b c)) ks ts i ls us j rest

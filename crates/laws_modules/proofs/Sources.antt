@@ -89,7 +89,7 @@ part_then x = record {
 -- ---- a semicolon
 
 -- what a semicolon ends was read
-part_ended : {text : List ℕ} {f : Flags} {rows : Lexeme → Slots → Look} {l : Look} {g : G} {p q : Parser} {ids js : List (Option NodeId)} (x : Partway text f g nothing p q ids js) → ((y : Lexeme) → Lex text p.prev_token_end y → rows y (x.slots end) ≡ l) → Partway text f (ended rows g) (semicolon l) p q ids js
+pub part_ended : {text : List ℕ} {f : Flags} {rows : Lexeme → Slots → Look} {l : Look} {g : G} {p q : Parser} {ids js : List (Option NodeId)} (x : Partway text f g nothing p q ids js) → ((y : Lexeme) → Lex text p.prev_token_end y → rows y (x.slots end) ≡ l) → Partway text f (ended rows g) (semicolon l) p q ids js
 part_ended x h = record {
   at = x.at;
   same = x.same;
@@ -104,7 +104,7 @@ part_ended x h = record {
 }
 
 -- and the semicolon, written or left out
-part_finished : {text : List ℕ} {f : Flags} (l : Look) {g : G} {p q r : Parser} {ids js : List (Option NodeId)} (x : Partway text f g (semicolon l) p q ids js) → (MayEnd q → (q.token.kind ≡ Semicolon → ⊥) → (y : Lexeme) → Lex text q.prev_token_end y → IsTrue (seen (may_omit l) y)) → Ends q r → Partway text f g nothing p r ids js
+pub part_finished : {text : List ℕ} {f : Flags} (l : Look) {g : G} {p q r : Parser} {ids js : List (Option NodeId)} (x : Partway text f g (semicolon l) p q ids js) → (MayEnd q → (q.token.kind ≡ Semicolon → ⊥) → (y : Lexeme) → Lex text q.prev_token_end y → IsTrue (seen (may_omit l) y)) → Ends q r → Partway text f g nothing p r ids js
 unfolding covers
 part_finished l {js = js} x o (inl (k, v)) = parts x (part_from (at_kind x.at Semicolon k refl) (part_last Semicolon x.at k (plain_sign Semicolon x.at k refl refl refl) refl (moves (whole_semicolon x.at k) v x.at)))
 part_finished {text} {f} l {g} {p} {ids = ids} {js} x o (inr (n, m, e)) = subst (λ (z : Parser). Partway text f g nothing p z ids js) (sym e) (part_goes x (by_omission l (o m n)))

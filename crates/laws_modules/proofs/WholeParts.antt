@@ -21,9 +21,9 @@ use Rattle.laws_shared.specs.Lexemes.{Lex, is_read_kind}
 use Rattle.laws_shared.specs.Methods.{WholeOutcome, WholeTaken}
 use Rattle.laws_shared.specs.Moves.{LeafTaken, Moved, plain_label}
 use Rattle.laws_shared.specs.Stands.{StandsHere}
-use Rattle.laws_shared.specs.States.{At}
-use Rattle.laws_shared.proofs.MadeNodes.{leaf_held, one_lies}
-use Rattle.laws_shared.proofs.Moving.{beside_nodes, same_both, stops_behind, stops_so}
+use Rattle.laws_shared.specs.States.{At, Same}
+use Rattle.laws_shared.proofs.MadeNodes.{from_start, leaf_held, one_lies}
+use Rattle.laws_shared.proofs.Moving.{beside_nodes, same_both, same_with, stops_behind, stops_so}
 use Rattle.laws_shared.proofs.Paths.{Path, ◌⟶◌, ◌⟶✗◌, label_here, token}
 use Rattle.laws_shared.proofs.Verdicts.{grown_then, verdict_of}
 use Rattle.laws_primary.proofs.Wholes.{whole_answers}
@@ -46,6 +46,13 @@ module _ {text : List ℕ} {f : Flags} {p : Parser} where
 
   pub leaf_kept : {q : Parser} {id : NodeId} {k : NodeKind} {o : Op} (t : LeafTaken k o text f p q id) → Keeps p.nodes t.mid.nodes
   leaf_kept t = subst (λ (ns : List Node). Keeps p.nodes ns) (sym t.moved.nodes) (Keeps-refl p.nodes)
+
+  -- what is known of the place behind it
+  pub leaf_at : {q : Parser} {id : NodeId} {k : NodeKind} {o : Op} → LeafTaken k o text f p q id → At text f q
+  leaf_at {q} t = subst (λ (v : Parser). At text f v) (sym t.made.stays) (beside_nodes q.nodes t.moved.at)
+
+  pub leaf_same : {q : Parser} {id : NodeId} (k : NodeKind) (o : Op) → LeafTaken k o text f p q id → Same p q
+  leaf_same {q} k o t = subst (λ (v : Parser). Same p v) (sym t.made.stays) (same_with q.nodes t.moved.same (Keeps-trans (leaf_kept t) (Keeps-made t.made.made)) (λ b i. one_lies t.made (from_start (plain_label k o p.token.span) t.moved.same t.moved.at.at (let j = t.moved.further in omega arith) (ap (λ (v : Label). v.span) (leaf_label k o t)) b) i))
 
   pub leaf_whole : {g : G} {q : Parser} {id : NodeId} (k : NodeKind) (o : Op) (t : LeafTaken k o text f p q id) → Path text f (plain full) g p nothing t.mid (tree (label_here (kind_of k) (op_of o) p t.mid) end) → WholeTaken text f g p q id
   leaf_whole {g} {q} {id} k o t y = whole_answers t.moved.same t.made.stays (leaf_held t.made (leaf_kept t)) (Keeps-trans (leaf_kept t) (Keeps-made t.made.made)) (ap (λ (v : Label). v.span) (leaf_label k o t)) (one_lies t.made)

@@ -1,12 +1,12 @@
 -- Lists of names, and of attributes, in their braces (ECMA-262, 16.2.2, 16.2.3), as far as they were read.
 use Rattle.std.specs.Prelude.{ℕ, List, [], ◌∷◌, ◌++◌, Option, Some, true, Result, Ok, Err}
 use Rattle.js_base.specs.declared.kind.Kind.TheVariants.{RCurly}
-use Rattle.js_grammar.specs.Trees.{end}
+use Rattle.js_grammar.specs.Trees.{end, export_specifier}
 use Rattle.js_grammar.specs.Grammar.{commas, nothing, ◌▸◌}
 use Rattle.js_grammar.specs.Parsing.{plain, full, Fails}
-use Rattle.js_grammar.specs.Productions.{G, Flags, braces, opt, tok, Attr, Spec}
+use Rattle.js_grammar.specs.Productions.{G, Flags, braces, mk, opt, tok, Attr, ExportName, Spec}
 use Rattle.js_grammar.specs.Productions.{sym as symbol}
-use Rattle.js_grammar.specs.Table.{rule}
+use Rattle.js_grammar.specs.Table.{rule, exported_reference, one_or_two}
 use Rattle.laws_shared.specs.js_tree.declared.id.NodeId.{NodeId}
 use Rattle.laws_shared.specs.js_cursor.Parsers.{Parser}
 use Rattle.laws_shared.specs.js_cursor.declared.stop.Stop.{Stop}
@@ -16,11 +16,17 @@ use Rattle.laws_shared.specs.Lexemes.{Lex}
 use Rattle.laws_shared.specs.States.{At}
 use Rattle.laws_primary.specs.Spreads.{PartOutcome}
 use Rattle.laws_modules.specs.declared.forms.NameList.{NameList}
-use Rattle.laws_modules.specs.declared.forms.NameList.TheVariants.{Imports, Attributes}
+use Rattle.laws_modules.specs.declared.forms.NameList.TheVariants.{Imports, Exports, References, Attributes}
+
+-- an item of an export, with what its first name is
+abbrev pub exported_item : G → Flags → G
+exported_item local f = mk export_specifier (one_or_two local (symbol ExportName f))
 
 -- an item
 abbrev pub item_of : NameList → Flags → G
 item_of Imports f = symbol Spec f
+item_of Exports f = exported_item (symbol ExportName f) f
+item_of References f = exported_item exported_reference f
 item_of Attributes f = symbol Attr f
 
 -- the list with its braces, and what is left behind the opening one, or behind a comma

@@ -7,6 +7,10 @@ use laws_shared::NodeId;
 pub enum NameList {
     /// The names of an import (ECMA-262, section 16.2.2).
     Imports,
+    /// The names of an export from another module (section 16.2.3).
+    Exports,
+    /// The bindings of this module that an export names (section 16.2.3).
+    References,
     /// The entries of a WithClause (section 16.2.2).
     Attributes,
 }

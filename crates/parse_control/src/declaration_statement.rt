@@ -113,7 +113,7 @@ fn goes_on_with_let(kind: Kind, in_list: bool) -> bool
 
 /// A word, its declarators and a semicolon.
 #[inline(never)]
-fn parse_declaration<C: ParserConfig, N: Patterns<C>>(
+pub fn parse_declaration<C: ParserConfig, N: Patterns<C>>(
     p: &mut ParserImpl<'_, C>,
     nested: &N,
     kind: DeclarationKind,

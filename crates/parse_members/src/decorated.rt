@@ -38,6 +38,17 @@ pub fn parse_class<C: ParserConfig, N: Nested<C>>(
     }
     let start = p.cur_start();
     let decorators = parse_decorators(p, nested)?;
+    parse_decorated_class(p, nested, form, start, decorators)
+}
+
+/// A class behind decorators that began at a place, which it keeps.
+pub fn parse_decorated_class<C: ParserConfig, N: Nested<C>>(
+    p: &mut ParserImpl<'_, C>,
+    nested: &N,
+    form: ClassForm,
+    start: u32,
+    decorators: Vec<Option<NodeId>>,
+) -> Result<NodeId, Stop> {
     if !stands(p, Kind::Class) {
         return Err(refuse_undecorated(p));
     }

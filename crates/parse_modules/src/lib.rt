@@ -2,6 +2,13 @@
 #![tactic(auto)]
 
 pub mod attributes;
+pub mod decorated_export;
+pub mod export_all;
+pub mod export_declaration;
+pub mod export_default;
+pub mod export_names;
+pub mod export_specifier;
+pub mod exported_declaration;
 pub mod import_clause;
 pub mod import_declaration;
 pub mod import_specifier;

@@ -5,8 +5,13 @@ ghost use Rattle.js_base.specs.Contexts.{has_flag, in_flag};
 ghost use Rattle.js_base.specs.Kinds.{one_of_kinds};
 ghost use Rattle.parse_modules.specs.Prelude.{at, CanNest, ChecksGoal, goal, import_links, ImportHere, IsAt, Item, Mark, OnlyMemory, outside_module, room, Standing, TakesStatement};
 
+use crate::decorated_export::parse_decorated_export;
+use crate::export_declaration::parse_export_declaration;
 use crate::import_declaration::parse_import_declaration;
 use js_base::{DiagnosticKind, Kind, NoMemory};
+use parse_control::patterns::Patterns;
+use parse_members::decorated::{parse_decorated_class, parse_decorators};
+use parse_primary::forms::ClassForm;
 use parse_shared::diagnostics::diagnostic_at;
 use parse_shared::lexemes::stands;
 use parse_shared::nested::Nested;
@@ -16,7 +21,7 @@ use parse_shared::{NodeId, ParserConfig, ParserImpl, Stop};
 /// in a text that is no module is told that it may not stand there, and reading goes on.
 /// Reads: Item.
 #[inline(never)]
-pub fn parse_module_item<C: ParserConfig, N: Nested<C>>(
+pub fn parse_module_item<C: ParserConfig, N: Patterns<C>>(
     p: &mut ParserImpl<'_, C>,
     nested: &N,
 ) -> Result<NodeId, Stop>
@@ -25,11 +30,35 @@ pub fn parse_module_item<C: ParserConfig, N: Nested<C>>(
     requires allows_in { has_flag in_flag p.old.ctx ≡ true }
     ensures { TakesStatement (at Item) p.old p.new result }
 {
-    if !import_stands(p)? {
-        return nested.list_item(p);
+    if import_stands(p)? {
+        check_goal(p)?;
+        return parse_import_declaration(p);
     }
-    check_goal(p)?;
-    parse_import_declaration(p)
+    if stands(p, Kind::Export) {
+        check_goal(p)?;
+        return parse_export_declaration(p, nested);
+    }
+    if p.at(Kind::At) {
+        return parse_decorated_item(p, nested);
+    }
+    nested.list_item(p)
+}
+
+/// What stands behind decorators: a ClassDeclaration, or an ExportDeclaration of one.
+fn parse_decorated_item<C: ParserConfig, N: Nested<C>>(
+    p: &mut ParserImpl<'_, C>,
+    nested: &N,
+) -> Result<NodeId, Stop>
+    requires at { Standing p.old }
+    requires nests { CanNest (N.can nested.now) (room p.old + 1) }
+{
+    let start = p.cur_start();
+    let decorators = parse_decorators(p, nested)?;
+    if stands(p, Kind::Export) {
+        check_goal(p)?;
+        return parse_decorated_export(p, nested, decorators);
+    }
+    parse_decorated_class(p, nested, ClassForm::Declaration, start, decorators)
 }
 
 /// Whether an ImportDeclaration begins here: `import`, and neither a parenthesis nor a dot behind it.

@@ -4,6 +4,7 @@ ghost use Rattle.std.specs.Prelude.{false, MatchResult};
 ghost use Rattle.parse_modules.specs.Prelude.{ListTaken, NoList, Opened, RCurly, ReadsNamed, Standing, StandsHere, TakesListed};
 
 use crate::attributes::parse_attribute;
+use crate::export_specifier::{parse_export_specifier, parse_exported_binding};
 use crate::import_specifier::parse_import_specifier;
 use js_base::{Kind, Span};
 use laws_modules::forms::NameList;
@@ -53,6 +54,8 @@ fn parse_item<C: ParserConfig>(p: &mut ParserImpl<'_, C>, list: NameList) -> Res
 {
     match list {
         NameList::Imports => parse_import_specifier(p),
+        NameList::Exports => parse_export_specifier(p),
+        NameList::References => parse_exported_binding(p),
         NameList::Attributes => parse_attribute(p),
     }
 }
