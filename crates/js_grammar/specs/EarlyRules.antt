@@ -22,7 +22,7 @@ everywhere rule (tree l cs us) = rule l cs && (everywhere rule cs && everywhere 
 -- Statements.
 
 -- a `default`, whose test is empty
-abbrev is_default : NodeKind → Slots → Bool
+abbrev pub is_default : NodeKind → Slots → Bool
 is_default switch_case (hole us) = true
 is_default _ _ = false
 
@@ -112,7 +112,7 @@ same_value (Some a) (Some b) = bytes_eq a b
 same_value _ _ = false
 
 -- the value of an attribute's key
-abbrev first_key : List ℕ → Slots → Option (List ℕ)
+abbrev pub first_key : List ℕ → Slots → Option (List ℕ)
 first_key text (tree k ks us) = key_units text k
 first_key text _ = None
 

@@ -68,11 +68,11 @@ abbrev on_new_line : Lexeme → Bool
 on_new_line x = same_kind Arrow x.kind && x.newline
 
 -- a name, or a string
-abbrev is_name_or_string : Lexeme → Bool
+abbrev pub is_name_or_string : Lexeme → Bool
 is_name_or_string x = is_word x.kind || same_kind Str x.kind
 
 -- it stands for `default`
-abbrev is_default : Lexeme → Bool
+abbrev pub is_default : Lexeme → Bool
 is_default x = is_name_or_string x && bytes_eq (codes "default") x.units
 
 -- The span begins with a lexeme that passes a test.

@@ -127,7 +127,7 @@ is_statement Sub = true
 is_statement Statement = true
 is_statement _ = false
 
-abbrev is_export : Name → Bool
+abbrev pub is_export : Name → Bool
 is_export ExportDecl = true
 is_export _ = false
 

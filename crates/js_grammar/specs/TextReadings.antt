@@ -1,5 +1,5 @@
 -- What it is that a tree is a reading of a text, over lexemes that are read.
-use Rattle.std.specs.Prelude.{ℕ, ◌≡◌, Bool, false, List}
+use Rattle.std.specs.Prelude.{ℕ, ◌≡◌, Bool, false, List, IsTrue}
 use Rattle.js_base.specs.declared.kind.Kind.TheVariants.{Eof}
 use Rattle.js_grammar.specs.Trees.{Tree}
 use Rattle.js_grammar.specs.Grammar.{Lexeme, Lexemes, last, next, Derives}
@@ -9,6 +9,7 @@ use Rattle.js_grammar.specs.Options.{Options, program_flags}
 use Rattle.js_grammar.specs.Productions.{Flags, at, Program}
 use Rattle.js_grammar.specs.CoverInitialisers.{with_cover}
 use Rattle.js_grammar.specs.EarlyRules.{MeetsEarlyRules}
+use Rattle.js_grammar.specs.ExportedNames.{exports_differ}
 use Rattle.js_grammar.specs.ReadLexemes.{Faultless}
 use Rattle.js_grammar.specs.Settings.{Goal}
 use Rattle.js_grammar.specs.Table.{rule}
@@ -39,10 +40,11 @@ pub record ReadingBy (cover : Bool) (text : List ℕ) (goal : Goal) (o : Options
   pub is_end : final.kind ≡ Eof
   pub derived : Derives rule (at Program (with_cover cover (parameters goal o))) t 0 lexemes place (last final)
 
--- A tree that is derived strictly, and meets the early rules.
+-- A tree that is derived strictly, and meets the early rules; the names that a module exports differ (16.2.1.1).
 pub record Reading (text : List ℕ) (goal : Goal) (o : Options) (t : Tree) : Type 0 where
   pub strict : ReadingBy false text goal o t
   pub early : MeetsEarlyRules text t
+  pub exports : IsTrue (exports_differ text t)
 
 -- no tree is a reading
 abbrev pub HasNoReading : List ℕ → Goal → Options → Type 0
